@@ -1,0 +1,15 @@
+pub mod Value
+pub mod Rounding
+pub mod Units
+pub mod Sums
+pub mod Distance
+pub mod Whole
+pub mod Scaling
+pub mod Tests
+pub mod Away
+pub mod RoundSteps
+pub mod Round
+pub mod Floor
+pub mod Abs
+pub mod Truncation
+pub mod Examples
