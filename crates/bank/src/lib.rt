@@ -1,0 +1,97 @@
+// The subroutine bank: a check of its layout, and where a body lies.
+ghost use mathlib.Core.Path.{_≡_};
+ghost use Prim.Native.Nat.{_+_, _<_};
+ghost use lib.ListN.{length};
+ghost use Rattle.bank.specs.Bank.{be16, be32, valid, found, bytesAt};
+
+// Where a body starts and ends in the bank, or that there is none.
+pub enum Found {
+    At(usize, usize),
+    Nothing,
+}
+
+fn wide(b: u8) -> usize
+    ensures { λ r. ⌜ r ≡ b ⌝ }
+{
+    b as usize
+}
+
+// The number of 16 bits at a place, big-endian.
+fn u16_at(s: &[u8], at: usize) -> usize
+    requires { ⌜ at + 1 < length (now s) ⌝ }
+    ensures { λ r. ⌜ (r ≡ be16 (now (s .entry)) at) × (r < 65536) ⌝ }
+{
+    wide(s[at]) * 256 + wide(s[at + 1])
+}
+
+// The number of 32 bits at a place, big-endian.
+fn u32_at(s: &[u8], at: usize) -> usize
+    requires { ⌜ at + 3 < length (now s) ⌝ }
+    ensures { λ r. ⌜ (r ≡ be32 (now (s .entry)) at) × (r < 4294967296) ⌝ }
+{
+    u16_at(s, at) * 65536 + u16_at(s, at + 2)
+}
+
+// The bank has the layout of a bank.
+pub fn is_valid(bank: &[u8]) -> bool
+    ensures { λ r. ⌜ r ≡ valid (now (bank .entry)) ⌝ }
+{
+    if bank.len() < 6 {
+        return false;
+    }
+    let count = u16_at(bank, 0);
+    let table = 6 + 4 * count;
+    if bank.len() < table {
+        return false;
+    }
+    if u32_at(bank, 2) != 0 {
+        return false;
+    }
+    let mut before: usize = 0;
+    let mut i: usize = 0;
+    while i < count {
+        let offset = u32_at(bank, 6 + 4 * i);
+        if offset < before {
+            return false;
+        }
+        before = offset;
+        i += 1;
+    }
+    before == bank.len() - table
+}
+
+// Where body n lies. It looks at the count and at two offsets: of a bank that is not valid, too, what is found is within the bank.
+pub fn find(bank: &[u8], n: usize) -> Found
+    ensures { λ r. ⌜ r ≡ found n (now (bank .entry)) ⌝ }
+{
+    if bank.len() < 6 {
+        return Found::Nothing;
+    }
+    let count = u16_at(bank, 0);
+    if count <= n {
+        return Found::Nothing;
+    }
+    let table = 6 + 4 * count;
+    if bank.len() < table {
+        return Found::Nothing;
+    }
+    let from = u32_at(bank, 2 + 4 * n);
+    let to = u32_at(bank, 6 + 4 * n);
+    if to < from {
+        return Found::Nothing;
+    }
+    if bank.len() < table + to {
+        return Found::Nothing;
+    }
+    Found::At(table + from, table + to)
+}
+
+// The bytes of body n; none where there is no such body.
+pub fn body(bank: &[u8], n: usize) -> &[u8]
+    ensures { λ r. ⌜ now r ≡ bytesAt (found n (now (bank .entry))) (now (bank .entry)) ⌝ }
+{
+    let Found::At(start, end) = find(bank, n) else {
+        return &bank[..0];
+    };
+    &bank[start..end]
+}

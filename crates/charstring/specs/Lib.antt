@@ -1,0 +1,4 @@
+pub mod Cipher
+pub mod Cursor
+pub mod Charstring
+pub mod Laws
