@@ -1,0 +1,389 @@
+// Compares our functions with vectors recorded from the Rust (tools/oracle/VECTORS.md has their layout).
+// Prints for each file of vectors the function's name, how many were compared and how many differ, then the sums.
+ghost use mathlib.Core.Path.{_≡_};
+ghost use lib.Dec.{T};
+ghost use lib.ListN.{length};
+ghost use lib.Ieee.{binary64, ofBits};
+use libc::STDOUT_FILENO;
+
+// The most bytes of a payload.
+const LONGEST: usize = 8192;
+
+// How many vectors were compared, and how many differ.
+struct Tally {
+    compared: u64,
+    different: u64,
+}
+
+// What the next vector of a file is.
+enum Turn {
+    Same,
+    Different,
+    End,
+    // A frame that is cut or too long, or a read that failed: the file cannot be read on.
+    Broken,
+}
+
+// The byte at a place; 0 beyond the end.
+fn byte(v: &[u8], at: usize) -> u64 {
+    if at < v.len() { wide(v[at]) } else { 0 }
+}
+
+fn wide(b: u8) -> u64 {
+    b as u64
+}
+
+// a + b; the largest number where the sum is larger.
+fn sum(a: u64, b: u64) -> u64 {
+    if a <= u64::MAX - b { a + b } else { u64::MAX }
+}
+
+fn place(at: usize, n: usize) -> usize {
+    if at <= usize::MAX - n {
+        at + n
+    } else {
+        usize::MAX
+    }
+}
+
+// n bytes from a place on; none where they are not all there.
+fn part(v: &[u8], at: usize, n: usize) -> &[u8] {
+    if v.len() < at {
+        return &v[..0];
+    }
+    if v.len() - at < n {
+        return &v[..0];
+    }
+    let end = at + n;
+    &v[at..end]
+}
+
+// The number that the bytes of a slice make, big-endian, of which the last 8 count.
+fn big_endian(v: &[u8]) -> u64 {
+    let mut n: u64 = 0;
+    let mut i: usize = 0;
+    while i < v.len() {
+        n = (n << 8) | wide(v[i]);
+        i += 1;
+    }
+    n
+}
+
+// The number at a place; 0 beyond the end.
+fn number(v: &[u8], at: usize) -> u64 {
+    big_endian(part(v, at, 8))
+}
+
+fn size(v: &[u8], at: usize) -> usize {
+    number(v, at) as usize
+}
+
+// The string at a place; none where it is not all there.
+fn string(v: &[u8], at: usize) -> &[u8] {
+    part(v, place(at, 8), size(v, at))
+}
+
+// The place after that string.
+fn after_string(v: &[u8], at: usize) -> usize {
+    place(place(at, 8), size(v, at))
+}
+
+// The double of a bit pattern, every NaN's alike.
+fn from_pattern(bits: u64) -> f64
+    ensures { λ r. ⌜ r ≡ ofBits binary64 bits ⌝ }
+{
+    if bits % 0x8000_0000_0000_0000 > 0x7FF0_0000_0000_0000 {
+        0.0 / 0.0
+    } else {
+        f64::from_bits(bits)
+    }
+}
+
+// The double at a place.
+fn double(v: &[u8], at: usize) -> f64 {
+    from_pattern(number(v, at))
+}
+
+// Both are a NaN, or they are equal and, where zero, of one sign.
+fn same(x: f64, y: f64) -> bool
+    ensures { λ r. ⌜ (T r → x ≡ y) ⌝ }
+{
+    if x == y {
+        return if x == 0.0 { 1.0 / x == 1.0 / y } else { true };
+    }
+    if x == x { false } else { y != y }
+}
+
+// The signed number at a place, in two's complement.
+fn signed(v: &[u8], at: usize) -> i64 {
+    let bits = number(v, at);
+    if bits < 0x8000_0000_0000_0000 {
+        bits as i64
+    } else {
+        !((u64::MAX - bits) as i64)
+    }
+}
+
+// The bytes of out are those of front, then each is rest.
+fn holds(out: &[u8], front: &[u8], rest: u8) -> bool {
+    let mut i: usize = 0;
+    while i < out.len() {
+        let expected = if i < front.len() { front[i] } else { rest };
+        if out[i] != expected {
+            return false;
+        }
+        i += 1;
+    }
+    front.len() <= out.len()
+}
+
+// The payload of a vector with one argument and one result is 17 bytes.
+fn compare_round(v: &[u8]) -> bool {
+    v.len() == 17 && same(binary64::round(double(v, 1)), double(v, 9))
+}
+
+fn compare_floor(v: &[u8]) -> bool {
+    v.len() == 17 && same(binary64::floor(double(v, 1)), double(v, 9))
+}
+
+fn compare_abs(v: &[u8]) -> bool {
+    v.len() == 17 && same(binary64::abs(double(v, 1)), double(v, 9))
+}
+
+fn compare_is_finite(v: &[u8]) -> bool {
+    let told: u64 = if binary64::is_finite(double(v, 1)) {
+        1
+    } else {
+        0
+    };
+    v.len() == 17 && told == number(v, 9)
+}
+
+fn compare_to_usize(v: &[u8]) -> bool {
+    v.len() == 17 && binary64::to_usize(double(v, 1)) == size(v, 9)
+}
+
+fn compare_to_i64(v: &[u8]) -> bool {
+    v.len() == 17 && binary64::to_i64(double(v, 1)) == signed(v, 9)
+}
+
+fn compare_round10(v: &[u8]) -> bool {
+    v.len() == 17 && same(geometry::round10(double(v, 1)), double(v, 9))
+}
+
+fn matrix(v: &[u8]) -> geometry::Matrix {
+    geometry::Matrix {
+        a: double(v, 1),
+        b: double(v, 9),
+        c: double(v, 17),
+        d: double(v, 25),
+        tx: double(v, 33),
+        ty: double(v, 41),
+    }
+}
+
+// The point is the vector's result.
+fn is_result(p: geometry::Point, v: &[u8]) -> bool {
+    v.len() == 81 && same(p.x, double(v, 65)) && same(p.y, double(v, 73))
+}
+
+fn compare_transform_point(v: &[u8]) -> bool {
+    is_result(matrix(v).transform_point(double(v, 49), double(v, 57)), v)
+}
+
+fn compare_transform_delta(v: &[u8]) -> bool {
+    is_result(matrix(v).transform_delta(double(v, 49), double(v, 57)), v)
+}
+
+// What an output holds before a call.
+const BEFORE: u8 = 170;
+
+fn output() -> [u8; 512]
+    ensures { λ r. ⌜ 512 ≡ length r ⌝ }
+{
+    [BEFORE; 512]
+}
+
+// An output that is long enough: the plain bytes, then zeros.
+fn decrypts(data: &[u8], len_iv: usize, plain: &[u8], out: &mut [u8]) -> bool {
+    let r = charstring::decrypt_charstring(data, len_iv, out);
+    r.number == 0 && r.length == plain.len() && holds(out, plain, 0)
+}
+
+// An output that is one byte short: 18 and zeros, and nothing behind the output changes.
+fn refuses_short(data: &[u8], len_iv: usize, plain: &[u8], out: &mut [u8]) -> bool {
+    if plain.len() == 0 {
+        return true;
+    }
+    let room = plain.len() - 1;
+    if out.len() < room {
+        return false;
+    }
+    let behind = out.len() - room;
+    let r = charstring::decrypt_charstring(data, len_iv, &mut out[..room]);
+    r.number == 18
+        && r.length == 0
+        && holds(part(out, 0, room), b"", 0)
+        && holds(part(out, room, behind), b"", BEFORE)
+}
+
+fn compare_decrypt_charstring(v: &[u8]) -> bool {
+    let len_iv = size(v, 1);
+    let data = string(v, 9);
+    let at = after_string(v, 9);
+    let plain = string(v, at);
+    if v.len() != after_string(v, at) {
+        return false;
+    }
+    let mut long = output();
+    let mut short = output();
+    decrypts(data, len_iv, plain, &mut long) && refuses_short(data, len_iv, plain, &mut short)
+}
+
+// Our function gives what the vector says. A vector of another kind than its file's counts as different.
+fn compare(kind: u64, v: &[u8]) -> bool {
+    if byte(v, 0) != kind {
+        return false;
+    }
+    match kind {
+        1 => compare_round(v),
+        2 => compare_floor(v),
+        3 => compare_abs(v),
+        4 => compare_is_finite(v),
+        5 => compare_to_usize(v),
+        6 => compare_to_i64(v),
+        7 => compare_round10(v),
+        8 => compare_transform_point(v),
+        9 => compare_transform_delta(v),
+        10 => compare_decrypt_charstring(v),
+        _ => false,
+    }
+}
+
+// The file is at its end: a read finds nothing, and does not fail.
+fn is_at_end(fd: i32) -> bool {
+    let mut one = [0u8; 1];
+    libc::read(fd, &mut one) == 0
+}
+
+fn buffer() -> [u8; LONGEST]
+    ensures { λ r. ⌜ 8192 ≡ length r ⌝ }
+{
+    [0; LONGEST]
+}
+
+// Reads a payload of n bytes into a buffer and compares it.
+fn compare_payload(fd: i32, kind: u64, n: usize, buf: &mut [u8]) -> Turn {
+    if buf.len() < n {
+        return Turn::Broken;
+    }
+    if io::read_full(fd, &mut buf[..n]) != n {
+        return Turn::Broken;
+    }
+    if compare(kind, part(buf, 0, n)) {
+        Turn::Same
+    } else {
+        Turn::Different
+    }
+}
+
+// Reads the next frame of a file and compares its payload.
+fn compare_next(fd: i32, kind: u64) -> Turn {
+    let mut head = [0u8; 4];
+    let got = io::read_full(fd, &mut head);
+    if got == 4 {
+        let n = big_endian(&head) as usize;
+        let mut buf = buffer();
+        return compare_payload(fd, kind, n, &mut buf);
+    }
+    if got == 0 && is_at_end(fd) {
+        Turn::End
+    } else {
+        Turn::Broken
+    }
+}
+
+// Compares every vector of an open file. What cannot be read on counts as one that differs.
+// A proved loop has to end, and nothing says that a file does: the turns count down from a number that no run uses up.
+fn compare_all(fd: i32, kind: u64) -> Tally {
+    let mut compared: u64 = 0;
+    let mut different: u64 = 0;
+    let mut turns = u64::MAX;
+    while turns > 0 {
+        turns -= 1;
+        match compare_next(fd, kind) {
+            Turn::Same => {
+                compared = sum(compared, 1);
+            }
+            Turn::Different => {
+                compared = sum(compared, 1);
+                different = sum(different, 1);
+            }
+            Turn::End => {
+                return Tally {
+                    compared,
+                    different,
+                };
+            }
+            Turn::Broken => {
+                turns = 0;
+            }
+        }
+    }
+    Tally {
+        compared,
+        different: sum(different, 1),
+    }
+}
+
+fn print(name: &[u8], t: Tally) {
+    io::write_all(STDOUT_FILENO, name);
+    io::write_all(STDOUT_FILENO, b": ");
+    io::print_decimal(STDOUT_FILENO, t.compared);
+    io::write_all(STDOUT_FILENO, b" compared, ");
+    io::print_decimal(STDOUT_FILENO, t.different);
+    io::write_all(STDOUT_FILENO, b" different\n");
+}
+
+// A file that cannot be opened counts as one vector that differs.
+fn compare_file(file: &[u8], kind: u64) -> Tally {
+    let fd = os::open_read(file);
+    if fd < 0 {
+        os::fail(file);
+        return Tally {
+            compared: 0,
+            different: 1,
+        };
+    }
+    let t = compare_all(fd, kind);
+    libc::close(fd);
+    t
+}
+
+// Replays a file, prints its line and adds it to the sums before.
+fn replay(name: &[u8], file: &[u8], kind: u64, before: Tally) -> Tally {
+    let t = compare_file(file, kind);
+    print(name, t);
+    Tally {
+        compared: sum(before.compared, t.compared),
+        different: sum(before.different, t.different),
+    }
+}
+
+fn main() {
+    let mut t = Tally {
+        compared: 0,
+        different: 0,
+    };
+    t = replay(b"round", b"round.vec", 1, t);
+    t = replay(b"floor", b"floor.vec", 2, t);
+    t = replay(b"abs", b"abs.vec", 3, t);
+    t = replay(b"is_finite", b"is_finite.vec", 4, t);
+    t = replay(b"to_usize", b"to_usize.vec", 5, t);
+    t = replay(b"to_i64", b"to_i64.vec", 6, t);
+    t = replay(b"round10", b"round10.vec", 7, t);
+    t = replay(b"transform_point", b"transform_point.vec", 8, t);
+    t = replay(b"transform_delta", b"transform_delta.vec", 9, t);
+    t = replay(b"decrypt_charstring", b"decrypt_charstring.vec", 10, t);
+    print(b"total", t);
+}

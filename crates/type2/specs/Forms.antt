@@ -1,0 +1,102 @@
+-- Laws: the bytes that `push_units` writes. It counts from -2 ^ 32, so that n, its argument, is no negative number.
+use mathlib.Core.Path.{_≡_, ap, _∙_}
+use mathlib.Core.Logic.{_⊎_, inl, inr}
+use Prim.Native.Nat.{ℕ, _+_, _-_, _/_, _%_, _≤_, _<_}
+use native.Mathlib.Omega.{arith}
+use mathlib.Core.List.{List, [], _∷_}
+use lib.IntN.{ℤ, subℕ}
+use Rattle.type2.specs.Number.{zp, zm, wholeBytes, fixedBytes, numberBytes}
+use Rattle.type2.specs.Bools.{is-lt, not-lt, is-eq, not-eq}
+use Rattle.type2.specs.Signed.{sub-bal, one-sided}
+
+-- the whole number p - m is w - 65536
+abbrev Gets : (p m w : ℕ) → List ℕ → Type 0
+Gets p m w bs = p ≡ w - 65536 → m ≡ 65536 - w → wholeBytes p m ≡ bs
+
+one-byte : (p m w : ℕ) → w < 65644 → 65428 < w → Gets p m w ((w - 65397) ∷ [])
+unfolding wholeBytes
+one-byte p m w h k e f = rw (is-lt p 108 (let z : p < 108 = omega arith in z), is-lt m 108 (let z : m < 108 = omega arith in z)) (ap (λ (x : ℕ). x ∷ []) (let z : p + 139 - m ≡ w - 65397 = omega arith in z))
+
+two-below : (p m w : ℕ) → w ≤ 65428 → 64404 < w → Gets p m w (((65428 - w) / 256 + 251) ∷ ((65428 - w) % 256) ∷ [])
+unfolding wholeBytes
+two-below p m w h k e f =
+    let z : m - 108 ≡ 65428 - w = omega arith in
+    rw (is-lt p 108 (let z : p < 108 = omega arith in z), not-lt m 108 (let z : 108 ≤ m = omega arith in z), not-lt 107 p (let z : p ≤ 107 = omega arith in z), is-lt 107 m (let z : 107 < m = omega arith in z), is-lt m 1132 (let z : m < 1132 = omega arith in z), z)
+
+two-above : (p m w : ℕ) → 65644 ≤ w → w < 66668 → Gets p m w (((w - 65644) / 256 + 247) ∷ ((w - 65644) % 256) ∷ [])
+unfolding wholeBytes
+two-above p m w h k e f =
+    let z : p - 108 ≡ w - 65644 = omega arith in
+    rw (not-lt p 108 (let z : 108 ≤ p = omega arith in z), is-lt 107 p (let z : 107 < p = omega arith in z), is-lt p 1132 (let z : p < 1132 = omega arith in z), z)
+
+three-bytes : (p m w : ℕ) → w < 98304 → 32768 ≤ w → (w ≤ 64404) ⊎ (66668 ≤ w) → Gets p m w (28 ∷ (w / 256 % 256) ∷ (w % 256) ∷ [])
+unfolding wholeBytes
+three-bytes p m w l g (inl h) e f =
+    let x : (p + 65536 - m) % 65536 / 256 ≡ w / 256 % 256 = omega arith in
+    let y : (p + 65536 - m) % 65536 % 256 ≡ w % 256 = omega arith in
+    rw (is-lt p 108 (let z : p < 108 = omega arith in z), not-lt m 108 (let z : 108 ≤ m = omega arith in z), not-lt 107 p (let z : p ≤ 107 = omega arith in z), is-lt 107 m (let z : 107 < m = omega arith in z), not-lt m 1132 (let z : 1132 ≤ m = omega arith in z), x, y)
+three-bytes p m w l g (inr h) e f =
+    let x : (p + 65536 - m) % 65536 / 256 ≡ w / 256 % 256 = omega arith in
+    let y : (p + 65536 - m) % 65536 % 256 ≡ w % 256 = omega arith in
+    rw (not-lt p 108 (let z : 108 ≤ p = omega arith in z), is-lt 107 p (let z : 107 < p = omega arith in z), not-lt p 1132 (let z : 1132 ≤ p = omega arith in z), not-lt 107 m (let z : m ≤ 107 = omega arith in z), x, y)
+
+module _ (n : ℕ) (low : 2147483648 ≤ n) (high : n < 6442450944) where
+  abbrev u : ℤ
+  u = subℕ n 4294967296
+
+  pub fixed-form : (n % 65536 ≡ 0 → ⊥) → numberBytes u ≡ 255 ∷ (n / 16777216 % 256) ∷ (n / 65536 % 256) ∷ (n / 256 % 256) ∷ (n % 256) ∷ []
+  unfolding numberBytes fixedBytes
+  fixed-form h =
+      let b = sub-bal n 4294967296 in
+      let N = (zp u + 4294967296 - zm u) % 4294967296 in
+      rw (not-eq ((zp u + zm u) % 65536) 0 (λ e. h (part (one-sided u) b e))) (bytes N (let z : N ≡ n % 4294967296 = omega arith in z))
+    where
+      part : (zp u ≡ 0) ⊎ (zm u ≡ 0) → zp u + 4294967296 ≡ zm u + n → (zp u + zm u) % 65536 ≡ 0 → n % 65536 ≡ 0
+      part (inl z) b e = omega arith
+      part (inr z) b e = omega arith
+
+      bytes : (N : ℕ) → N ≡ n % 4294967296 → 255 ∷ (N / 16777216) ∷ (N / 65536 % 256) ∷ (N / 256 % 256) ∷ (N % 256) ∷ [] ≡ 255 ∷ (n / 16777216 % 256) ∷ (n / 65536 % 256) ∷ (n / 256 % 256) ∷ (n % 256) ∷ []
+      bytes N e =
+          let a : N / 16777216 ≡ n / 16777216 % 256 = omega arith in
+          let b : N / 65536 % 256 ≡ n / 65536 % 256 = omega arith in
+          let c : N / 256 % 256 ≡ n / 256 % 256 = omega arith in
+          let d : N % 256 ≡ n % 256 = omega arith in
+          cc
+
+  -- a whole number, w - 65536
+  module _ (whole : n % 65536 ≡ 0) where
+    abbrev w : ℕ
+    w = n / 65536
+
+    abbrev p : ℕ
+    p = zp u / 65536
+
+    abbrev m : ℕ
+    m = zm u / 65536
+
+    is-whole : numberBytes u ≡ wholeBytes p m
+    unfolding numberBytes
+    is-whole = rw (is-eq ((zp u + zm u) % 65536) 0 (part (one-sided u) (sub-bal n 4294967296)))
+      where
+        part : (zp u ≡ 0) ⊎ (zm u ≡ 0) → zp u + 4294967296 ≡ zm u + n → (zp u + zm u) % 65536 ≡ 0
+        part (inl z) b = omega arith
+        part (inr z) b = omega arith
+
+    parts : (p ≡ w - 65536) × (m ≡ 65536 - w)
+    parts = go (one-sided u) (sub-bal n 4294967296)
+      where
+        go : (zp u ≡ 0) ⊎ (zm u ≡ 0) → zp u + 4294967296 ≡ zm u + n → (p ≡ w - 65536) × (m ≡ 65536 - w)
+        go (inl z) b = (omega arith, omega arith)
+        go (inr z) b = (omega arith, omega arith)
+
+    pub one-form : w < 65644 → 65428 < w → numberBytes u ≡ (w - 65397) ∷ []
+    one-form h k = is-whole ∙ one-byte p m w h k (parts .0) (parts .1)
+
+    pub below-form : w ≤ 65428 → 64404 < w → numberBytes u ≡ ((65428 - w) / 256 + 251) ∷ ((65428 - w) % 256) ∷ []
+    below-form h k = is-whole ∙ two-below p m w h k (parts .0) (parts .1)
+
+    pub above-form : 65644 ≤ w → w < 66668 → numberBytes u ≡ ((w - 65644) / 256 + 247) ∷ ((w - 65644) % 256) ∷ []
+    above-form h k = is-whole ∙ two-above p m w h k (parts .0) (parts .1)
+
+    pub short-form : (w ≤ 64404) ⊎ (66668 ≤ w) → numberBytes u ≡ 28 ∷ (w / 256 % 256) ∷ (w % 256) ∷ []
+    short-form h = is-whole ∙ three-bytes p m w (omega arith) (omega arith) h (parts .0) (parts .1)

@@ -1,0 +1,16 @@
+pub mod Number
+pub mod Machine
+pub mod Instruction
+pub mod Examples
+pub mod Bools
+pub mod Signed
+pub mod Quantize
+pub mod Whole
+pub mod Fixed
+pub mod ReadBack
+pub mod Casts
+pub mod Put
+pub mod Forms
+pub mod Pushes
+pub mod Operators
+pub mod Held

@@ -1,0 +1,171 @@
+// Type 2 numbers (TN#5177, section 3.2): doubles rounded to the 16.16 grid, and their bytes.
+ghost use mathlib.Core.Path.{_≡_};
+ghost use Prim.Native.Nat.{_-_, _≤_, _<_};
+ghost use mathlib.Core.List.{[], _∷_};
+ghost use lib.IntN.{subℕ};
+ghost use Rattle.binary64.specs.Rounding.{roundAway};
+ghost use Rattle.type2.specs.Number.{quantized, numberBytes, gave, put, pushNumber};
+
+// `binary64::round`, at once for a whole number. Below 2 ^ 51 the sum with 1.5 * 2 ^ 52 is rounded to a
+// whole number, so that only a whole number comes back from it as it was.
+fn nearest(v: f64) -> f64
+    ensures { λ r. ⌜ r ≡ roundAway v ⌝ }
+{
+    if v < 2251799813685248.0 {
+        if -2251799813685248.0 < v {
+            if (v + 6755399441055744.0) - 6755399441055744.0 == v {
+                return v;
+            }
+        }
+    }
+    binary64::round(v)
+}
+
+// v to the whole number that it is strictly closer to than 1e-9, else to the nearest 1/65536.
+// `Quantize.quantized-nearest`: the result is the nearest multiple of 1/65536, a tie away from zero.
+pub fn quantize(v: f64) -> f64
+    ensures { λ r. ⌜ r ≡ quantized v ⌝ }
+{
+    let r = nearest(v);
+    if binary64::abs(v - r) < 1e-9 {
+        r
+    } else {
+        nearest(v * 65536.0) / 65536.0
+    }
+}
+
+// What a push gave: document 01's number, 0 if none, and the place after the bytes, 0 on a refusal.
+pub struct Pushed {
+    pub number: u32,
+    pub next: usize,
+}
+
+// How many places there are from `at` on.
+fn room(len: usize, at: usize) -> usize
+    ensures { λ r. ⌜ r ≡ len - at ⌝ }
+{
+    if at < len { len - at } else { 0 }
+}
+
+fn put1(out: &mut [u8], at: usize, a: u8) -> Pushed
+    ensures { λ r. ⌜ gave (r .number) (r .next) (now (out .exit)) ≡ put (now (out .entry)) at (a ∷ []) ⌝ }
+{
+    if room(out.len(), at) < 1 {
+        return Pushed {
+            number: 18,
+            next: 0,
+        };
+    }
+    out[at] = a;
+    Pushed {
+        number: 0,
+        next: at + 1,
+    }
+}
+
+fn put2(out: &mut [u8], at: usize, a: u8, b: u8) -> Pushed
+    ensures { λ r. ⌜ gave (r .number) (r .next) (now (out .exit)) ≡ put (now (out .entry)) at (a ∷ b ∷ []) ⌝ }
+{
+    if room(out.len(), at) < 2 {
+        return Pushed {
+            number: 18,
+            next: 0,
+        };
+    }
+    out[at] = a;
+    out[at + 1] = b;
+    Pushed {
+        number: 0,
+        next: at + 2,
+    }
+}
+
+fn put3(out: &mut [u8], at: usize, a: u8, b: u8, c: u8) -> Pushed
+    ensures { λ r. ⌜ gave (r .number) (r .next) (now (out .exit)) ≡ put (now (out .entry)) at (a ∷ b ∷ c ∷ []) ⌝ }
+{
+    if room(out.len(), at) < 3 {
+        return Pushed {
+            number: 18,
+            next: 0,
+        };
+    }
+    out[at] = a;
+    out[at + 1] = b;
+    out[at + 2] = c;
+    Pushed {
+        number: 0,
+        next: at + 3,
+    }
+}
+
+fn put5(out: &mut [u8], at: usize, a: u8, b: u8, c: u8, d: u8, e: u8) -> Pushed
+    ensures { λ r. ⌜ gave (r .number) (r .next) (now (out .exit)) ≡ put (now (out .entry)) at (a ∷ b ∷ c ∷ d ∷ e ∷ []) ⌝ }
+{
+    if room(out.len(), at) < 5 {
+        return Pushed {
+            number: 18,
+            next: 0,
+        };
+    }
+    out[at] = a;
+    out[at + 1] = b;
+    out[at + 2] = c;
+    out[at + 3] = d;
+    out[at + 4] = e;
+    Pushed {
+        number: 0,
+        next: at + 5,
+    }
+}
+
+// The bytes of the number `n - 2 ^ 32`, in units of 1/65536. From 65536 on, `w` is a whole number and 65536 more.
+fn push_units(out: &mut [u8], at: usize, n: u64) -> Pushed
+    requires { ⌜ (2147483648 ≤ n) × (n < 6442450944) ⌝ }
+    ensures { λ r. ⌜ gave (r .number) (r .next) (now (out .exit)) ≡ put (now (out .entry)) at (numberBytes (subℕ n 4294967296)) ⌝ }
+{
+    let w = n / 65536;
+    if n % 65536 != 0 {
+        return put5(
+            out,
+            at,
+            255,
+            (n / 16777216 % 256) as u8,
+            (w % 256) as u8,
+            (n / 256 % 256) as u8,
+            (n % 256) as u8,
+        );
+    }
+    if w < 65644 {
+        if w > 65428 {
+            return put1(out, at, (w - 65397) as u8);
+        }
+        if w > 64404 {
+            let i = 65428 - w;
+            return put2(out, at, (i / 256 + 251) as u8, (i % 256) as u8);
+        }
+    } else {
+        if w < 66668 {
+            let i = w - 65644;
+            return put2(out, at, (i / 256 + 247) as u8, (i % 256) as u8);
+        }
+    }
+    put3(out, at, 28, (w / 256 % 256) as u8, (w % 256) as u8)
+}
+
+// v to the nearest 1/65536, a tie away from zero, into `out` at `at`: the shortest form of a whole
+// number, else 16.16. Refused with 13 where the rounded number is not -32768 to below 32768, which the
+// two tests decide half of 1/65536 further out, and with 18 where `out` has no room; `out` is then as it was.
+pub fn push_number(out: &mut [u8], at: usize, v: f64) -> Pushed
+    ensures { λ r. ⌜ gave (r .number) (r .next) (now (out .exit)) ≡ pushNumber (now (out .entry)) at v ⌝ }
+{
+    if v < 32767.99999237060546875 {
+        if -32768.00000762939453125 < v {
+            let n = nearest(v * 65536.0);
+            return push_units(out, at, (n + 4294967296.0) as u64);
+        }
+    }
+    Pushed {
+        number: 13,
+        next: 0,
+    }
+}

@@ -1,0 +1,810 @@
+//! Whole glyphs: the Type 1 run, converting and finishing.
+
+use crate::cipher::{NOT_ENCRYPTED, encrypt};
+use crate::doubles;
+use crate::geometry::Matrix;
+use crate::random::Random;
+use crate::type1_to_type2::{convert_charstring_transformed, oracle};
+use crate::vector::{Fields, Vectors};
+
+/// Document 01's number of a refusal of the Rust's.
+pub fn refusal(text: &str) -> u64 {
+    let numbers = [
+        ("too long", 3),
+        ("too deeply", 4),
+        ("truncated", 5),
+        ("unknown operator", 6),
+        ("underflow", 7),
+        ("no subr", 8),
+        ("flex", 9),
+        ("div by", 10),
+        ("pop with", 11),
+        ("seac", 12),
+        ("out of range", 13),
+    ];
+    for (part, number) in numbers {
+        if text.contains(part) {
+            return number;
+        }
+    }
+    panic!("no number for the refusal {text}");
+}
+
+/// An input of converting, not encrypted yet.
+#[derive(Clone)]
+struct Glyph {
+    plain: Vec<u8>,
+    subrs: Vec<Vec<u8>>,
+    len_iv: usize,
+}
+
+/// An input of converting, as it is handed over.
+struct Input {
+    charstring: Vec<u8>,
+    subrs: Vec<Vec<u8>>,
+    len_iv: usize,
+}
+
+/// Document 01, "Bank".
+fn bank(subrs: &[Vec<u8>]) -> Vec<u8> {
+    let mut out = (subrs.len() as u16).to_be_bytes().to_vec();
+    let mut offset = 0u32;
+    out.extend(offset.to_be_bytes());
+    for body in subrs {
+        offset += body.len() as u32;
+        out.extend(offset.to_be_bytes());
+    }
+    for body in subrs {
+        out.extend(body);
+    }
+    out
+}
+
+fn encrypted(r: &mut Random, g: &Glyph) -> Input {
+    Input {
+        charstring: encrypt(r, &g.plain, g.len_iv),
+        subrs: g.subrs.iter().map(|s| encrypt(r, s, g.len_iv)).collect(),
+        len_iv: g.len_iv,
+    }
+}
+
+// ---------------------------------------------------------------------------
+// Random charstrings
+// ---------------------------------------------------------------------------
+
+/// The number v in one of its forms.
+fn push_int(r: &mut Random, out: &mut Vec<u8>, v: i32) {
+    let long = r.once_in(30);
+    match v {
+        -107..=107 if !long => out.push((v + 139) as u8),
+        108..=1131 if !long => {
+            let w = v - 108;
+            out.extend([(w / 256 + 247) as u8, (w % 256) as u8]);
+        }
+        -1131..=-108 if !long => {
+            let w = -v - 108;
+            out.extend([(w / 256 + 251) as u8, (w % 256) as u8]);
+        }
+        _ => {
+            out.push(255);
+            out.extend(v.to_be_bytes());
+        }
+    }
+}
+
+/// A number, or two and a div.
+fn push_operand(r: &mut Random, out: &mut Vec<u8>) {
+    if r.once_in(25) {
+        let a = r.between(-5000, 5000) as i32;
+        let b = if r.once_in(40) {
+            0
+        } else {
+            r.pick(&[1, 2, 3, 4, 6, 7, 10, 100, -3, 1000])
+        };
+        push_int(r, out, a);
+        push_int(r, out, b);
+        out.extend([12, 12]);
+        return;
+    }
+    let v = match r.below(40) {
+        0 => r.pick(&[107, 108, 1131, 1132, -107, -108, -1131, -1132]),
+        1 if r.once_in(6) => r.pick(&[32767, 32768, -32768, -32769]),
+        2 if r.once_in(12) => r.next() as i32,
+        3..=8 => 0,
+        9..=15 => r.between(-900, 900) as i32,
+        _ => r.between(-120, 120) as i32,
+    };
+    push_int(r, out, v);
+}
+
+fn operator(r: &mut Random, out: &mut Vec<u8>, operands: usize, op: &[u8]) {
+    if r.once_in(60) {
+        // One operand more: those below the operator's are dropped.
+        push_operand(r, out);
+    }
+    for _ in 0..operands {
+        push_operand(r, out);
+    }
+    out.extend(op);
+}
+
+fn push_stem(r: &mut Random, out: &mut Vec<u8>) {
+    let op = r.pick(&[1u8, 3]);
+    let ghost = r.once_in(5);
+    let pos = r.between(-10, 40) as i32 * 20;
+    push_int(r, out, pos);
+    let width = if ghost {
+        r.pick(&[-20, -21])
+    } else {
+        r.between(1, 9) as i32 * 10
+    };
+    push_int(r, out, width);
+    out.push(op);
+}
+
+fn push_stems(r: &mut Random, out: &mut Vec<u8>) {
+    for _ in 0..r.below(5) {
+        match r.below(10) {
+            0 => operator(r, out, 6, &[12, 1]),
+            1 => operator(r, out, 6, &[12, 2]),
+            2 => operator(r, out, 2, &[1]),
+            _ => push_stem(r, out),
+        }
+    }
+}
+
+fn other_subr(r: &mut Random, out: &mut Vec<u8>, count: i32, number: i32) {
+    push_int(r, out, count);
+    push_int(r, out, number);
+    out.extend([12, 16]);
+}
+
+/// A flex by OtherSubrs 1, 2 and 0, mostly a right one.
+fn push_flex(r: &mut Random, out: &mut Vec<u8>) {
+    if !r.once_in(40) {
+        other_subr(r, out, 0, 1);
+    }
+    let points = if r.once_in(25) { r.below(10) } else { 7 };
+    for _ in 0..points {
+        operator(r, out, 2, &[21]);
+        if r.once_in(60) {
+            // A line within the flex is drawn.
+            operator(r, out, 2, &[5]);
+        }
+        other_subr(r, out, 0, 2);
+    }
+    let arguments = if r.once_in(10) { r.below(4) as i32 } else { 3 };
+    for _ in 0..arguments {
+        push_operand(r, out);
+    }
+    other_subr(r, out, arguments, 0);
+    if !r.once_in(10) {
+        out.extend([12, 17, 12, 17, 12, 33]);
+    }
+}
+
+/// Hint replacement: OtherSubr 3, then the subroutine whose number is popped, or the stems at once.
+fn push_replacement(r: &mut Random, out: &mut Vec<u8>, subrs: usize) {
+    let n = if subrs == 0 { 0 } else { r.below(subrs as u64) as i32 };
+    push_int(r, out, n);
+    other_subr(r, out, 1, 3);
+    out.extend([12, 17]);
+    if subrs > 0 && r.once_in(2) {
+        out.push(10);
+    } else {
+        push_stems(r, out);
+    }
+}
+
+fn push_path(r: &mut Random, out: &mut Vec<u8>) {
+    match r.below(12) {
+        0 => operator(r, out, 2, &[21]),
+        1 => operator(r, out, 1, &[22]),
+        2 => operator(r, out, 1, &[4]),
+        3 => operator(r, out, 2, &[5]),
+        4 => operator(r, out, 1, &[6]),
+        5 => operator(r, out, 1, &[7]),
+        6 => operator(r, out, 6, &[8]),
+        7 => operator(r, out, 4, &[30]),
+        8 => operator(r, out, 4, &[31]),
+        9 => out.push(9),
+        10 => {
+            // A run of lines or curves about as long as one operator takes.
+            if r.once_in(4) {
+                if r.once_in(2) {
+                    for _ in 0..r.between(21, 26) {
+                        let op = r.pick(&[6, 7]);
+                        operator(r, out, 1, &[op]);
+                    }
+                } else {
+                    for _ in 0..r.between(6, 9) {
+                        let op = r.pick(&[30, 31]);
+                        operator(r, out, 4, &[op]);
+                    }
+                }
+            }
+        }
+        _ => operator(r, out, 2, &[12, 33]),
+    }
+}
+
+fn push_rare(r: &mut Random, out: &mut Vec<u8>) {
+    match r.below(12) {
+        0 => out.extend([12, 0]),
+        1 => operator(r, out, 4, &[12, 7]),
+        2 => operator(r, out, 2, &[13]),
+        3 => operator(r, out, 5, &[12, 6]),
+        4 => {
+            // An unknown OtherSubr hands its arguments back.
+            let n = r.below(4) as i32;
+            for _ in 0..n {
+                push_operand(r, out);
+            }
+            let number = r.pick(&[4, 12, 13, -1, 100]);
+            other_subr(r, out, n, number);
+            for _ in 0..n {
+                out.extend([12, 17]);
+            }
+        }
+        5 => other_subr(r, out, 0, 2),
+        6 => out.push(r.byte()),
+        7 => out.extend([12, r.byte()]),
+        8 => {
+            // A number that truncates: of a subroutine, of arguments, of an OtherSubr.
+            let (a, b) = r.pick(&[(29, 10), (-5, 10), (-1, 2), (1, 2), (5, 2)]);
+            push_int(r, out, a);
+            push_int(r, out, b);
+            out.extend([12, 12]);
+            out.extend(r.pick(&[&[10u8][..], &[139, 12, 16], &[12, 16]]));
+        }
+        9 => other_subr(r, out, 3, 9),
+        10 => out.extend([12, 17]),
+        _ => push_operand(r, out),
+    }
+}
+
+fn push_piece(r: &mut Random, out: &mut Vec<u8>, subrs: usize) {
+    match r.below(40) {
+        0..=1 => push_flex(r, out),
+        2..=3 => push_replacement(r, out, subrs),
+        4..=5 => push_stems(r, out),
+        6..=8 if subrs > 0 => {
+            let n = r.below(subrs as u64) as i32;
+            push_int(r, out, n);
+            out.push(10);
+        }
+        9 if r.once_in(3) => push_rare(r, out),
+        _ => push_path(r, out),
+    }
+}
+
+fn glyph(r: &mut Random) -> Glyph {
+    let count = if r.once_in(3) { 0 } else { r.below(6) as usize };
+    let mut subrs: Vec<Vec<u8>> = Vec::new();
+    for n in 0..count {
+        let mut body = Vec::new();
+        // A body calls those before it, and rarely any.
+        let reach = if r.once_in(40) { count } else { n };
+        for _ in 0..r.below(5) {
+            if r.once_in(3) {
+                push_stems(r, &mut body);
+            } else {
+                push_piece(r, &mut body, reach);
+            }
+        }
+        match r.below(12) {
+            0 => {}
+            1 if r.once_in(3) => body.push(14),
+            _ => body.push(11),
+        }
+        subrs.push(body);
+    }
+    let mut plain = Vec::new();
+    match r.below(8) {
+        0 => {}
+        1 => operator(r, &mut plain, 4, &[12, 7]),
+        _ => {
+            let side_bearing = r.pick(&[0, 10, 50, -20]);
+            push_int(r, &mut plain, side_bearing);
+            let width = r.pick(&[500, 0, 600, 250, 1000, 333]);
+            push_int(r, &mut plain, width);
+            plain.push(13);
+        }
+    }
+    push_stems(r, &mut plain);
+    for _ in 0..r.below(16) {
+        push_piece(r, &mut plain, count);
+    }
+    if !r.once_in(10) {
+        plain.push(9);
+    }
+    if !r.once_in(12) {
+        plain.push(14);
+    }
+    Glyph {
+        plain,
+        subrs,
+        len_iv: r.pick(&[NOT_ENCRYPTED, NOT_ENCRYPTED, NOT_ENCRYPTED, 4, 4, 0, 1]),
+    }
+}
+
+/// A copy with a byte changed, dropped or added, or the end cut.
+fn damaged(r: &mut Random, g: &Glyph) -> Glyph {
+    let mut bad = g.clone();
+    let which = r.below(1 + bad.subrs.len() as u64) as usize;
+    let s = if which == 0 {
+        &mut bad.plain
+    } else {
+        &mut bad.subrs[which - 1]
+    };
+    let at = r.below(s.len() as u64 + 1) as usize;
+    match r.below(4) {
+        0 => s.truncate(at),
+        1 => s.insert(at, r.byte()),
+        2 if at < s.len() => {
+            s.remove(at);
+        }
+        _ if at < s.len() => s[at] = r.byte(),
+        _ => s.push(r.byte()),
+    }
+    bad
+}
+
+/// A matrix with finite entries.
+fn matrix(r: &mut Random) -> Matrix {
+    let d = |r: &mut Random| r.between(-3000, 3000) as f64 / 1000.0;
+    let s = |r: &mut Random| r.between(1, 3000) as f64 / 1000.0;
+    let six = match r.below(14) {
+        0..=4 => [1.0, 0.0, 0.0, 1.0, 0.0, 0.0],
+        5 => [1.0, -0.0, -0.0, 1.0, -0.0, 0.0],
+        6 => [s(r), 0.0, 0.0, s(r), d(r) * 100.0, d(r) * 100.0],
+        // Skewed, flipped, turned.
+        7 => [1.0, 0.0, d(r), 1.0, 0.0, 0.0],
+        8 => [s(r), d(r), 0.0, s(r), d(r), 0.0],
+        9 => [r.pick(&[-1.0, 1.0]), 0.0, 0.0, -1.0, 0.0, d(r) * 100.0],
+        10 => [0.0, s(r), -s(r), 0.0, d(r), d(r)],
+        // Tiny, huge, any.
+        11 | 12 => {
+            let k = r.pick(&[1e-300, 1e-12, 1e-5, 1e-3, 1e6, 1e200, 1e297, 1e305]);
+            [d(r) * k, 0.0, 0.0, s(r) * k, 0.0, 0.0]
+        }
+        _ => [d(r), d(r), d(r), d(r), d(r) * 1000.0, d(r) * 1000.0],
+    };
+    let [a, b, c, d, tx, ty] = six;
+    Matrix::new(a, b, c, d, tx, ty)
+}
+
+// ---------------------------------------------------------------------------
+// Answers
+// ---------------------------------------------------------------------------
+
+/// Room in the lent stores and in the output.
+#[derive(Clone, Copy)]
+struct Rooms {
+    stems: usize,
+    words: usize,
+    output: usize,
+}
+
+/// More than any vector that is recorded needs.
+const AMPLE: Rooms = Rooms {
+    stems: 1024,
+    words: 14 * 512,
+    output: 4096,
+};
+
+/// What converting answers.
+struct Answer {
+    number: u64,
+    width: f64,
+    count: usize,
+    program: Vec<u8>,
+}
+
+fn refused(number: u64) -> Answer {
+    Answer {
+        number,
+        width: 0.0,
+        count: 0,
+        program: Vec::new(),
+    }
+}
+
+/// The Rust's answer with ample room, and what it used; none where the document's limits leave no one number.
+fn answer(input: &Input, m: &Matrix) -> Option<(Answer, Option<Rooms>)> {
+    match oracle::first_limit(&input.charstring, &input.subrs, input.len_iv) {
+        Some(numbers) if numbers.len() == 1 => return Some((refused(numbers[0]), None)),
+        Some(_) => return None,
+        None => {}
+    }
+    let run = match oracle::run(&input.charstring, &input.subrs, input.len_iv, m) {
+        Ok(run) => run,
+        Err(text) => return Some((refused(refusal(&text)), None)),
+    };
+    let used = Rooms {
+        stems: run.groups.iter().map(Vec::len).sum(),
+        words: 14 * run.commands.len(),
+        output: 0,
+    };
+    if used.stems > AMPLE.stems || used.words > AMPLE.words {
+        return None;
+    }
+    if !run.folds_finite {
+        return Some((refused(14), Some(used)));
+    }
+    match convert_charstring_transformed(&input.charstring, &input.subrs, input.len_iv, m) {
+        Ok(glyph) if glyph.program.len() > AMPLE.output => None,
+        Ok(glyph) => {
+            let output = glyph.program.len();
+            let done = Answer {
+                number: 0,
+                width: glyph.width,
+                count: run.bytes_run,
+                program: glyph.program,
+            };
+            Some((done, Some(Rooms { output, ..used })))
+        }
+        Err(text) => Some((refused(refusal(&text)), Some(used))),
+    }
+}
+
+fn add_convert(to: &mut Vectors, m: &Matrix, len_iv: usize, charstring: &[u8], bank: &[u8], rooms: Rooms, a: &Answer) {
+    let fields = Fields::new()
+        .doubles(&m.to_array())
+        .size(len_iv)
+        .string(charstring)
+        .string(bank)
+        .size(rooms.stems)
+        .size(rooms.words)
+        .size(rooms.output);
+    let fields = fields.number(a.number).double(a.width).size(a.count).string(&a.program);
+    to.add(fields);
+}
+
+/// A vector of the Rust's answer, and the same input with a store or the output one short.
+fn add_answer(r: &mut Random, to: &mut Vectors, input: &Input, m: &Matrix) -> bool {
+    let Some((a, used)) = answer(input, m) else {
+        return false;
+    };
+    let bank = bank(&input.subrs);
+    let mut add = |rooms: Rooms, a: &Answer| {
+        add_convert(to, m, input.len_iv, &input.charstring, &bank, rooms, a);
+    };
+    add(AMPLE, &a);
+    let Some(used) = used else {
+        return true;
+    };
+    if a.number == 0 && r.once_in(12) {
+        // Just enough of everything; a part of an entry is no entry.
+        add(used, &a);
+        add(
+            Rooms {
+                words: used.words + 13,
+                ..used
+            },
+            &a,
+        );
+        if used.stems > 0 {
+            add(
+                Rooms {
+                    stems: used.stems - 1,
+                    ..AMPLE
+                },
+                &refused(16),
+            );
+        }
+        if used.words > 0 {
+            add(
+                Rooms {
+                    words: used.words - 1,
+                    ..AMPLE
+                },
+                &refused(17),
+            );
+        }
+        add(
+            Rooms {
+                output: used.output - 1,
+                ..AMPLE
+            },
+            &refused(18),
+        );
+    }
+    true
+}
+
+fn plain(charstring: &[u8], subrs: &[&[u8]]) -> Input {
+    Input {
+        charstring: charstring.to_vec(),
+        subrs: subrs.iter().map(|s| s.to_vec()).collect(),
+        len_iv: NOT_ENCRYPTED,
+    }
+}
+
+/// Inputs at the edges of the document's counts.
+fn stated_inputs() -> Vec<Input> {
+    let mut all = vec![
+        // Document 01, "Numbers the board logs": 4 to 13.
+        plain(&[0x8B, 0x0A], &[&[0x8B, 0x0A]]),
+        plain(&[0xF7], &[]),
+        plain(&[0x02], &[]),
+        plain(&[0x05], &[]),
+        plain(&[0x8B, 0x0A], &[]),
+        plain(&[0x8B, 0x8B, 0x0C, 0x10], &[]),
+        plain(&[0x8C, 0x8B, 0x0C, 0x0C], &[]),
+        plain(&[0x0C, 0x11], &[]),
+        plain(&[0x0C, 0x06], &[]),
+        plain(&[0xFF, 0x00, 0x00, 0x9C, 0x40, 0x16], &[]),
+        // "Glyphs worked through".
+        plain(&[], &[]),
+        plain(
+            &[0x8B, 0xF8, 0x88, 0x0D, 0x95, 0x9F, 0x15, 0x90, 0x8B, 0x05, 0x09, 0x0E],
+            &[],
+        ),
+        plain(&[0x8C, 0x8E, 0x0C, 0x0C, 0x16].repeat(3), &[]),
+        plain(&[0xFF, 0x00, 0x00, 0x7F, 0xFF, 0x16], &[]),
+        plain(&[0xFF, 0x00, 0x00, 0x80, 0x00, 0x16], &[]),
+    ];
+    // 14: 1, then 40 times 1, 2147483647, div, div.
+    let mut quotient = vec![0x8C];
+    for _ in 0..40 {
+        quotient.extend([0x8C, 0xFF, 0x7F, 0xFF, 0xFF, 0xFF, 0x0C, 0x0C, 0x0C, 0x0C]);
+    }
+    all.push(plain(&quotient, &[]));
+    // 15: 256 operands pass, 257 do not; the PostScript stack likewise.
+    all.push(plain(&[0x8B; 256], &[]));
+    all.push(plain(&[0x8B; 257], &[]));
+    for n in [256, 257] {
+        // n numbers on the PostScript stack, by turns of 32 and one of the rest.
+        let mut code = Vec::new();
+        let mut left = n;
+        while left > 0 {
+            let some = left.min(32);
+            code.extend(vec![0x8B; some as usize]);
+            code.extend([(some + 139) as u8, 0x8F, 0x0C, 0x10]);
+            left -= some;
+        }
+        code.push(0x0E);
+        all.push(plain(&code, &[]));
+    }
+    // 16: 256 stems in force pass, 257 do not.
+    for n in [96, 97, 256, 257] {
+        let mut code = Vec::new();
+        for i in 0..n {
+            code.extend([0xF7 + (i / 256) as u8, (i % 256) as u8, 0x8C, 0x01]);
+        }
+        code.extend([0x8B, 0x16, 0x0E]);
+        all.push(plain(&code, &[]));
+    }
+    // 256 groups pass, 257 do not: OtherSubr 3, an hstem, a move, by turns.
+    for n in [256, 257] {
+        let mut code = Vec::new();
+        for i in 0..n {
+            code.extend([0x8B, 0x8E, 0x0C, 0x10]);
+            code.extend([139 + (i % 2) as u8, 0x8C, 0x01, 0x8C, 0x16]);
+        }
+        all.push(plain(&code, &[]));
+    }
+    // Depth 10 runs, 11 does not: subroutine n calls n + 1.
+    for depth in [10usize, 11] {
+        let bodies: Vec<Vec<u8>> = (1..=depth)
+            .map(|n| {
+                if n < depth {
+                    vec![139 + n as u8, 0x0A]
+                } else {
+                    vec![0x8C, 0x16]
+                }
+            })
+            .collect();
+        let bodies: Vec<&[u8]> = bodies.iter().map(Vec::as_slice).collect();
+        all.push(plain(&[0x8B, 0x0A, 0x0E], &bodies));
+    }
+    // Bytes run: 1,048,576 pass, one more does not. A body is charged whole, though it returns at once.
+    // Here 255 bodies of 4,096 bytes, 3 of 1,024, and the charstring's own 1,024.
+    for more in [0, 1] {
+        let body = |size: usize| {
+            let mut body = vec![0x0B];
+            body.resize(size, 0x0E);
+            body
+        };
+        let mut code = [0x8B, 0x0A].repeat(255);
+        code.extend([0x8C, 0x0A].repeat(3));
+        code.extend([0x8C, 0x16]);
+        code.resize(1024 + more, 0x0E);
+        all.push(plain(&code, &[&body(4096), &body(1024)]));
+    }
+    // A lenIV beyond a body's length.
+    all.push(Input {
+        charstring: vec![0x10, 0xBF, 0x31, 0x70, 0x9D],
+        subrs: vec![vec![1, 2], vec![]],
+        len_iv: 4,
+    });
+    all
+}
+
+pub fn convert(r: &mut Random, to: &mut Vectors) {
+    let identity = Matrix::identity();
+    let none = bank(&[]);
+    // Numbers 1 and 2: the Rust has neither.
+    for bad in [f64::NAN, f64::INFINITY, f64::NEG_INFINITY] {
+        for i in 0..6 {
+            let mut six = identity.to_array();
+            six[i] = bad;
+            let [a, b, c, d, tx, ty] = six;
+            let m = Matrix::new(a, b, c, d, tx, ty);
+            let banks: &[&[u8]] = if i == 0 { &[&none, &[0, 1]] } else { &[&none] };
+            for bank in banks {
+                add_convert(to, &m, NOT_ENCRYPTED, &[0x0E], bank, AMPLE, &refused(1));
+            }
+        }
+    }
+    let one = bank(&[vec![0x0B, 0x0B]]);
+    let mut first = one.clone();
+    first[5] = 1;
+    let mut falls = bank(&[vec![0x0B, 0x0B], vec![]]);
+    falls[13] = 1;
+    let mut beyond = one.clone();
+    beyond.push(0);
+    for bad in [
+        &[][..],
+        &[0],
+        &[0, 1],
+        &none[..5],
+        &one[..one.len() - 1],
+        &first,
+        &falls,
+        &beyond,
+    ] {
+        add_convert(to, &identity, NOT_ENCRYPTED, &[0x02], bad, AMPLE, &refused(2));
+    }
+    // 17 and 18: document 01's examples.
+    let no_words = Rooms { words: 0, ..AMPLE };
+    add_convert(
+        to,
+        &identity,
+        NOT_ENCRYPTED,
+        &[0x8C, 0x16],
+        &none,
+        no_words,
+        &refused(17),
+    );
+    let no_output = Rooms { output: 0, ..AMPLE };
+    add_convert(to, &identity, NOT_ENCRYPTED, &[], &none, no_output, &refused(18));
+    for input in stated_inputs() {
+        assert!(add_answer(r, to, &input, &identity));
+    }
+    while to.count() < 560 {
+        let g = glyph(r);
+        let m = matrix(r);
+        let input = encrypted(r, &g);
+        add_answer(r, to, &input, &m);
+        if r.once_in(4) {
+            let bad = damaged(r, &g);
+            let input = encrypted(r, &bad);
+            add_answer(r, to, &input, &m);
+        }
+    }
+}
+
+/// Runs with no matrix: the groups and the list as the run left them.
+pub fn run(r: &mut Random, to: &mut Vectors) {
+    let identity = Matrix::identity();
+    let mut add = |input: &Input| {
+        let limit = oracle::first_limit(&input.charstring, &input.subrs, input.len_iv);
+        let result = match &limit {
+            None => {
+                oracle::run(&input.charstring, &input.subrs, input.len_iv, &identity).map_err(|text| refusal(&text))
+            }
+            Some(numbers) if numbers.len() == 1 => Err(numbers[0]),
+            Some(_) => return,
+        };
+        let fields = Fields::new()
+            .size(input.len_iv)
+            .string(&input.charstring)
+            .string(&bank(&input.subrs));
+        let run = match result {
+            Ok(run) => run,
+            Err(number) => {
+                to.add(fields.number(number));
+                return;
+            }
+        };
+        let size = 8 * (6 + run.groups.iter().map(|g| 1 + 3 * g.len()).sum::<usize>())
+            + 8 * run.commands.iter().map(|c| 2 + c.coordinates.len()).sum::<usize>();
+        if size > 3000 {
+            return;
+        }
+        let mut fields = fields
+            .number(0)
+            .double(run.width)
+            .size(run.bytes_run)
+            .size(run.groups.len());
+        for group in &run.groups {
+            fields = fields.size(group.len());
+            for &(horizontal, pos, width) in group {
+                fields = fields.number(u64::from(horizontal)).double(pos).double(width);
+            }
+        }
+        fields = fields.size(run.commands.len());
+        for c in &run.commands {
+            fields = fields.number(c.kind);
+            fields = if c.kind == 4 {
+                fields.number(c.group)
+            } else {
+                fields.doubles(&c.coordinates)
+            };
+        }
+        to.add(fields);
+    };
+    for input in stated_inputs() {
+        add(&input);
+    }
+    for _ in 0..180 {
+        let g = glyph(r);
+        add(&encrypted(r, &g));
+        if r.once_in(5) {
+            let bad = damaged(r, &g);
+            add(&encrypted(r, &bad));
+        }
+    }
+}
+
+pub fn finish(r: &mut Random, to: &mut Vectors) {
+    let mut add = |width: f64, program: &[u8], default: f64, nominal: f64| {
+        let glyph = oracle::glyph(width, program.to_vec());
+        let (number, bytes) = match glyph.charstring(default, nominal) {
+            Ok(bytes) => (0, bytes),
+            Err(text) => (refusal(&text), Vec::new()),
+        };
+        let fields = |room: usize, number: u64, bytes: &[u8]| {
+            Fields::new()
+                .double(width)
+                .string(program)
+                .double(default)
+                .double(nominal)
+                .size(room)
+                .number(number)
+                .string(bytes)
+        };
+        to.add(fields(bytes.len().max(8) + 3, number, &bytes));
+        if number == 0 {
+            to.add(fields(bytes.len(), 0, &bytes));
+            to.add(fields(bytes.len() - 1, 18, &[]));
+        }
+    };
+    let edges = doubles::edges();
+    // Document 01, "Glyphs worked through".
+    let worked = [0x95, 0x9F, 0x15, 0x90, 0x8B, 0x05, 0x0E];
+    add(500.0, &worked, 500.0, 0.0);
+    add(500.0, &worked, 0.0, 0.0);
+    for _ in 0..600 {
+        let identity = Matrix::identity();
+        let g = glyph(r);
+        let e = encrypted(r, &g);
+        let Some((a, _)) = answer(&e, &identity) else {
+            continue;
+        };
+        if a.number != 0 || a.program.len() > 120 {
+            continue;
+        }
+        let width = match r.below(4) {
+            0 => a.width,
+            1 => r.between(0, 2000) as f64,
+            2 => doubles::decimal(r),
+            _ => r.between(0, 1_000_000) as f64 / 997.0,
+        };
+        let default = match r.below(5) {
+            0 => oracle::quantize(width),
+            1 => width,
+            2 => r.pick(&edges),
+            _ => 500.0,
+        };
+        let nominal = match r.below(5) {
+            0 => r.pick(&edges),
+            1 => doubles::decimal(r),
+            2 => 0.0,
+            _ => r.between(0, 1000) as f64,
+        };
+        add(width, &a.program, default, nominal);
+    }
+}
