@@ -1,0 +1,11 @@
+pub mod Heaps
+pub mod Places
+pub mod Lists
+pub mod Steps
+pub mod Passes
+pub mod Adding
+pub mod Zeros
+pub mod Counts
+pub mod Best
+pub mod Rounding
+pub mod Answer

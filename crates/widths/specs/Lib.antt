@@ -1,0 +1,4 @@
+pub mod Widths
+pub mod Order
+pub mod Heaps
+pub mod Runs
