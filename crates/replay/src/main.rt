@@ -240,6 +240,124 @@ fn compare_decrypt_charstring(v: &[u8]) -> bool {
     decrypts(data, len_iv, plain, &mut long) && refuses_short(data, len_iv, plain, &mut short)
 }
 
+fn compare_quantize(v: &[u8]) -> bool {
+    v.len() == 17 && same(type2::quantize(double(v, 1)), double(v, 9))
+}
+
+// An output of 8 bytes, with what it holds before a call.
+fn small_output() -> [u8; 8]
+    ensures { λ r. ⌜ 8 ≡ length r ⌝ }
+{
+    [BEFORE; 8]
+}
+
+// Into an output that is long enough, at its second byte: the bytes, and nothing else changes.
+fn pushes(x: f64, refusal: u64, bytes: &[u8], out: &mut [u8]) -> bool {
+    let r = type2::push_number(out, 1, x);
+    if refusal != 0 {
+        return r.number as u64 == refusal && r.next == 0 && holds(out, b"", BEFORE);
+    }
+    r.number == 0
+        && r.next == place(bytes.len(), 1)
+        && holds(part(out, 0, 1), b"", BEFORE)
+        && holds(part(out, 1, 7), bytes, BEFORE)
+}
+
+// Into an output that is one byte short: the refusal before, else 18, and nothing changes.
+fn refuses_push(x: f64, refusal: u64, bytes: &[u8], out: &mut [u8]) -> bool {
+    let room = bytes.len();
+    if out.len() < room {
+        return false;
+    }
+    let r = type2::push_number(&mut out[..room], 1, x);
+    let expected = if refusal != 0 { refusal } else { 18 };
+    r.number as u64 == expected && r.next == 0 && holds(out, b"", BEFORE)
+}
+
+fn compare_push_number(v: &[u8]) -> bool {
+    let x = double(v, 1);
+    let refusal = number(v, 9);
+    let bytes = string(v, 17);
+    if v.len() != after_string(v, 17) {
+        return false;
+    }
+    let mut long = small_output();
+    let mut short = small_output();
+    pushes(x, refusal, bytes, &mut long) && refuses_push(x, refusal, bytes, &mut short)
+}
+
+// The most widths of a payload.
+const MOST: usize = 1024;
+
+// What a scratch holds before a call.
+const UNUSED: f64 = 85.5;
+
+fn doubles() -> [f64; MOST]
+    ensures { λ r. ⌜ 1024 ≡ length r ⌝ }
+{
+    [UNUSED; MOST]
+}
+
+// Fills a slice with the doubles from a place on, and returns the place after them.
+fn read_doubles(v: &[u8], from: usize, to: &mut [f64]) -> usize {
+    let mut at = from;
+    let mut i: usize = 0;
+    while i < to.len() {
+        to[i] = double(v, at);
+        at = place(at, 8);
+        i += 1;
+    }
+    at
+}
+
+// The first n doubles; none where they are not all there.
+fn first(xs: &[f64], n: usize) -> &[f64] {
+    if xs.len() < n {
+        return &xs[..0];
+    }
+    &xs[..n]
+}
+
+// The first n doubles are 0.0, the others are unused.
+fn is_cleared(xs: &[f64], n: usize) -> bool {
+    let mut i: usize = 0;
+    while i < xs.len() {
+        let expected = if i < n { 0.0 } else { UNUSED };
+        if !same(xs[i], expected) {
+            return false;
+        }
+        i += 1;
+    }
+    n <= xs.len()
+}
+
+// With a scratch of `room`: the results at a place, the scratch cleared, and nothing behind it changes.
+fn chooses(ws: &[f64], room: usize, v: &[u8], at: usize, scratch: &mut [f64]) -> bool {
+    if scratch.len() < room {
+        return false;
+    }
+    let r = widths::choose_widths(ws, &mut scratch[..room]);
+    r.number == number(v, at)
+        && same(r.default_width_x, double(v, place(at, 8)))
+        && same(r.nominal_width_x, double(v, place(at, 16)))
+        && v.len() == place(at, 24)
+        && is_cleared(scratch, room)
+}
+
+fn compare_widths(v: &[u8], n: usize, ws: &mut [f64], scratch: &mut [f64]) -> bool {
+    if ws.len() < n {
+        return false;
+    }
+    let at = read_doubles(v, 9, &mut ws[..n]);
+    chooses(first(ws, n), size(v, at), v, place(at, 8), scratch)
+}
+
+fn compare_choose_widths(v: &[u8]) -> bool {
+    let mut ws = doubles();
+    let mut scratch = doubles();
+    compare_widths(v, size(v, 1), &mut ws, &mut scratch)
+}
+
 // Our function gives what the vector says. A vector of another kind than its file's counts as different.
 fn compare(kind: u64, v: &[u8]) -> bool {
     if byte(v, 0) != kind {
@@ -256,6 +374,9 @@ fn compare(kind: u64, v: &[u8]) -> bool {
         8 => compare_transform_point(v),
         9 => compare_transform_delta(v),
         10 => compare_decrypt_charstring(v),
+        11 => compare_quantize(v),
+        12 => compare_push_number(v),
+        13 => compare_choose_widths(v),
         _ => false,
     }
 }
@@ -385,5 +506,8 @@ fn main() {
     t = replay(b"transform_point", b"transform_point.vec", 8, t);
     t = replay(b"transform_delta", b"transform_delta.vec", 9, t);
     t = replay(b"decrypt_charstring", b"decrypt_charstring.vec", 10, t);
+    t = replay(b"quantize", b"quantize.vec", 11, t);
+    t = replay(b"push_number", b"push_number.vec", 12, t);
+    t = replay(b"choose_widths", b"choose_widths.vec", 13, t);
     print(b"total", t);
 }

@@ -42,13 +42,34 @@ pub fn quantize(r: &mut Random, to: &mut Vectors) {
     }
 }
 
+fn add_number(to: &mut Vectors, v: f64) {
+    let (number, bytes) = match oracle::push_number(v) {
+        Ok(bytes) => (0, bytes),
+        Err(text) => (refusal(&text), Vec::new()),
+    };
+    to.add(Fields::new().double(v).number(number).string(&bytes));
+}
+
+/// The Rust pushes rounded numbers only. On others it differs from us, as docs/DIFFERENCES.md says.
 pub fn push_number(r: &mut Random, to: &mut Vectors) {
-    for v in inputs(r, 3072) {
-        let (number, bytes) = match oracle::push_number(v) {
-            Ok(bytes) => (0, bytes),
-            Err(text) => (refusal(&text), Vec::new()),
-        };
-        to.add(Fields::new().double(v).number(number).string(&bytes));
+    let unit = 1.0 / 65536.0;
+    for end in [-32768.0, 32768.0] {
+        for k in -3..=3 {
+            add_number(to, end + f64::from(k));
+            add_number(to, end + f64::from(k) * unit);
+        }
+    }
+    // Every change of form, and the units next to it.
+    for n in [0, 107, 108, 363, 364, 1131, 1132, 32767] {
+        for k in -2..=2 {
+            let v = f64::from(n) + f64::from(k) * unit;
+            for w in [v, -v] {
+                add_number(to, w);
+            }
+        }
+    }
+    for v in inputs(r, 3000) {
+        add_number(to, oracle::quantize(v));
     }
 }
 
@@ -57,42 +78,95 @@ fn add_widths(to: &mut Vectors, widths: &[f64], scratch: usize, number: u64, pai
     to.add(fields.number(number).double(pair.0).double(pair.1));
 }
 
+/// A list that nothing is wrong with.
+fn add_chosen(to: &mut Vectors, widths: &[f64], spare: usize) {
+    let pair = type1_to_type2::choose_widths(widths);
+    add_widths(to, widths, widths.len() + spare, 0, pair);
+}
+
+fn finite(r: &mut Random) -> f64 {
+    loop {
+        let v = doubles::random(r);
+        if v.is_finite() {
+            return v;
+        }
+    }
+}
+
+/// n widths of a random sort.
+fn widths(r: &mut Random, n: usize) -> Vec<f64> {
+    let sort = r.below(9);
+    let most = r.between(1, 1500);
+    let mut all: Vec<f64> = (0..n)
+        .map(|_| match sort {
+            0 => r.pick(&[0.0, -0.0, 214.0, -107.0, 107.5]),
+            1 => r.between(0, 6) as f64 * 107.0,
+            2 => r.between(0, 40) as f64 * 25.0,
+            3 => r.between(0, 20) as f64 / 4.0 + r.pick(&[0.0, 1e-10, 1e-7]),
+            4 => r.between(-600, 600) as f64 + r.pick(&[0.0, 0.3, 0.5]),
+            5 => finite(r),
+            6 => r.between(0, most) as f64,
+            7 => r.pick(&[0.0, 214.0, 428.0]) + r.between(-2, 2) as f64 / 65536.0,
+            _ => r.pick(&[500.0, 500.0, 600.0, 250.0, 722.0, 714.0, 500.0 + 1.0 / 65536.0]),
+        })
+        .collect();
+    match r.below(6) {
+        0 => all.sort_by(f64::total_cmp),
+        1 => all.sort_by(|a, b| b.total_cmp(a)),
+        _ => {}
+    }
+    all
+}
+
 pub fn choose_widths(r: &mut Random, to: &mut Vectors) {
-    add_widths(to, &[], 0, 0, (0.0, 0.0));
-    add_widths(to, &[500.0, 500.0, 600.0], 3, 0, (500.0, 707.0));
     // Numbers 19 and 20 are the document's, which the Rust has not: it never ends on a NaN.
     for bad in [f64::NAN, f64::INFINITY, f64::NEG_INFINITY] {
-        add_widths(to, &[bad], 8, 19, (0.0, 0.0));
-        add_widths(to, &[500.0, bad, 500.0], 8, 19, (0.0, 0.0));
-        add_widths(to, &[500.0, bad], 1, 19, (0.0, 0.0));
+        for room in [0, 1, 8] {
+            add_widths(to, &[bad], room, 19, (0.0, 0.0));
+            add_widths(to, &[500.0, bad], room, 19, (0.0, 0.0));
+            add_widths(to, &[500.0, bad, 500.0], room, 19, (0.0, 0.0));
+        }
     }
     add_widths(to, &[500.0, 600.0], 1, 20, (0.0, 0.0));
     add_widths(to, &[500.0], 0, 20, (0.0, 0.0));
-    while to.count() < 600 {
-        let most = r.pick(&[2, 6, 12, 40]);
-        let n = r.below(most) as usize;
-        let sort = r.below(7);
-        let widths: Vec<f64> = (0..n)
-            .map(|_| match sort {
-                0 => r.pick(&[0.0, -0.0, 214.0, -107.0, 107.5]),
-                1 => r.between(0, 6) as f64 * 107.0,
-                2 => r.between(0, 40) as f64 * 25.0,
-                3 => r.between(0, 20) as f64 / 4.0 + r.pick(&[0.0, 1e-10, 1e-7]),
-                4 => r.between(-600, 600) as f64 + r.pick(&[0.0, 0.3, 0.5]),
-                5 => loop {
-                    let v = doubles::random(r);
-                    if v.is_finite() {
-                        break v;
-                    }
-                },
-                _ => r.pick(&[500.0, 500.0, 600.0, 250.0, 722.0, 714.0, 500.0 + 1.0 / 65536.0]),
-            })
-            .collect();
-        let room = widths.len() + r.below(3) as usize;
-        let pair = type1_to_type2::choose_widths(&widths);
-        add_widths(to, &widths, room, 0, pair);
-        if n > 0 && r.once_in(20) {
-            add_widths(to, &widths, n - 1, 20, (0.0, 0.0));
+    add_chosen(to, &[], 0);
+    add_chosen(to, &[], 5);
+    add_chosen(to, &[500.0, 500.0, 600.0], 0);
+    // One width, two and three equal ones.
+    let unit = 1.0 / 65536.0;
+    let some = [0.0, -0.0, 500.0, -107.0, 107.0, 0.3, unit, -unit, 1e-9, f64::MIN_POSITIVE, 1e16, 1e300, f64::MAX, f64::MIN];
+    for v in some {
+        for n in 1..4 {
+            add_chosen(to, &vec![v; n], n);
         }
+        // And one of each other.
+        for w in some {
+            add_chosen(to, &[v, w], 0);
+            add_chosen(to, &[v, w, v], 1);
+            add_chosen(to, &[f64::from(1 << 20), f64::from(1 << 20), v, w], 0);
+        }
+    }
+    // Spans of exactly 214, and a unit more or less; starts where the sum with 214 is rounded.
+    for low in [0.0, -0.0, -107.0, -107.5, 500.0, 1e6 + unit, 2f64.powi(45), 2f64.powi(53) - 100.0, 1e300] {
+        for k in -2..=2 {
+            let high = low + 214.0 + f64::from(k) * unit;
+            add_chosen(to, &[1e9, 1e9, 1e9, low, high], 0);
+            add_chosen(to, &[1e9, 1e9, 1e9, high, low - 1.0, low], 0);
+            add_chosen(to, &[-1e9, low, -1e9, high + 214.0, -1e9, high, high], 2);
+        }
+    }
+    while to.count() < 2400 {
+        let most = r.pick(&[2, 5, 9]);
+        let n = 1 + r.below(most) as usize;
+        let list = widths(r, n);
+        add_chosen(to, &list, r.below(3) as usize);
+        if r.once_in(20) {
+            add_widths(to, &list, r.below(n as u64) as usize, 20, (0.0, 0.0));
+        }
+    }
+    for n in [200, 300, 400, 500, 600, 1000] {
+        let list = widths(r, n);
+        add_chosen(to, &list, 1);
+        add_widths(to, &list[..n / 10], n / 10 - 1, 20, (0.0, 0.0));
     }
 }
