@@ -310,14 +310,6 @@ fn read_doubles(v: &[u8], from: usize, to: &mut [f64]) -> usize {
     at
 }
 
-// The first n doubles; none where they are not all there.
-fn first(xs: &[f64], n: usize) -> &[f64] {
-    if xs.len() < n {
-        return &xs[..0];
-    }
-    &xs[..n]
-}
-
 // The first n doubles are 0.0, the others are unused.
 fn is_cleared(xs: &[f64], n: usize) -> bool {
     let mut i: usize = 0;
@@ -349,7 +341,7 @@ fn compare_widths(v: &[u8], n: usize, ws: &mut [f64], scratch: &mut [f64]) -> bo
         return false;
     }
     let at = read_doubles(v, 9, &mut ws[..n]);
-    chooses(first(ws, n), size(v, at), v, place(at, 8), scratch)
+    chooses(&ws[..n], size(v, at), v, place(at, 8), scratch)
 }
 
 fn compare_choose_widths(v: &[u8]) -> bool {
