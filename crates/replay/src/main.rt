@@ -1,9 +1,12 @@
 // Compares our functions with vectors recorded from the Rust (tools/oracle/VECTORS.md has their layout).
 // Prints for each file of vectors the function's name, how many were compared and how many differ, then the sums.
 ghost use mathlib.Core.Path.{_≡_};
+ghost use mathlib.Core.List.{_++_};
+ghost use Prim.Native.Nat.{_-_};
 ghost use lib.Dec.{T};
-ghost use lib.ListN.{length};
+ghost use lib.ListN.{length, getD, replicate};
 ghost use lib.Ieee.{binary64, ofBits};
+ghost use Rattle.widths.specs.Widths.{zeroWidth};
 use libc::STDOUT_FILENO;
 
 // The most bytes of a payload.
@@ -124,12 +127,20 @@ fn signed(v: &[u8], at: usize) -> i64 {
     }
 }
 
+// The byte at a place; rest beyond the end.
+fn byte_or(front: &[u8], at: usize, rest: u8) -> u8
+    ensures { λ r. ⌜ r ≡ getD (now (front .entry)) at rest ⌝ }
+{
+    if at < front.len() { front[at] } else { rest }
+}
+
 // The bytes of out are those of front, then each is rest.
-fn holds(out: &[u8], front: &[u8], rest: u8) -> bool {
+fn holds(out: &[u8], front: &[u8], rest: u8) -> bool
+    ensures { λ r. ⌜ (T r → now (out .entry) ≡ now (front .entry) ++ replicate (length (now (out .entry)) - length (now (front .entry))) rest) ⌝ }
+{
     let mut i: usize = 0;
     while i < out.len() {
-        let expected = if i < front.len() { front[i] } else { rest };
-        if out[i] != expected {
+        if out[i] != byte_or(front, i, rest) {
             return false;
         }
         i += 1;
@@ -310,12 +321,20 @@ fn read_doubles(v: &[u8], from: usize, to: &mut [f64]) -> usize {
     at
 }
 
-// The first n doubles are 0.0, the others are unused.
-fn is_cleared(xs: &[f64], n: usize) -> bool {
+// 0.0 below n, rest from n on.
+fn zero_or(n: usize, at: usize, rest: f64) -> f64
+    ensures { λ r. ⌜ r ≡ getD (replicate n zeroWidth) at rest ⌝ }
+{
+    if at < n { 0.0 } else { rest }
+}
+
+// The first n of xs are 0.0, and each other is rest.
+fn is_cleared(xs: &[f64], n: usize, rest: f64) -> bool
+    ensures { λ r. ⌜ (T r → now (xs .entry) ≡ replicate n zeroWidth ++ replicate (length (now (xs .entry)) - n) rest) ⌝ }
+{
     let mut i: usize = 0;
     while i < xs.len() {
-        let expected = if i < n { 0.0 } else { UNUSED };
-        if !same(xs[i], expected) {
+        if !same(xs[i], zero_or(n, i, rest)) {
             return false;
         }
         i += 1;
@@ -333,7 +352,7 @@ fn chooses(ws: &[f64], room: usize, v: &[u8], at: usize, scratch: &mut [f64]) ->
         && same(r.default_width_x, double(v, place(at, 8)))
         && same(r.nominal_width_x, double(v, place(at, 16)))
         && v.len() == place(at, 24)
-        && is_cleared(scratch, room)
+        && is_cleared(scratch, room, UNUSED)
 }
 
 fn compare_widths(v: &[u8], n: usize, ws: &mut [f64], scratch: &mut [f64]) -> bool {

@@ -1,27 +1,34 @@
--- `replay::holds` is safe and ends. The measure is what is left of the output.
-use Prim.Native.Nat.{_-_}
-use lib.ListN.{length}
+-- `replay::holds` meets its contract: below i the output is the front, then rest.
+use native.Mathlib.Nat.{not-suc-le-zero}
+use lib.Dec.{leb→le}
+use mathlib.Core.Path.{_≡_, _∙_}
+use Prim.Native.Nat.{ℕ, _-_, _≤_, _<_}
+use native.Mathlib.Omega.{arith}
+use lib.ListN.{length, getD}
 use borrow.Author.Needs.{needs}
+use Rattle.replay.proofs.Fronts.{front-then, one-more}
 use Rattle.replay.proofs.holds.Statement.{statement}
 use Rattle.replay.proofs.holds.Tie as tie
 
 abbrev Inv-loop : tie.InvT-loop
-Inv-loop out front rest i₀ i = Unit {0}
+Inv-loop out front rest i₀ i = (i ≤ length out) × ((k : ℕ) → k < i → getD out k 0 ≡ getD front k rest)
 
 abbrev μ-loop : tie.MeasureT-loop
 μ-loop out front rest i₀ i = length out - i
 
 loop-holds : tie.Need-loop-holds Inv-loop μ-loop
-loop-holds c = search needs
+loop-holds c =
+    (omega arith, λ k h. absurd (not-suc-le-zero h))
 
-shared-slice-read-expected : tie.Need-shared-slice-read-expected Inv-loop μ-loop
-shared-slice-read-expected c = search needs
+shared-slice-read-if1 : tie.Need-shared-slice-read-if1 Inv-loop μ-loop
+shared-slice-read-if1 c = search needs
 
-shared-slice-read-if2 : tie.Need-shared-slice-read-if2 Inv-loop μ-loop
-shared-slice-read-if2 c = search needs
+byte-or-requires : tie.Need-byte-or-requires Inv-loop μ-loop
+byte-or-requires c κs = search needs
 
 returns : tie.Need-returns Inv-loop μ-loop
-returns c = search needs
+returns c =
+    λ h. absurd h
 
 add-i : tie.Need-add-i Inv-loop μ-loop
 add-i c = search needs
@@ -30,10 +37,15 @@ loop-less : tie.Need-loop-less Inv-loop μ-loop
 loop-less c = search needs
 
 loop-again : tie.Need-loop-again Inv-loop μ-loop
-loop-again c = search needs
+loop-again c =
+    let w = c .before .before .before .before .loop in
+    let a = c .before .before .before .before .before .before .before .args in
+    (omega arith, one-more (λ k. getD (a .out .now) k 0 ≡ getD (a .front .now) k (a .rest)) (w .i) (w .inv .1) (c .if1 .left ∙ c .before .byte-or .ensures))
 
 returns-2 : tie.Need-returns-2 Inv-loop μ-loop
-returns-2 c = search needs
+returns-2 c =
+    let a = c .before .before .before .before .args in
+    λ h. front-then 0 (a .out .now) (a .front .now) (a .rest) (leb→le _ _ h) (λ k l. c .before .loop .inv .1 k (omega arith))
 
 pub holds-spec : {M : Type 1} → statement M
 holds-spec =
@@ -42,8 +54,8 @@ holds-spec =
     Inv-loop
     μ-loop
     loop-holds
-    shared-slice-read-expected
-    shared-slice-read-if2
+    shared-slice-read-if1
+    byte-or-requires
     returns
     add-i
     loop-less

@@ -1,7 +1,7 @@
 -- `replay::read_doubles` is safe and ends. The slice keeps its length, and the measure is what is left of it.
-use mathlib.Core.Path.{_≡_, refl, _∙_}
+use mathlib.Core.Path.{_≡_}
 use Prim.Native.Nat.{_-_}
-use lib.ListN.{length, length-set}
+use lib.ListN.{length}
 use borrow.Author.Needs.{needs}
 use Rattle.replay.proofs.read_doubles.Statement.{statement}
 use Rattle.replay.proofs.read_doubles.Tie as tie
