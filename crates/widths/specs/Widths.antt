@@ -23,7 +23,7 @@ span = fin false 107 (pos 1)
 abbrev pub middle : Float
 middle = fin false 107 (pos 0)
 
--- the rounded widths: document 01, "Numbers"
+-- the rounded widths: document 01, "Numbers (T2)"
 abbrev pub rounded : List Float → List Float
 rounded ws = map quantized ws
 
@@ -67,7 +67,7 @@ others d ws = keep (λ w. ne w d) ws
 abbrev pub held : List Float → Float → ℕ
 held ws s = count (λ w. le s w && le w (add binary64 s span)) ws
 
--- the lowest start whose span holds the most of ws, plus 107, rounded down; 0 if there are none
+-- of the starts, which as in the Rust are widths of ws, the lowest whose span holds the most of ws; plus 107, rounded down; 0 if there are none
 unfoldable pub nominal : List Float → Float
 nominal [] = zeroWidth
 nominal (w ∷ ws) = roundDown (add binary64 (best (held (w ∷ ws)) w ws) middle)
