@@ -1,0 +1,413 @@
+-- What the walks of the byte runner and of the operator step say of the run: nothing here speaks of code. Assumes nothing.
+use mathlib.Core.Path.{_≡_, refl, sym, _∙_, ap, subst}
+use Prim.Native.Nat.{ℕ, zero, suc, _+_, _-_, _*_, _<_, _≤_}
+use native.Mathlib.Omega.{arith}
+use native.Mathlib.Nat.{suc-sub-suc, sub-zero}
+use mathlib.Core.Bool.{Bool, true, false, not}
+use mathlib.Core.List.{List, [], _∷_, _++_}
+use lib.ListN.{length, take, getD}
+use lib.Seq.{paste, length-take-le}
+use lib.Dec.{T, eqb, ltb, eqb→eq, eqb-refl, lit≤, lit<, nltb→le, ltb→lt}
+use lib.Ieee.{Float, nan}
+use lib.Ieee.Scale.{finite}
+use Rattle.charstring.specs.declared.Cursor.{Cursor}
+use Rattle.charstring.specs.Cipher.{Bytes, plain}
+use Rattle.charstring.specs.Cursor.{start, rest}
+use Rattle.charstring.specs.Laws.{rest-start, rest-none, rest-bytes}
+use Rattle.bank.specs.Bank.{bytesAt, found}
+use Rattle.geometry.specs.declared.Point.{Point}
+use Rattle.type1.specs.declared.Stem.{Stem}
+use Rattle.type1.specs.declared.St.{St}
+use Rattle.type1.specs.declared.Ran.{Ran}
+use Rattle.type1.specs.declared.Tok.{Tok}
+use Rattle.type1.specs.declared.Called.{Called}
+use Rattle.type1.specs.Operator as op
+use Rattle.type1.specs.Operator.{Operator, look, oneByte, twoBytes, ofByte, ofEscape}
+use Rattle.type1.specs.State.{State}
+use Rattle.type1.specs.Run.{pick, Limits, within, Outcome, going, returning, ending, refused, andThen, returned, Font, operate, callSubr, execute, runBytes, runBody}
+use Rattle.type1.specs.Memory.{Mem, pointsAt, stemsAt, flexIn, abs, Fit, Holds, Good, Meets, operatorOf, withOps, kept}
+use Rattle.type1.specs.Small.{ranOf, Finite}
+use Rattle.type1.specs.Reading.{cursorOf, withCount, held, goesOn, Reads, Calls}
+use Rattle.type1.specs.Sound.{All, OfFlex, GoodPoint, Sound, SoundOut}
+use Rattle.type1.specs.Cycle.{Ready, limitsOf, fontOf, opD, runD}
+use Rattle.type1.specs.Outcomes.{all-getD}
+use Rattle.type1.specs.SoundLaws.{callSubr-sound, execute-sound, runBytes-sound, runBody-sound}
+
+-- ---- tests
+twice-not : (t : Bool) → T (not (not t)) → T t
+twice-not true _ = tt
+twice-not false h = absurd h
+
+never : (t : Bool) → T (not t) → T t → ⊥
+never true h _ = absurd h
+never false _ h = absurd h
+
+not-eq : (a b : ℕ) → T (not (eqb a b)) → a ≡ b → ⊥
+not-eq a b h e = never (eqb a b) h (subst (λ (k : ℕ). T (eqb a k)) e (eqb-refl a))
+
+picked : {A : Type 0} (t : Bool) (x y : A) → T t → pick t x y ≡ x
+picked true x y _ = refl
+picked false x y h = absurd h
+
+not-picked : {A : Type 0} (t : Bool) (x y : A) → T (not t) → pick t x y ≡ y
+not-picked true x y h = absurd h
+not-picked false x y _ = refl
+
+not-t : (t : Bool) → (T t → ⊥) → T (not t)
+not-t true f = absurd (f tt)
+not-t false _ = tt
+
+-- ---- what callees ask
+getD-take : {A : Type 0} (n : ℕ) (l : List A) (i : ℕ) (d : A) → i < n → getD (take n l) i d ≡ getD l i d
+getD-take zero l i d h = absurd (omega (arith, h))
+getD-take (suc n) [] i d h = refl
+getD-take (suc n) (x ∷ l) zero d h = refl
+getD-take (suc n) (x ∷ l) (suc i) d h = getD-take n l i d (omega (arith, h))
+
+all-front : {A : Type 0} (P : A → Type 0) (l : List A) (a : A) → All P (l ++ (a ∷ [])) → All P l × P a
+unfolding All
+all-front P [] a p = (tt, p .0)
+all-front P (x ∷ l) a p = ((p .0, all-front P l a (p .1) .0), all-front P l a (p .1) .1)
+
+-- below 2 * suc n: below 2 * n, or one of the two after
+below-pair : (Q : ℕ → Type 0) (i n : ℕ) → i < 2 * suc n → (i < 2 * n → Q i) → Q (2 * n) → Q (2 * n + 1) → Q i
+below-pair Q i n h before one two = go (ltb i (2 * n)) refl (eqb i (2 * n)) refl
+  where
+    go : (c : Bool) → ltb i (2 * n) ≡ c → (d : Bool) → eqb i (2 * n) ≡ d → Q i
+    go true is d ed = before (ltb→lt i (2 * n) (subst T (sym is) tt))
+    go false is true ed = subst Q (sym (eqb→eq i (2 * n) (subst T (sym ed) tt))) one
+    go false is false ed = let last : 2 * n + 1 ≡ i = omega (arith, h, nltb→le i (2 * n) (subst (λ (b : Bool). T (not b)) (sym is) tt), not-eq i (2 * n) (subst (λ (b : Bool). T (not b)) (sym ed) tt)) in subst Q last two
+
+points-good : (n : ℕ) (l : List Float) → All GoodPoint (pointsAt n l) → (i : ℕ) → i < 2 * n → Good (getD l i nan)
+unfolding pointsAt
+points-good zero l g i h = absurd (omega (arith, h))
+points-good (suc n) l g i h =
+    let p : Point = record { x = getD l (2 * n) nan; y = getD l (2 * n + 1) nan } in
+    let both : All GoodPoint (pointsAt n l) × GoodPoint p = all-front GoodPoint (pointsAt n l) p g in
+    below-pair (λ k. Good (getD l k nan)) i n h (points-good n l (both .0) i) (both .1 .0) (both .1 .1)
+
+-- what `plain` asks
+pub finite-of : (t : St) (m : Mem) → Ready t m → Finite t (m .ops) (m .cells)
+unfolding abs
+finite-of t m r = record {
+  x = r .sound .point .0 .fine;
+  y = r .sound .point .1 .fine;
+  operands = λ i h. subst (λ (x : Float). T (finite x)) (getD-take (t .operands) (m .ops) i nan h) (all-getD Good (take (t .operands) (m .ops)) i nan (r .sound .operands) (subst (λ (k : ℕ). i < k) (sym (length-take-le (t .operands) (m .ops) (subst (λ (k : ℕ). t .operands ≤ k) (sym (r .fit .ops)) (r .fit .bounds .operands)))) h) .fine);
+  points = λ f. points-good (t .points) (m .cells) (subst (λ (b : Bool). OfFlex Good (flexIn b (t .points) (m .cells))) f (r .sound .flexing));
+}
+
+-- ---- the stem store after a step
+pub kept-same : (t u : St) (e : List Float) (a : List Bool) (z : List Stem) → T (not (not (eqb (u .groups) (t .groups)))) → kept t u e a z ≡ z
+unfolding kept
+kept-same t u e a z h =
+    picked (eqb (t .groups) (u .groups)) z (paste z (t .stems) (stemsAt 0 (t .hints) e a) (t .hints)) (subst (λ (k : ℕ). T (eqb (t .groups) k)) (sym (eqb→eq (u .groups) (t .groups) (twice-not (eqb (u .groups) (t .groups)) h))) (eqb-refl (t .groups)))
+
+pub kept-new : (t u : St) (e : List Float) (a : List Bool) (z : List Stem) → T (not (eqb (u .groups) (t .groups))) → kept t u e a z ≡ paste z (t .stems) (stemsAt 0 (t .hints) e a) (t .hints)
+unfolding kept
+kept-new t u e a z h =
+    not-picked (eqb (t .groups) (u .groups)) z (paste z (t .stems) (stemsAt 0 (t .hints) e a) (t .hints)) (not-t (eqb (t .groups) (u .groups)) (λ y. not-eq (u .groups) (t .groups) h (sym (eqb→eq (t .groups) (u .groups) y))))
+
+pub new-group : (t u : St) → T (not (eqb (u .groups) (t .groups))) → u .groups ≡ t .groups → ⊥
+new-group t u h = not-eq (u .groups) (t .groups) h
+
+-- ---- one operator
+call-op : operatorOf 10 ≡ op.callsubr
+unfolding operatorOf ofByte
+call-op = refl
+
+-- only callsubr has to do with what a call does
+abbrev one-of : Operator → Bool
+one-of op.hstem = false
+one-of op.vstem = false
+one-of op.vmoveto = false
+one-of op.rlineto = false
+one-of op.hlineto = false
+one-of op.vlineto = false
+one-of op.rrcurveto = false
+one-of op.closepath = false
+one-of op.callsubr = true
+one-of op.return = false
+one-of op.hsbw = false
+one-of op.endchar = false
+one-of op.rmoveto = false
+one-of op.hmoveto = false
+one-of op.vhcurveto = false
+one-of op.hvcurveto = false
+one-of op.dotsection = false
+one-of op.vstem3 = false
+one-of op.hstem3 = false
+one-of op.seac = false
+one-of op.sbw = false
+one-of op.div = false
+one-of op.callothersubr = false
+one-of op.pop = false
+one-of op.setcurrentpoint = false
+one-of op.unknown = false
+
+other-call : (lim : Limits) (c d : Outcome) (o : Operator) (s : State) → one-of o ≡ false → operate lim c o s ≡ operate lim d o s
+unfolding operate
+other-call lim c d op.hstem s h = refl
+other-call lim c d op.vstem s h = refl
+other-call lim c d op.vmoveto s h = refl
+other-call lim c d op.rlineto s h = refl
+other-call lim c d op.hlineto s h = refl
+other-call lim c d op.vlineto s h = refl
+other-call lim c d op.rrcurveto s h = refl
+other-call lim c d op.closepath s h = refl
+other-call lim c d op.callsubr s h = absurd (subst T h tt)
+other-call lim c d op.return s h = refl
+other-call lim c d op.hsbw s h = refl
+other-call lim c d op.endchar s h = refl
+other-call lim c d op.rmoveto s h = refl
+other-call lim c d op.hmoveto s h = refl
+other-call lim c d op.vhcurveto s h = refl
+other-call lim c d op.hvcurveto s h = refl
+other-call lim c d op.dotsection s h = refl
+other-call lim c d op.vstem3 s h = refl
+other-call lim c d op.hstem3 s h = refl
+other-call lim c d op.seac s h = refl
+other-call lim c d op.sbw s h = refl
+other-call lim c d op.div s h = refl
+other-call lim c d op.callothersubr s h = refl
+other-call lim c d op.pop s h = refl
+other-call lim c d op.setcurrentpoint s h = refl
+other-call lim c d op.unknown s h = refl
+
+-- a table has callsubr nowhere, or not at b
+abbrev Without : List (ℕ × Operator) → ℕ → Type 0
+Without [] b = Unit {0}
+Without (e ∷ l) b = ((T (one-of (e .1)) → b ≡ e .0 → ⊥) × Without l b)
+
+chosen : (c d : Bool) (x y : Operator) → one-of x ≡ d → (T c → T d → ⊥) → one-of y ≡ false → one-of (op.pick c x y) ≡ false
+chosen false d x y ed f h = h
+chosen true false x y ed f h = ed
+chosen true true x y ed f h = absurd (f tt tt)
+
+looked : (l : List (ℕ × Operator)) (b : ℕ) → Without l b → one-of (look l b) ≡ false
+looked [] b a = refl
+looked (e ∷ l) b a = chosen (eqb b (e .0)) (one-of (e .1)) (e .1) (look l b) refl (λ t u. a .0 u (eqb→eq b (e .0) t)) (looked l b (a .1))
+
+none-at : (b k : ℕ) → T false → b ≡ k → ⊥
+none-at b k t e = absurd t
+
+byte-op : (n : ℕ) → T (not (eqb n 10)) → one-of (ofByte n) ≡ false
+unfolding ofByte
+byte-op n h = looked oneByte n (none-at n 1, (none-at n 3, (none-at n 4, (none-at n 5, (none-at n 6, (none-at n 7, (none-at n 8, (none-at n 9, ((λ t. not-eq n 10 h), (none-at n 11, (none-at n 13, (none-at n 14, (none-at n 21, (none-at n 22, (none-at n 30, (none-at n 31, tt))))))))))))))))
+
+escape-op : (k : ℕ) → one-of (ofEscape k) ≡ false
+unfolding ofEscape
+escape-op k = looked twoBytes k (none-at k 0, (none-at k 1, (none-at k 2, (none-at k 6, (none-at k 7, (none-at k 12, (none-at k 16, (none-at k 17, (none-at k 33, tt)))))))))
+
+either-op : (n : ℕ) → T (not (eqb n 10)) → (c : Bool) → ltb n 256 ≡ c → one-of (operatorOf n) ≡ false
+unfolding operatorOf
+either-op n h true is = rw is (byte-op n h)
+either-op n h false is = rw is (escape-op (n - 256))
+
+one-more : (n : ℕ) → T (not (eqb n 0)) → suc (n - 1) ≡ n
+one-more zero h = absurd h
+one-more (suc n) h = ap suc (suc-sub-suc n zero ∙ sub-zero n)
+
+no-level : (lim : Limits) (f : Font) (l : List ℕ) (s : State) → runBody lim f 0 l s ≡ refused 4
+unfolding runBody
+no-level lim f l s = refl
+
+-- ---- what comes of an outcome
+-- a token that is not an operator
+halted : (f : ℕ) (t : St) (m : Mem) (s : State) (c : Bool) → eqb f 1 ≡ c → Holds t m s → ((f ≡ 1 → ⊥) → 3 ≤ f) → Meets (ranOf t (pick c 0 f)) m (returned (pick c (going s) (refused f)))
+halted f t m s true e holds far = (refl, holds)
+halted f t m s false e holds far = (refl, far (not-eq f 1 (subst (λ (b : Bool). T (not b)) (sym e) tt)))
+
+stays : (f : ℕ) → (f ≡ 1 → ⊥) → pick (eqb f 1) 0 f ≡ f
+stays f h = not-picked (eqb f 1) 0 f (not-t (eqb f 1) (λ y. h (eqb→eq f 1 y)))
+
+back : (f : ℕ) → f ≡ 1 → pick (eqb f 1) 0 f ≡ 0
+back f h = picked (eqb f 1) 0 f (subst (λ (k : ℕ). T (eqb k 1)) (sym h) tt)
+
+apart : (f a b : ℕ) → f ≡ a → f ≡ b → a < b → ⊥
+apart f a b p q h = omega (arith, p, q, h)
+
+above : (f n : ℕ) → f ≡ n → 3 ≤ n → f ≡ 1 → ⊥
+above f n p h q = omega (arith, p, h, q)
+
+stops : (o : Outcome) (k : State → Outcome) (r : Ran) (m : Mem) → Meets r m o → (r .flow ≡ 0 → ⊥) → Meets (ranOf (r .st) (pick (eqb (r .flow) 1) 0 (r .flow))) m (returned (andThen o k))
+stops (going s) k r m e f = absurd (f (e .0))
+stops (returning s) k r m e f = (back (r .flow) (e .0), e .1)
+stops (ending s) k r m e f = (stays (r .flow) (λ y. apart (r .flow) 1 2 y (e .0) (lit< tt)) ∙ e .0, e .1)
+stops (refused n) k r m e f = (stays (r .flow) (above (r .flow) n (e .0) (e .1)) ∙ e .0, e .1)
+
+goes : (o : Outcome) (k : State → Outcome) (r : Ran) (m : Mem) → Meets r m o → r .flow ≡ 0 → ((andThen o k ≡ k (abs (r .st) m)) × (Fit (r .st) m × (SoundOut o → Sound (abs (r .st) m))))
+goes (going s) k r m e z = (ap k (sym (e .1 .is)), (e .1 .fit, λ q. subst Sound (sym (e .1 .is)) q))
+goes (returning s) k r m e z = absurd (apart (r .flow) 0 1 z (e .0) (lit< tt))
+goes (ending s) k r m e z = absurd (apart (r .flow) 0 2 z (e .0) (lit< tt))
+goes (refused n) k r m e z = absurd (let no-way : ⊥ = omega (arith, e .0, e .1, z) in no-way)
+
+module _ (bank : List ℕ) (lenIV levels : ℕ) where
+  abbrev font : Font
+  font = fontOf bank lenIV
+
+  abbrev deepOf : Limits → List ℕ → State → Outcome
+  deepOf lim = runBody lim font levels
+
+  abbrev stepOf : Limits → Operator → State → Outcome
+  stepOf lim = execute lim font (deepOf lim)
+
+  module _ (o : ℕ) (t : St) (m : Mem) where
+    abbrev All′ : Outcome
+    All′ = opD bank lenIV levels o t m
+
+    opD-call : T (eqb o 10) → All′ ≡ callSubr font (deepOf (limitsOf m)) (abs t m)
+    unfolding opD execute operate
+    opD-call h = ap (λ (n : ℕ). stepOf (limitsOf m) (operatorOf n) (abs t m)) (eqb→eq o 10 h) ∙ ap (λ (n : Operator). stepOf (limitsOf m) n (abs t m)) call-op
+
+    -- what `plain` did
+    pub plained : T (not (eqb o 10)) → (room : ℕ) → room ≡ length (m .stems) → (r : Ran) (m′ : Mem) → Meets r m′ (operate (within room (length (m .cmds))) (refused 6) (operatorOf o) (abs t m)) → Meets r m′ All′
+    unfolding opD execute
+    plained h room er r m′ e =
+        subst (Meets r m′) (ap (λ (n : ℕ). operate (within n (length (m .cmds))) (refused 6) (operatorOf o) (abs t m)) er ∙ other-call (limitsOf m) (refused 6) (callSubr font (deepOf (limitsOf m)) (abs t m)) (operatorOf o) (abs t m) (either-op o h (ltb o 256) refl)) e
+
+    module _ (c : Called) (calls : Calls bank lenIV m (abs t m) c) (h : T (eqb o 10)) where
+      -- a call that is refused
+      pub call-refused : (r : Ran) → r ≡ ranOf (c .st) (c .flow) → T (not (eqb (c .flow) 0)) → Meets r m All′
+      call-refused r e n = let off : (3 ≤ c .flow) × ((deep : List ℕ → State → Outcome) → callSubr font deep (abs t m) ≡ refused (c .flow)) = calls .stopped (not-eq (c .flow) 0 n) in
+          subst (Meets r m) (sym (opD-call h ∙ off .1 (deepOf (limitsOf m)))) (ap (λ (q : Ran). q .flow) e, off .0)
+
+      module _ (n : T (not (not (eqb (c .flow) 0)))) where
+        abbrev Made : Type 0
+        Made = (u : State) × Holds (c .st) m u × ((deep : List ℕ → State → Outcome) → callSubr font deep (abs t m) ≡ returned (deep (bytesAt (found (c .index) bank) bank) u))
+
+        made : Made
+        made = calls .called (eqb→eq (c .flow) 0 (twice-not (eqb (c .flow) 0) n))
+
+        opD-made : All′ ≡ returned (deepOf (limitsOf m) (bytesAt (found (c .index) bank) bank) (abs (c .st) m))
+        opD-made = opD-call h ∙ made .2 (deepOf (limitsOf m)) ∙ ap (λ (u : State). returned (deepOf (limitsOf m) (bytesAt (found (c .index) bank) bank) u)) (sym (made .1 .is))
+
+        -- one with no level left for it
+        pub too-deep : (r : Ran) → r ≡ ranOf (c .st) 4 → T (eqb levels 0) → Meets r m All′
+        too-deep r e l = subst (Meets r m) (sym (opD-made ∙ ap (λ (k : ℕ). returned (runBody (limitsOf m) font k (bytesAt (found (c .index) bank) bank) (abs (c .st) m))) (eqb→eq levels 0 l) ∙ ap returned (no-level (limitsOf m) font (bytesAt (found (c .index) bank) bank) (abs (c .st) m)))) (ap (λ (q : Ran). q .flow) e, lit≤ tt)
+
+        -- the state in which the body starts
+        pub ready-call : Bytes bank → Ready t m → Ready (c .st) m
+        ready-call b r = record {
+          fit = made .1 .fit;
+          sound = subst Sound (sym (made .1 .is)) (subst SoundOut (made .2 (λ l u. ending u)) (callSubr-sound (limitsOf m) font (λ l u. ending u) b (λ l u k q. q) (abs t m) (r .sound)));
+        }
+
+        -- what the body did
+        pub called : (body : List ℕ) → body ≡ bytesAt (found (c .index) bank) bank → T (not (eqb levels 0)) → (r : Ran) (m′ : Mem) → Meets r m′ (runD bank lenIV (levels - 1) body (c .st) m) → Meets r m′ All′
+        unfolding runD
+        called body eb l r m′ e =
+            subst (Meets r m′) (ap (λ (k : ℕ). returned (runBody (limitsOf m) font k body (abs (c .st) m))) (one-more levels l) ∙ ap (λ (b : List ℕ). returned (deepOf (limitsOf m) b (abs (c .st) m))) eb ∙ sym opD-made) e
+
+  -- ---- the bytes
+  module _ (code : List ℕ) (enc : Bool) (t₀ : St) (m₀ : Mem) where
+    abbrev lim : Limits
+    lim = limitsOf m₀
+
+    abbrev whole : Outcome
+    whole = runBytes lim (stepOf lim) (plain lenIV code) 0 (abs t₀ m₀)
+
+    abbrev fin : Outcome
+    fin = runD bank lenIV levels code t₀ m₀
+
+    -- what is left of the bytes is what the whole comes to
+    pub record Onward (i key : ℕ) (h : St) (m : Mem) : Type 0 where
+      pub ready : Ready h m
+      pub left : runBytes lim (stepOf lim) (rest (cursorOf i key enc) code) 0 (abs h m) ≡ whole
+
+    fin-is : fin ≡ returned whole
+    unfolding runD runBody
+    fin-is = refl
+
+    pub starts : (i key : ℕ) → cursorOf i key enc ≡ start lenIV code → Ready t₀ m₀ → Onward i key t₀ m₀
+    starts i key e r = record {
+      ready = r;
+      left = ap (λ (k : Cursor). runBytes lim (stepOf lim) (rest k code) 0 (abs t₀ m₀)) e ∙ ap (λ (l : List ℕ). runBytes lim (stepOf lim) l 0 (abs t₀ m₀)) (rest-start lenIV code);
+    }
+
+    module _ (i key : ℕ) (h : St) (m : Mem) (on : Onward i key h m) where
+      -- no byte is left
+      pub ended : ltb i (length code) ≡ false → (r : Ran) → r ≡ ranOf h 0 → Meets r m fin
+      unfolding runBytes
+      ended over r e =
+          subst (λ (q : Ran). Meets q m fin) (sym e) (subst (Meets (ranOf h 0) m) (sym (fin-is ∙ ap returned (sym (on .left) ∙ ap (λ (l : List ℕ). runBytes lim (stepOf lim) l 0 (abs h m)) (rest-none (cursorOf i key enc) code (nltb→le i (length code) (subst (λ (b : Bool). T (not b)) (sym over) tt)))))) (refl, record { is = refl; fit = on .ready .fit }))
+
+      module _ (t : Tok) (os : List Float) (reads : Reads code i key enc h (m .ops) t os) where
+        abbrev m₁ : Mem
+        m₁ = withOps os m
+
+        abbrev n : ℕ
+        n = t .st .operands
+
+        held-is : abs (t .st) m₁ ≡ held n os (abs h m)
+        unfolding abs
+        held-is = ap (λ (u : St). abs u m₁) (reads .state)
+
+        read-is : (f : Operator → State → Outcome) → runBytes lim f (rest (cursorOf i key enc) code) 0 (abs h m) ≡ goesOn t os code enc lim f (abs h m)
+        unfolding abs
+        read-is f = reads .same (on .ready .fit .ops) lim f (abs h m) (λ k. refl)
+
+        fit-count : Fit (withCount n h) m₁
+        fit-count = let f : Fit h m = on .ready .fit in record {
+          bounds = record { operands = reads .few; postscript = f .bounds .postscript; points = f .bounds .points; hints = f .bounds .hints; last = f .bounds .last; groups = f .bounds .groups; entries = f .bounds .entries; ran = f .bounds .ran };
+          ops = reads .whole ∙ f .ops;
+          ps = f .ps;
+          cells = f .cells;
+          edges = f .edges;
+          across = f .across;
+          stems = f .stems;
+          groups = f .groups;
+          entries = f .entries;
+          used = f .used;
+          below = f .below;
+          last = f .last;
+        }
+
+        fit-token : Fit (t .st) m₁
+        fit-token = subst (λ (u : St). Fit u m₁) (sym (reads .state)) fit-count
+
+        going-on : T (not (not (eqb (t .flow) 0))) → (f : Operator → State → Outcome) → goesOn t os code enc lim f (abs h m) ≡ andThen (f (operatorOf (t .op)) (abs (t .st) m₁)) (runBytes lim f (rest (cursorOf (t .next) (t .key) enc) code) 0)
+        going-on z f =
+            picked (eqb (t .flow) 0) (andThen (f (operatorOf (t .op)) (held n os (abs h m))) (runBytes lim f (rest (cursorOf (t .next) (t .key) enc) code) 0)) (pick (eqb (t .flow) 1) (going (held n os (abs h m))) (refused (t .flow))) (twice-not (eqb (t .flow) 0) z)
+            ∙ ap (λ (s : State). andThen (f (operatorOf (t .op)) s) (runBytes lim f (rest (cursorOf (t .next) (t .key) enc) code) 0)) (sym held-is)
+
+        -- the state at an operator
+        pub ready-token : Bytes code → key < 65536 → T (not (not (eqb (t .flow) 0))) → Ready (t .st) m₁
+        ready-token b k z = record {
+          fit = fit-token;
+          sound = subst SoundOut (read-is (λ o s. ending s) ∙ going-on z (λ o s. ending s)) (runBytes-sound lim (λ o s. ending s) (λ o s q. q) (rest (cursorOf i key enc) code) 0 (abs h m) (rest-bytes (cursorOf i key enc) code k b) (on .ready .sound));
+        }
+
+        -- the bytes end, or what stands there is refused
+        pub token-stopped : T (not (eqb (t .flow) 0)) → (r : Ran) → r ≡ ranOf (t .st) (pick (eqb (t .flow) 1) 0 (t .flow)) → Meets r m₁ fin
+        token-stopped z r e =
+            subst (λ (q : Ran). Meets q m₁ fin) (sym e)
+            (subst (Meets (ranOf (t .st) (pick (eqb (t .flow) 1) 0 (t .flow))) m₁) (sym (fin-is ∙ ap returned (sym (on .left) ∙ read-is (stepOf lim) ∙ not-picked (eqb (t .flow) 0) (andThen (stepOf lim (operatorOf (t .op)) (held n os (abs h m))) (runBytes lim (stepOf lim) (rest (cursorOf (t .next) (t .key) enc) code) 0)) (pick (eqb (t .flow) 1) (going (held n os (abs h m))) (refused (t .flow))) z)))
+            (halted (t .flow) (t .st) m₁ (held n os (abs h m)) (eqb (t .flow) 1) refl (record { is = held-is; fit = fit-token }) (reads .number (not-eq (t .flow) 0 z))))
+
+        module _ (ls : length (m .stems) ≡ length (m₀ .stems)) (lc : length (m .cmds) ≡ length (m₀ .cmds)) (z : T (not (not (eqb (t .flow) 0)))) where
+          abbrev did : Outcome
+          did = opD bank lenIV levels (t .op) (t .st) m₁
+
+          abbrev then : State → Outcome
+          then = runBytes lim (stepOf lim) (rest (cursorOf (t .next) (t .key) enc) code) 0
+
+          did-is : did ≡ stepOf lim (operatorOf (t .op)) (abs (t .st) m₁)
+          unfolding opD
+          did-is = λ j. stepOf (within (ls j) (lc j)) (operatorOf (t .op)) (abs (t .st) m₁)
+
+          whole-is : whole ≡ andThen did then
+          whole-is = sym (on .left) ∙ read-is (stepOf lim) ∙ going-on z (stepOf lim) ∙ ap (λ (o : Outcome). andThen o then) (sym did-is)
+
+          -- an operator after which the bytes do not go on
+          pub op-stopped : (r q : Ran) (m₂ : Mem) → Meets r m₂ did → T (not (eqb (r .flow) 0)) → q ≡ ranOf (r .st) (pick (eqb (r .flow) 1) 0 (r .flow)) → Meets q m₂ fin
+          op-stopped r q m₂ e y eq = subst (λ (p : Ran). Meets p m₂ fin) (sym eq) (subst (Meets (ranOf (r .st) (pick (eqb (r .flow) 1) 0 (r .flow))) m₂) (sym (fin-is ∙ ap returned whole-is)) (stops did then r m₂ e (not-eq (r .flow) 0 y)))
+
+          -- one after which they do
+          pub op-went : Bytes bank → Ready (t .st) m₁ → (r : Ran) (m₂ : Mem) → Meets r m₂ did → T (not (not (eqb (r .flow) 0))) → Onward (t .next) (t .key) (r .st) m₂
+          op-went b rd r m₂ e y =
+              let zero′ : r .flow ≡ 0 = eqb→eq (r .flow) 0 (twice-not (eqb (r .flow) 0) y) in
+              let sounds : SoundOut did = subst SoundOut (sym did-is) (execute-sound lim font (deepOf lim) b (λ l s k q. runBody-sound lim font b levels l s k q) (operatorOf (t .op)) (abs (t .st) m₁) (rd .sound)) in
+              record {
+                ready = record { fit = goes did then r m₂ e zero′ .1 .0; sound = goes did then r m₂ e zero′ .1 .1 sounds };
+                left = sym (goes did then r m₂ e zero′ .0) ∙ sym whole-is;
+              }

@@ -1,0 +1,116 @@
+-- Laws: which operator a token names, and what each function says of it.
+use mathlib.Core.Path.{_≡_, refl, sym, ap, ap₂, _∙_, subst}
+use Prim.Native.Nat.{ℕ, zero, suc, _+_, _-_, _*_, _≤_, _<_}
+use native.Mathlib.Omega.{arith}
+use mathlib.Core.Bool.{Bool, true, false}
+use mathlib.Core.List.{List, [], _∷_}
+use borrow.Author.Tests.{eqb-true, eqb-false, ltb-false, ne-eqb}
+use lib.Dec.{eqb, ltb, lit≤}
+use lib.ListN.{length, getD}
+use lib.Ieee.{Float, nan}
+use Rattle.geometry.specs.declared.Point.{Point}
+use Rattle.type1.specs.declared.St.{St}
+use Rattle.type1.specs.declared.Ran.{Ran}
+use Rattle.type1.specs.Operator as op
+use Rattle.type1.specs.Operator.{Operator, ofByte, ofEscape}
+use Rattle.type1.specs.State.{State, withOpen}
+use Rattle.type1.specs.Run.{Limits, within, Outcome, going, returning, ending, refused, cleared, stems3, divD, popD, callOtherSubr, operate, pointAt}
+use Rattle.type1.specs.Memory.{Mem, Holds, Meets, operatorOf, after, withOps, withPs, withCells, withHints, withPath}
+use Rattle.type1.specs.Reading.{withCount}
+use Rattle.type1.specs.Small.{ranOf, closedRan, withOpened, Space}
+use Rattle.type1.proofs.Stacks.{cleared-holds, from-cleared}
+use Rattle.type1.proofs.Steps.{bearing-is}
+use Rattle.type1.proofs.Groups.{after-none}
+use Rattle.type1.proofs.Paths.{opens}
+use Rattle.type1.proofs.OtherSubrs.{Others}
+
+-- ---- no key of a match
+abbrev pub NoneOf : Type 0 → List ℕ → ℕ → Type 0
+NoneOf N [] n = N
+NoneOf N (k ∷ ks) n = NoneOf (N × (n ≡ k → ⊥)) ks n
+
+abbrev pub keys : List ℕ
+keys = 1 ∷ 3 ∷ 4 ∷ 5 ∷ 6 ∷ 7 ∷ 8 ∷ 9 ∷ 11 ∷ 13 ∷ 14 ∷ 21 ∷ 22 ∷ 30 ∷ 31 ∷ 256 ∷ 257 ∷ 258 ∷ 262 ∷ 263 ∷ 268 ∷ 272 ∷ 273 ∷ 289 ∷ []
+
+module _ (lim : Limits) (n : ℕ) (s : State) (r : NoneOf (Unit {0}) keys n) where
+  one-byte : (b : Bool) → eqb n 10 ≡ b → ltb n 256 ≡ true → operate lim (refused 6) (operatorOf n) s ≡ refused 6
+  unfolding operatorOf ofByte operate
+  one-byte true e q = rw (q, ap ofByte (eqb-true n 10 e))
+  one-byte false e q = rw (q, ne-eqb n 1 (r .0 .0 .0 .0 .0 .0 .0 .0 .0 .0 .0 .0 .0 .0 .0 .0 .0 .0 .0 .0 .0 .0 .0 .1), ne-eqb n 3 (r .0 .0 .0 .0 .0 .0 .0 .0 .0 .0 .0 .0 .0 .0 .0 .0 .0 .0 .0 .0 .0 .0 .1), ne-eqb n 4 (r .0 .0 .0 .0 .0 .0 .0 .0 .0 .0 .0 .0 .0 .0 .0 .0 .0 .0 .0 .0 .0 .1), ne-eqb n 5 (r .0 .0 .0 .0 .0 .0 .0 .0 .0 .0 .0 .0 .0 .0 .0 .0 .0 .0 .0 .0 .1), ne-eqb n 6 (r .0 .0 .0 .0 .0 .0 .0 .0 .0 .0 .0 .0 .0 .0 .0 .0 .0 .0 .0 .1), ne-eqb n 7 (r .0 .0 .0 .0 .0 .0 .0 .0 .0 .0 .0 .0 .0 .0 .0 .0 .0 .0 .1), ne-eqb n 8 (r .0 .0 .0 .0 .0 .0 .0 .0 .0 .0 .0 .0 .0 .0 .0 .0 .0 .1), ne-eqb n 9 (r .0 .0 .0 .0 .0 .0 .0 .0 .0 .0 .0 .0 .0 .0 .0 .0 .1), e, ne-eqb n 11 (r .0 .0 .0 .0 .0 .0 .0 .0 .0 .0 .0 .0 .0 .0 .0 .1), ne-eqb n 13 (r .0 .0 .0 .0 .0 .0 .0 .0 .0 .0 .0 .0 .0 .0 .1), ne-eqb n 14 (r .0 .0 .0 .0 .0 .0 .0 .0 .0 .0 .0 .0 .0 .1), ne-eqb n 21 (r .0 .0 .0 .0 .0 .0 .0 .0 .0 .0 .0 .0 .1), ne-eqb n 22 (r .0 .0 .0 .0 .0 .0 .0 .0 .0 .0 .0 .1), ne-eqb n 30 (r .0 .0 .0 .0 .0 .0 .0 .0 .0 .0 .1), ne-eqb n 31 (r .0 .0 .0 .0 .0 .0 .0 .0 .0 .1))
+
+  two-bytes : ltb n 256 ≡ false → operate lim (refused 6) (operatorOf n) s ≡ refused 6
+  unfolding operatorOf ofEscape operate
+  two-bytes q = let h = ltb-false n 256 q in rw (q, ne-eqb (n - 256) 0 (λ z. r .0 .0 .0 .0 .0 .0 .0 .0 .1 (let y : n ≡ 256 = omega arith in y)), ne-eqb (n - 256) 1 (λ z. r .0 .0 .0 .0 .0 .0 .0 .1 (let y : n ≡ 257 = omega arith in y)), ne-eqb (n - 256) 2 (λ z. r .0 .0 .0 .0 .0 .0 .1 (let y : n ≡ 258 = omega arith in y)), ne-eqb (n - 256) 6 (λ z. r .0 .0 .0 .0 .0 .1 (let y : n ≡ 262 = omega arith in y)), ne-eqb (n - 256) 7 (λ z. r .0 .0 .0 .0 .1 (let y : n ≡ 263 = omega arith in y)), ne-eqb (n - 256) 12 (λ z. r .0 .0 .0 .1 (let y : n ≡ 268 = omega arith in y)), ne-eqb (n - 256) 16 (λ z. r .0 .0 .1 (let y : n ≡ 272 = omega arith in y)), ne-eqb (n - 256) 17 (λ z. r .0 .1 (let y : n ≡ 273 = omega arith in y)), ne-eqb (n - 256) 33 (λ z. r .1 (let y : n ≡ 289 = omega arith in y)))
+
+  pub no-operator : operate lim (refused 6) (operatorOf n) s ≡ refused 6
+  no-operator = split (ltb n 256) refl
+    where
+      split : (b : Bool) → ltb n 256 ≡ b → operate lim (refused 6) (operatorOf n) s ≡ refused 6
+      split true q = one-byte (eqb n 10) refl q
+      split false q = two-bytes q
+
+-- ---- what `plain` says, arm by arm
+module _ (t : St) (r : Ran) (o ps x e : List Float) (a : List Bool) (c : List ℕ) (room n k : ℕ) (w : Operator) (key : n ≡ k) (is : operatorOf k ≡ w) where
+  named : operatorOf n ≡ w
+  named = ap operatorOf key ∙ is
+
+  abbrev Does : List Float → List Float → List Float → List Float → List Bool → List ℕ → Type 0
+  Does o' ps' x' e' a' c' = ((m : Mem) (s : State) → length (m .stems) ≡ room → Holds t (withOps o (withPs ps (withCells x (withPath e a c m)))) s → Meets r (withOps o' (withPs ps' (withCells x' (after t r e' a' c' m)))) (operate (within room (length c)) (refused 6) (operatorOf n) s)) × Space t (r .st) room
+
+  arm : (o' ps' x' e' : List Float) (a' : List Bool) (c' : List ℕ) → Space t (r .st) room
+      → ((m : Mem) (s : State) → length (m .stems) ≡ room → Holds t (withOps o (withPs ps (withCells x (withPath e a c m)))) s → Meets r (withOps o' (withPs ps' (withCells x' (after t r e' a' c' m)))) (operate (within room (length c)) (refused 6) w s))
+      → Does o' ps' x' e' a' c'
+  arm o' ps' x' e' a' c' p f = (λ m s q H. subst (λ (v : Operator). Meets r (withOps o' (withPs ps' (withCells x' (after t r e' a' c' m)))) (operate (within room (length c)) (refused 6) v s)) (sym named) (f m s q H), p)
+
+  -- no group is made
+  quiet : (o' ps' x' e' : List Float) (a' : List Bool) → r .st .groups ≡ t .groups
+      → ((m : Mem) (s : State) → Holds t (withOps o (withPs ps (withCells x (withPath e a c m)))) s → Meets r (withOps o' (withPs ps' (withCells x' (withPath e' a' c m)))) (operate (within room (length c)) (refused 6) w s))
+      → Does o' ps' x' e' a' c
+  quiet o' ps' x' e' a' g f = arm o' ps' x' e' a' c (λ z. absurd (z g)) (λ m s q H. after-none t r e' a' c (withOps o' (withPs ps' (withCells x' m))) (operate (within room (length c)) (refused 6) w s) g (f m s H))
+
+  -- a path command
+  pub path-arm : (e' : List Float) (a' : List Bool) (c' : List ℕ)
+      → ((m : Mem) (s : State) (d : Outcome) → length (m .stems) ≡ room → Holds t (withOps o (withPath e a c m)) s → Meets r (withOps o (after t r e' a' c' m)) (operate (within room (length c)) d w s))
+      → Space t (r .st) room → Does o ps x e' a' c'
+  path-arm e' a' c' f p = arm o ps x e' a' c' p (λ m s q H. f (withPs ps (withCells x m)) s (refused 6) q H)
+
+  -- a stem
+  pub stem-arm : (e' : List Float) (a' : List Bool)
+      → ((m : Mem) (s : State) (d : Outcome) (room words : ℕ) → Holds t (withOps o (withCells x (withHints e a m))) s → Meets r (withOps o (withCells x (withHints e' a' m))) (operate (within room words) d w s))
+      → r .st .groups ≡ t .groups → Does o ps x e' a' c
+  stem-arm e' a' f g = quiet o ps x e' a' g (λ m s H. f (withPs ps (withPath e a c m)) s (refused 6) room (length c) H)
+
+  -- the side bearing
+  pub bearing-arm : (x' : List Float)
+      → ((m : Mem) (s : State) (d : Outcome) (room words : ℕ) → Holds t (withOps o (withCells x m)) s → Meets r (withOps o (withCells x' m)) (operate (within room words) d w s))
+      → r .st .groups ≡ t .groups → Does o ps x' e a c
+  bearing-arm x' f g = quiet o ps x' e a g (λ m s H. f (withPs ps (withPath e a c m)) s (refused 6) room (length c) H)
+
+  -- three stems
+  pub stems3-arm : (h : Bool) (from : Float) (e' : List Float) (a' : List Bool)
+      → ((s : State) (lim : Limits) → s .bearing ≡ pointAt (getD x 16 nan) (getD x 17 nan) → operate lim (refused 6) w s ≡ stems3 lim h from s)
+      → ((m : Mem) (s : State) (room words : ℕ) → Holds t (withOps o (withHints e a m)) s → Meets r (withOps o (withHints e' a' m)) (stems3 (within room words) h from s))
+      → r .st .groups ≡ t .groups → Does o ps x e' a' c
+  stems3-arm h from e' a' b f g =
+      quiet o ps x e' a' g (λ m s H. subst (Meets r (withOps o (withPs ps (withCells x (withPath e' a' c m))))) (sym (b s (within room (length c)) (bearing-is t _ s H))) (f (withPs ps (withCells x (withPath e a c m))) s room (length c) H))
+
+  pub div-arm : (o' : List Float) → ((s : State) (lim : Limits) → operate lim (refused 6) w s ≡ divD s) → ((m : Mem) (s : State) → Holds t (withOps o m) s → Meets r (withOps o' m) (divD s)) → r .st .groups ≡ t .groups → Does o' ps x e a c
+  div-arm o' b f g = quiet o' ps x e a g (λ m s H. subst (Meets r (withOps o' (withPs ps (withCells x (withPath e a c m))))) (sym (b s (within room (length c)))) (f (withPs ps (withCells x (withPath e a c m))) s H))
+
+  pub pop-arm : (o' : List Float) → ((s : State) (lim : Limits) → operate lim (refused 6) w s ≡ popD lim s) → ((m : Mem) (s : State) (room words : ℕ) → Holds t (withOps o (withPs ps m)) s → Meets r (withOps o' (withPs ps m)) (popD (within room words) s)) → r .st .groups ≡ t .groups → Does o' ps x e a c
+  pop-arm o' b f g = quiet o' ps x e a g (λ m s H. subst (Meets r (withOps o' (withPs ps (withCells x (withPath e a c m))))) (sym (b s (within room (length c)))) (f (withCells x (withPath e a c m)) s room (length c) H))
+
+  pub other-arm : (ps' x' e' : List Float) (a' : List Bool) (c' : List ℕ) → ((s : State) (lim : Limits) → operate lim (refused 6) w s ≡ callOtherSubr lim s) → Others t r o ps x e a c ps' x' e' a' c' room → Space t (r .st) room → Does o ps' x' e' a' c'
+  other-arm ps' x' e' a' c' b f p = arm o ps' x' e' a' c' p (λ m s q H. subst (Meets r (withOps o (withPs ps' (withCells x' (after t r e' a' c' m))))) (sym (b s (within room (length c)))) (f m s q H))
+
+  -- what changes no array: the state u is left, and the run's outcome says so
+  pub state-arm : (out : State → Outcome) (u : St) (f : ℕ) → r ≡ ranOf u f → u .groups ≡ t .groups → ((s : State) (lim : Limits) → operate lim (refused 6) w s ≡ out s) → ((m : Mem) (s : State) → Holds t m s → Meets (ranOf u f) m (out s)) → Does o ps x e a c
+  state-arm out u f p g b h = quiet o ps x e a (ap (λ (v : Ran). v .st .groups) p ∙ g) (λ m s H. subst (Meets r (withOps o (withPs ps (withCells x (withPath e a c m))))) (sym (b s (within room (length c)))) (subst (λ (v : Ran). Meets v (withOps o (withPs ps (withCells x (withPath e a c m)))) (out s)) (sym p) (h (withOps o (withPs ps (withCells x (withPath e a c m)))) s H)))
+
+pub closes : (t : St) (m : Mem) (s : State) → Holds t m s → Meets (closedRan t) m (going (withOpen false (cleared s)))
+closes t m s H = (refl, opens (withCount 0 t) m (cleared s) false (cleared-holds t m s H))
+
+-- no key
+pub rest-arm : (t : St) (r : Ran) (o ps x e : List Float) (a : List Bool) (c : List ℕ) (room n : ℕ) → r ≡ ranOf t 6 → NoneOf (Unit {0}) keys n
+    → ((m : Mem) (s : State) → length (m .stems) ≡ room → Holds t (withOps o (withPs ps (withCells x (withPath e a c m)))) s → Meets r (withOps o (withPs ps (withCells x (after t r e a c m)))) (operate (within room (length c)) (refused 6) (operatorOf n) s)) × Space t (r .st) room
+rest-arm t r o ps x e a c room n p z = (λ m s q H. subst (Meets r (withOps o (withPs ps (withCells x (after t r e a c m))))) (sym (no-operator (within room (length c)) n s z)) (ap (λ (v : Ran). v .flow) p, lit≤ tt), λ y. absurd (y (ap (λ (v : Ran). v .st .groups) p)))

@@ -1,0 +1,292 @@
+-- Laws: the stems in force and those of the last group, as the arrays hold them.
+use mathlib.Core.Path.{_≡_, refl, sym, ap, ap₂, _∙_, subst}
+use Prim.Native.Nat.{ℕ, zero, suc, _+_, _-_, _*_, _≤_, _<_}
+use native.Mathlib.Nat.{zero-add, pos-of-ne-zero}
+use native.Mathlib.Numerals.{add-one}
+use native.Mathlib.Omega.{arith}
+use mathlib.Core.Bool.{Bool, true, false, not, _&&_, _||_, Bool·beq, true≢false}
+use mathlib.Core.List.{List, [], _∷_, _++_}
+use borrow.Author.Tests.{eq-eqb, ne-eqb, le-leb, lt-leb, eqb-true, eqb-false, lt-ltb, le-ltb}
+use lib.Dec.{T, eqb, leb, ltb, lit≤}
+use lib.Arith.{lt-of-le-ne}
+use lib.ListN.{length, getD, take, drop, set, length-set, length-append}
+use lib.Seq.{getD-set-same, getD-set-other, getD-take}
+use lib.Ieee.{Float, nan, binary64, eq}
+use lib.Ieee.Scale.{finite}
+use Rattle.type1.specs.declared.Stem.{Stem}
+use Rattle.type1.specs.declared.St.{St}
+use Rattle.type1.specs.declared.Ran.{Ran}
+use Rattle.type1.specs.State.{State, withHints, sameStem, isIn, sameStems}
+use Rattle.type1.specs.Run.{pick, Limits, within, Outcome, going, refused, check, stemOf, stem}
+use Rattle.type1.specs.Memory.{Mem, stemAt, stemsAt, abs, Bounds, Fit, Holds, Meets}
+use Rattle.type1.specs.Memory as Memory
+use Rattle.type1.specs.Small.{ranOf, Copied}
+
+-- ---- a stem more at the end
+in-more : (l : List Stem) (t s : Stem) → isIn (l ++ (t ∷ [])) s ≡ (isIn l s || sameStem t s)
+unfolding isIn
+in-more [] t s = or-false (sameStem t s)
+  where
+    or-false : (b : Bool) → (b || false) ≡ b
+    or-false true = refl
+    or-false false = refl
+in-more (u ∷ l) t s = ap (λ (b : Bool). sameStem u s || b) (in-more l t s) ∙ assoc (sameStem u s) (isIn l s) (sameStem t s)
+  where
+    assoc : (a b c : Bool) → (a || (b || c)) ≡ ((a || b) || c)
+    assoc true b c = refl
+    assoc false b c = refl
+
+stems-suc : (e : List Float) (a : List Bool) (i : ℕ) → stemsAt 0 (suc i) e a ≡ stemsAt 0 i e a ++ (stemAt e a i ∷ [])
+unfolding stemsAt
+stems-suc e a i = ap (λ (n : ℕ). stemsAt 0 i e a ++ (stemAt e a n ∷ [])) (zero-add i)
+
+-- none of the first i is the stem
+pub none-more : (e : List Float) (a : List Bool) (i : ℕ) (s : Stem) → isIn (stemsAt 0 i e a) s ≡ false → sameStem (stemAt e a i) s ≡ false → isIn (stemsAt 0 (i + 1) e a) s ≡ false
+none-more e a i s h k = ap (λ (n : ℕ). isIn (stemsAt 0 n e a) s) (add-one i) ∙ ap (λ (l : List Stem). isIn l s) (stems-suc e a i) ∙ in-more (stemsAt 0 i e a) (stemAt e a i) s ∙ ap₂ (λ (x y : Bool). x || y) h k
+
+-- the one at i is
+pub found-at : (e : List Float) (a : List Bool) (i n : ℕ) (s : Stem) → i < n → sameStem (stemAt e a i) s ≡ true → true ≡ isIn (stemsAt 0 n e a) s
+found-at e a i zero s l h = absurd (let z : ⊥ = omega arith in z)
+found-at e a i (suc n) s l h = sym (ap (λ (q : List Stem). isIn q s) (stems-suc e a n) ∙ in-more (stemsAt 0 n e a) (stemAt e a n) s ∙ split (eqb i n) refl (λ k. found-at e a i n s k h))
+  where
+    or-true : (b : Bool) → (b || true) ≡ true
+    or-true true = refl
+    or-true false = refl
+
+    split : (b : Bool) → eqb i n ≡ b → (i < n → true ≡ isIn (stemsAt 0 n e a) s) → (isIn (stemsAt 0 n e a) s || sameStem (stemAt e a n) s) ≡ true
+    split true q rec = ap (λ (x : Bool). isIn (stemsAt 0 n e a) s || x) (ap (λ (j : ℕ). sameStem (stemAt e a j) s) (sym (eqb-true i n q)) ∙ h) ∙ or-true (isIn (stemsAt 0 n e a) s)
+    split false q rec = let g : i ≤ n = omega arith in ap (λ (x : Bool). x || sameStem (stemAt e a n) s) (sym (rec (lt-of-le-ne g (eqb-false i n q))))
+
+-- ---- two stems, field by field
+pub other-way : (h g : Bool) (p w q v : Float) → h ≡ not g → false ≡ sameStem (stemOf h p w) (stemOf g q v)
+other-way true true p w q v e = absurd (true≢false e)
+other-way true false p w q v e = refl
+other-way false true p w q v e = refl
+other-way false false p w q v e = absurd (true≢false (sym e))
+
+pub same-way : (h g : Bool) (p w q v : Float) → h ≡ g → eq p q ≡ true → eq w v ≡ sameStem (stemOf h p w) (stemOf g q v)
+same-way true true p w q v e k = sym (ap (λ (b : Bool). b && eq w v) k)
+same-way false false p w q v e k = sym (ap (λ (b : Bool). b && eq w v) k)
+same-way true false p w q v e k = absurd (true≢false e)
+same-way false true p w q v e k = absurd (true≢false (sym e))
+
+pub other-edge : (h g : Bool) (p w q v : Float) → eq p q ≡ false → false ≡ sameStem (stemOf h p w) (stemOf g q v)
+other-edge h g p w q v k = sym (ap (λ (b : Bool). Bool·beq h g && (b && eq w v)) k ∙ none (Bool·beq h g))
+  where
+    none : (b : Bool) → (b && false) ≡ false
+    none true = refl
+    none false = refl
+
+pub none-first : (e : List Float) (a : List Bool) (s : Stem) → isIn (stemsAt 0 0 e a) s ≡ false
+unfolding isIn stemsAt
+none-first e a s = refl
+
+pub none-all : (e : List Float) (a : List Bool) (i n : ℕ) (s : Stem) → i ≤ n → n ≤ i → isIn (stemsAt 0 i e a) s ≡ false → false ≡ isIn (stemsAt 0 n e a) s
+none-all e a i n s h k p = sym (ap (λ (j : ℕ). isIn (stemsAt 0 j e a) s) (let z : n ≡ i = omega arith in z) ∙ p)
+
+-- ---- the same stems in other arrays
+pub stems-same : (from k : ℕ) (e e' : List Float) (a a' : List Bool) → ((i : ℕ) → i < k → stemAt e a (from + i) ≡ stemAt e' a' (from + i)) → stemsAt from k e a ≡ stemsAt from k e' a'
+unfolding stemsAt
+stems-same from zero e e' a a' h = refl
+stems-same from (suc k) e e' a a' h = ap₂ (λ (l : List Stem) (t : Stem). l ++ (t ∷ [])) (stems-same from k e e' a a' (λ i l. h i (omega arith))) (h k (omega arith))
+
+pub stems-length : (from k : ℕ) (e : List Float) (a : List Bool) → length (stemsAt from k e a) ≡ k
+unfolding stemsAt
+stems-length from zero e a = refl
+stems-length from (suc k) e a = length-append (stemsAt from k e a) (stemAt e a (from + k) ∷ []) ∙ (let z = stems-length from k e a in let y : length (stemsAt from k e a) + 1 ≡ suc k = omega arith in y)
+
+-- ---- a stem comes in force
+abbrev pub withStem : St → St
+withStem t = record { operands = t .operands; postscript = t .postscript; x = t .x; y = t .y; opened = t .opened; flexing = t .flexing; points = t .points; hints = t .hints + 1; changed = true; last = t .last; groups = t .groups; stems = t .stems; entries = t .entries; divided = t .divided; ran = t .ran }
+
+abbrev edgesWith : ℕ → Float → Float → List Float → List Float
+edgesWith n p w e = set (set e (2 * n) p) (2 * n + 1) w
+
+stem-other : (n i : ℕ) (h : Bool) (p w : Float) (e : List Float) (a : List Bool) → (i ≡ n → ⊥) → stemAt (edgesWith n p w e) (set a n h) i ≡ stemAt e a i
+stem-other n i h p w e a ne =
+    let x : getD (edgesWith n p w e) (2 * i) nan ≡ getD e (2 * i) nan = getD-set-other (set e (2 * n) p) (2 * n + 1) (2 * i) w nan (λ (q : 2 * i ≡ 2 * n + 1). let z : ⊥ = omega arith in z) ∙ getD-set-other e (2 * n) (2 * i) p nan (λ (q : 2 * i ≡ 2 * n). ne (let z : i ≡ n = omega arith in z)) in
+    let y : getD (edgesWith n p w e) (2 * i + 1) nan ≡ getD e (2 * i + 1) nan = getD-set-other (set e (2 * n) p) (2 * n + 1) (2 * i + 1) w nan (λ (q : 2 * i + 1 ≡ 2 * n + 1). ne (let z : i ≡ n = omega arith in z)) ∙ getD-set-other e (2 * n) (2 * i + 1) p nan (λ (q : 2 * i + 1 ≡ 2 * n). let z : ⊥ = omega arith in z) in
+    let b : getD (set a n h) i false ≡ getD a i false = getD-set-other a n i h false ne in
+    cc
+
+stem-here : (n : ℕ) (h : Bool) (p w : Float) (e : List Float) (a : List Bool) → 2 * n + 1 < length e → n < length a → stemAt (edgesWith n p w e) (set a n h) n ≡ stemOf h p w
+stem-here n h p w e a l k =
+    let x : getD (edgesWith n p w e) (2 * n) nan ≡ p = getD-set-other (set e (2 * n) p) (2 * n + 1) (2 * n) w nan (λ (q : 2 * n ≡ 2 * n + 1). let z : ⊥ = omega arith in z) ∙ getD-set-same e (2 * n) p nan (omega arith) in
+    let y : getD (edgesWith n p w e) (2 * n + 1) nan ≡ w = getD-set-same (set e (2 * n) p) (2 * n + 1) w nan (subst (λ (j : ℕ). 2 * n + 1 < j) (sym (length-set e (2 * n) p)) l) in
+    let b : getD (set a n h) n false ≡ h = getD-set-same a n h false k in
+    cc
+
+module _ (t : St) (m : Mem) (s : State) (H : Holds t m s) (room words : ℕ) (h : Bool) (p w : Float) where
+  pub add-infinite : (r : Ran) → r ≡ ranOf t 14 → finite p ≡ false → Meets r m (stem (within room words) h p w s)
+  unfolding stem
+  add-infinite r e f = subst (λ (b : Bool). Meets r m (check b 14 (pick (isIn (s .hints) (stemOf h p w)) (going s) (check (leb (length (s .hints) + 1) 256) 16 (going (withHints (s .hints ++ (stemOf h p w ∷ [])) s)))))) (sym f) (ap (λ (q : Ran). q .flow) e, lit≤ tt)
+
+  hints-are : s .hints ≡ stemsAt 0 (t .hints) (m .edges) (m .across)
+  unfolding abs
+  hints-are = sym (ap (λ (u : State). u .hints) (H .is))
+
+  module _ (f : finite p ≡ true) where
+    past : stem (within room words) h p w s ≡ pick (isIn (s .hints) (stemOf h p w)) (going s) (check (leb (length (s .hints) + 1) 256) 16 (going (withHints (s .hints ++ (stemOf h p w ∷ [])) s)))
+    unfolding stem
+    past = ap (λ (b : Bool). check b 14 (pick (isIn (s .hints) (stemOf h p w)) (going s) (check (leb (length (s .hints) + 1) 256) 16 (going (withHints (s .hints ++ (stemOf h p w ∷ [])) s))))) f
+
+    pub add-same : (r : Ran) → r ≡ ranOf t 0 → isIn (stemsAt 0 (t .hints) (m .edges) (m .across)) (stemOf h p w) ≡ true → Meets r m (stem (within room words) h p w s)
+    add-same r e i =
+        subst (Meets r m) (sym (past ∙ ap (λ (b : Bool). pick b (going s) (check (leb (length (s .hints) + 1) 256) 16 (going (withHints (s .hints ++ (stemOf h p w ∷ [])) s)))) (ap (λ (l : List Stem). isIn l (stemOf h p w)) hints-are ∙ i)))
+        (ap (λ (q : Ran). q .flow) e, subst (λ (q : Ran). Holds (q .st) m s) (sym e) H)
+
+    count-is : length (s .hints) ≡ t .hints
+    count-is = ap length hints-are ∙ stems-length 0 (t .hints) (m .edges) (m .across)
+
+    new : isIn (stemsAt 0 (t .hints) (m .edges) (m .across)) (stemOf h p w) ≡ false → (b : Bool) → leb (t .hints + 1) 256 ≡ b → stem (within room words) h p w s ≡ check b 16 (going (withHints (s .hints ++ (stemOf h p w ∷ [])) s))
+    new i b q =
+        past ∙ ap (λ (b : Bool). pick b (going s) (check (leb (length (s .hints) + 1) 256) 16 (going (withHints (s .hints ++ (stemOf h p w ∷ [])) s)))) (ap (λ (l : List Stem). isIn l (stemOf h p w)) hints-are ∙ i)
+        ∙ ap (λ (b : Bool). check b 16 (going (withHints (s .hints ++ (stemOf h p w ∷ [])) s))) (ap (λ (n : ℕ). leb (n + 1) 256) count-is ∙ q)
+
+    pub add-full : (r : Ran) → r ≡ ranOf t 16 → isIn (stemsAt 0 (t .hints) (m .edges) (m .across)) (stemOf h p w) ≡ false → t .hints ≡ 256 → Meets r m (stem (within room words) h p w s)
+    add-full r e i n = subst (Meets r m) (sym (new i false (lt-leb (t .hints + 1) 256 (omega arith)))) (ap (λ (q : Ran). q .flow) e, lit≤ tt)
+
+    pub add-new : (r : Ran) → r ≡ ranOf (withStem t) 0 → isIn (stemsAt 0 (t .hints) (m .edges) (m .across)) (stemOf h p w) ≡ false → (t .hints ≡ 256 → ⊥)
+        → Meets r (Memory.withHints (set (set (m .edges) (2 * t .hints) p) (2 * t .hints + 1) w) (set (m .across) (t .hints) h) m) (stem (within room words) h p w s)
+    unfolding abs
+    add-new r e i ne =
+        let F = H .fit in
+        let n = t .hints in
+        let le : n < 256 = lt-of-le-ne (F .bounds .hints) ne in
+        let E = m .edges in
+        let A = m .across in
+        let E' = edgesWith n p w E in
+        let A' = set A n h in
+        let le1 = F .edges in
+        let le2 = F .across in
+        let same : (from k : ℕ) → ((j : ℕ) → j < k → from + j ≡ n → ⊥) → stemsAt from k E' A' ≡ stemsAt from k E A = (λ from k d. stems-same from k E' E A' A (λ j l. stem-other n (from + j) h p w E A (d j l))) in
+        let more : stemsAt 0 (n + 1) E' A' ≡ stemsAt 0 n E A ++ (stemOf h p w ∷ []) = ap (λ (j : ℕ). stemsAt 0 j E' A') (add-one n) ∙ stems-suc E' A' n ∙ ap₂ (λ (l : List Stem) (u : Stem). l ++ (u ∷ [])) (same 0 n (λ j l q. let z : ⊥ = omega arith in z)) (stem-here n h p w E A (omega arith) (omega arith)) in
+        subst (Meets r (Memory.withHints E' A' m)) (sym (new i true (le-leb (n + 1) 256 (omega arith)))) (
+          ap (λ (q : Ran). q .flow) e,
+          subst (λ (q : Ran). Holds (q .st) (Memory.withHints E' A' m) (withHints (s .hints ++ (stemOf h p w ∷ [])) s)) (sym e) (record {
+            is = ap (λ (l : List Stem). withHints l (abs t m)) more ∙ ap (λ (u : State). withHints (u .hints ++ (stemOf h p w ∷ [])) u) (H .is);
+            fit = record {
+              bounds = record { operands = F .bounds .operands; postscript = F .bounds .postscript; points = F .bounds .points; hints = omega arith; last = F .bounds .last; groups = F .bounds .groups; entries = F .bounds .entries; ran = F .bounds .ran };
+              ops = F .ops;
+              ps = F .ps;
+              cells = F .cells;
+              edges = length-set (set E (2 * n) p) (2 * n + 1) w ∙ length-set E (2 * n) p ∙ F .edges;
+              across = length-set A n h ∙ F .across;
+              stems = F .stems;
+              groups = F .groups;
+              entries = F .entries;
+              used = F .used;
+              below = F .below;
+              last = λ g l. F .last g l ∙ ap (λ (q : List Stem). sameStems q l) (sym (same 256 (t .last) (λ j g q. let z : ⊥ = omega arith in z)));
+            };
+          }),
+        )
+
+pub in-bounds : (t : St) (r : Ran) (n : ℕ) → r ≡ ranOf t n → t .hints ≤ 256 → (r .st .hints ≤ 256) × (r .st .groups ≡ t .groups)
+in-bounds t r n e h = (subst (λ (q : Ran). q .st .hints ≤ 256) (sym e) h, ap (λ (q : Ran). q .st .groups) e)
+
+pub one-more : (t : St) (r : Ran) → r ≡ ranOf (withStem t) 0 → t .hints ≤ 256 → (t .hints ≡ 256 → ⊥) → (r .st .hints ≤ 256) × (r .st .groups ≡ t .groups)
+one-more t r e h ne = (subst (λ (q : Ran). q .st .hints ≤ 256) (sym e) (let l = lt-of-le-ne h ne in let z : t .hints + 1 ≤ 256 = omega arith in z), ap (λ (q : Ran). q .st .groups) e)
+
+-- ---- the same stems, one by one
+sames-more : (l m : List Stem) (s t : Stem) → length l ≡ length m → sameStems (l ++ (s ∷ [])) (m ++ (t ∷ [])) ≡ (sameStems l m && sameStem s t)
+unfolding sameStems
+sames-more [] [] s t e = and-true (sameStem s t)
+  where
+    and-true : (b : Bool) → (b && true) ≡ b
+    and-true true = refl
+    and-true false = refl
+sames-more [] (v ∷ m) s t e = absurd (let z : ⊥ = omega arith in z)
+sames-more (u ∷ l) [] s t e = absurd (let z : ⊥ = omega arith in z)
+sames-more (u ∷ l) (v ∷ m) s t e = ap (λ (b : Bool). sameStem u v && b) (sames-more l m s t (let z : length l ≡ length m = omega arith in z)) ∙ assoc (sameStem u v) (sameStems l m) (sameStem s t)
+  where
+    assoc : (a b c : Bool) → (a && (b && c)) ≡ ((a && b) && c)
+    assoc true b c = refl
+    assoc false b c = refl
+
+sames-length : (l m : List Stem) → (length l ≡ length m → ⊥) → sameStems l m ≡ false
+unfolding sameStems
+sames-length [] [] n = absurd (n refl)
+sames-length [] (v ∷ m) n = refl
+sames-length (u ∷ l) [] n = refl
+sames-length (u ∷ l) (v ∷ m) n = ap (λ (b : Bool). sameStem u v && b) (sames-length l m (λ e. n (ap suc e))) ∙ none (sameStem u v)
+  where
+    none : (b : Bool) → (b && false) ≡ false
+    none true = refl
+    none false = refl
+
+module _ (e : List Float) (a : List Bool) where
+  abbrev both : ℕ → Bool
+  both n = sameStems (stemsAt 256 n e a) (stemsAt 0 n e a)
+
+  both-suc : (n : ℕ) → both (suc n) ≡ (both n && sameStem (stemAt e a (256 + n)) (stemAt e a n))
+  unfolding stemsAt
+  both-suc n = ap (λ (k : ℕ). sameStems (stemsAt 256 n e a ++ (stemAt e a (256 + n) ∷ [])) (stemsAt 0 n e a ++ (stemAt e a k ∷ []))) (zero-add n) ∙ sames-more (stemsAt 256 n e a) (stemsAt 0 n e a) (stemAt e a (256 + n)) (stemAt e a n) (stems-length 256 n e a ∙ sym (stems-length 0 n e a))
+
+  pub both-none : both 0 ≡ true
+  unfolding stemsAt sameStems
+  both-none = refl
+
+  pub both-more : (n : ℕ) → both n ≡ true → sameStem (stemAt e a (256 + n)) (stemAt e a n) ≡ true → both (n + 1) ≡ true
+  both-more n h k = ap both (add-one n) ∙ both-suc n ∙ ap₂ (λ (x y : Bool). x && y) h k
+
+  -- a difference at i tells the lists apart
+  pub both-not : (i n : ℕ) → i < n → sameStem (stemAt e a (256 + i)) (stemAt e a i) ≡ false → both n ≡ false
+  both-not i zero l h = absurd (let z : ⊥ = omega arith in z)
+  both-not i (suc n) l h = both-suc n ∙ split (eqb i n) refl (λ k. both-not i n k h)
+    where
+      none : (b : Bool) → (b && false) ≡ false
+      none true = refl
+      none false = refl
+
+      split : (b : Bool) → eqb i n ≡ b → (i < n → both n ≡ false) → (both n && sameStem (stemAt e a (256 + n)) (stemAt e a n)) ≡ false
+      split true q rec = ap (λ (x : Bool). both n && x) (ap (λ (j : ℕ). sameStem (stemAt e a (256 + j)) (stemAt e a j)) (sym (eqb-true i n q)) ∙ h) ∙ none (both n)
+      split false q rec = let g : i ≤ n = omega arith in ap (λ (x : Bool). x && sameStem (stemAt e a (256 + n)) (stemAt e a n)) (rec (lt-of-le-ne g (eqb-false i n q)))
+
+  pub last-none : (g l n : ℕ) → g ≡ 0 → false ≡ (ltb 0 g && sameStems (stemsAt 256 l e a) (stemsAt 0 n e a))
+  last-none g l n p = sym (ap (λ (b : Bool). b && sameStems (stemsAt 256 l e a) (stemsAt 0 n e a)) (le-ltb 0 g (omega arith)))
+
+  last-some : (g l n : ℕ) → (g ≡ 0 → ⊥) → (ltb 0 g && sameStems (stemsAt 256 l e a) (stemsAt 0 n e a)) ≡ sameStems (stemsAt 256 l e a) (stemsAt 0 n e a)
+  last-some g l n p = ap (λ (b : Bool). b && sameStems (stemsAt 256 l e a) (stemsAt 0 n e a)) (lt-ltb 0 g (pos-of-ne-zero p))
+
+  pub last-count : (g l n : ℕ) → (g ≡ 0 → ⊥) → (l ≡ n → ⊥) → false ≡ (ltb 0 g && sameStems (stemsAt 256 l e a) (stemsAt 0 n e a))
+  last-count g l n p q = sym (last-some g l n p ∙ sames-length (stemsAt 256 l e a) (stemsAt 0 n e a) (λ z. q (sym (stems-length 256 l e a) ∙ z ∙ stems-length 0 n e a)))
+
+  pub last-differs : (g l n i : ℕ) → (g ≡ 0 → ⊥) → l ≡ n → i < n → sameStem (stemAt e a (256 + i)) (stemAt e a i) ≡ false → false ≡ (ltb 0 g && sameStems (stemsAt 256 l e a) (stemsAt 0 n e a))
+  last-differs g l n i p q k h = sym (last-some g l n p ∙ ap (λ (j : ℕ). sameStems (stemsAt 256 j e a) (stemsAt 0 n e a)) q ∙ both-not i n k h)
+
+  pub last-same : (g l n i : ℕ) → (g ≡ 0 → ⊥) → l ≡ n → i ≡ n → both i ≡ true → true ≡ (ltb 0 g && sameStems (stemsAt 256 l e a) (stemsAt 0 n e a))
+  last-same g l n i p q k h = sym (last-some g l n p ∙ ap (λ (j : ℕ). sameStems (stemsAt 256 j e a) (stemsAt 0 n e a)) q ∙ ap both (sym k) ∙ h)
+
+-- ---- the stems in force are copied to the last group's place
+pub copy-begun : (e : List Float) (a : List Bool) → Copied 0 e a e a
+unfolding stemsAt
+copy-begun e a = record { last = refl; edges = λ i h. refl; across = λ i h. refl; same = refl; same' = refl }
+
+pub copy-turn : (i : ℕ) (e₀ e : List Float) (a₀ a : List Bool) → Copied i e₀ a₀ e a → i < 256 → length e₀ ≡ 1024 → length a₀ ≡ 512
+    → Copied (i + 1) e₀ a₀ (set (set e (2 * (256 + i)) (getD e (2 * i) nan)) (2 * (256 + i) + 1) (getD (set e (2 * (256 + i)) (getD e (2 * i) nan)) (2 * i + 1) nan)) (set a (256 + i) (getD a i false))
+unfolding stemsAt
+copy-turn i e₀ e a₀ a C l le la =
+    let j = 256 + i in
+    let s1 = C .same in
+    let s2 = C .same' in
+    let p = getD e (2 * i) nan in
+    let w = getD (set e (2 * j) p) (2 * i + 1) nan in
+    let h = getD a i false in
+    let E = edgesWith j p w e in
+    let A = set a j h in
+    let w-is : w ≡ getD e₀ (2 * i + 1) nan = getD-set-other e (2 * j) (2 * i + 1) p nan (λ (q : 2 * i + 1 ≡ 2 * (256 + i)). let z : ⊥ = omega arith in z) ∙ C .edges (2 * i + 1) (omega arith) in
+    let p-is : p ≡ getD e₀ (2 * i) nan = C .edges (2 * i) (omega arith) in
+    let h-is : h ≡ getD a₀ i false = C .across i l in
+    let here : stemAt E A j ≡ stemAt e₀ a₀ i = stem-here j h p w e a (omega arith) (omega arith) ∙ (let z : stemOf h p w ≡ stemAt e₀ a₀ i = cc in z) in
+    let front : stemsAt 256 i E A ≡ stemsAt 256 i e a = stems-same 256 i E e A a (λ k g. stem-other j (256 + k) h p w e a (λ (q : 256 + k ≡ 256 + i). let z : ⊥ = omega arith in z)) in
+    record {
+      last = ap (λ (n : ℕ). stemsAt 256 n E A) (add-one i) ∙ ap₂ (λ (x : List Stem) (y : Stem). x ++ (y ∷ [])) (front ∙ C .last) here ∙ sym (ap (λ (n : ℕ). stemsAt 0 n e₀ a₀) (add-one i) ∙ stems-suc e₀ a₀ i);
+      edges = λ k g. getD-set-other (set e (2 * j) p) (2 * j + 1) k w nan (λ (q : k ≡ 2 * (256 + i) + 1). let z : ⊥ = omega arith in z) ∙ getD-set-other e (2 * j) k p nan (λ (q : k ≡ 2 * (256 + i)). let z : ⊥ = omega arith in z) ∙ C .edges k g;
+      across = λ k g. getD-set-other a j k h false (λ (q : k ≡ 256 + i). let z : ⊥ = omega arith in z) ∙ C .across k g;
+      same = length-set (set e (2 * j) p) (2 * j + 1) w ∙ length-set e (2 * j) p ∙ s1;
+      same' = length-set a j h ∙ s2;
+    }
+
+pub copy-done : (i n : ℕ) (e₀ e : List Float) (a₀ a : List Bool) → i ≤ n → n ≤ i → Copied i e₀ a₀ e a → Copied n e₀ a₀ e a
+copy-done i n e₀ e a₀ a h k C = subst (λ (j : ℕ). Copied j e₀ a₀ e a) (let z : i ≡ n = omega arith in z) C

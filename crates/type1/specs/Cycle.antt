@@ -1,0 +1,33 @@
+-- Definitions: what the byte runner and the operator step, which call each other, say of the run.
+use Prim.Native.Nat.{ℕ, suc}
+use mathlib.Core.Bool.{Bool}
+use mathlib.Core.List.{List}
+use lib.ListN.{length}
+use lib.Ieee.{Float}
+use Rattle.type1.specs.declared.Stem.{Stem}
+use Rattle.type1.specs.declared.St.{St}
+use Rattle.type1.specs.Run.{Limits, within, Outcome, Font, returned, execute, runBody}
+use Rattle.type1.specs.Memory.{Mem, abs, Fit, operatorOf}
+use Rattle.type1.specs.Sound.{Sound}
+
+abbrev pub memOf : List Float → List Float → List Float → List Float → List Bool → List ℕ → List Stem → Mem
+memOf o p x e a c z = record { ops = o; ps = p; cells = x; edges = e; across = a; cmds = c; stems = z }
+
+-- the state is one that the arrays hold, and its numbers are finite
+pub record Ready (t : St) (m : Mem) : Type 0 where
+  pub fit : Fit t m
+  pub sound : Sound (abs t m)
+
+abbrev pub limitsOf : Mem → Limits
+limitsOf m = within (length (m .stems)) (length (m .cmds))
+
+abbrev pub fontOf : List ℕ → ℕ → Font
+fontOf bank lenIV = record { bank = bank; lenIV = lenIV }
+
+-- one operator, with so many levels left for bodies
+unfoldable pub opD : List ℕ → ℕ → ℕ → ℕ → St → Mem → Outcome
+opD bank lenIV levels op t m = execute (limitsOf m) (fontOf bank lenIV) (runBody (limitsOf m) (fontOf bank lenIV) levels) (operatorOf op) (abs t m)
+
+-- a body's bytes, with so many levels left below it; one that returns goes on after the call
+unfoldable pub runD : List ℕ → ℕ → ℕ → List ℕ → St → Mem → Outcome
+runD bank lenIV levels code t m = returned (runBody (limitsOf m) (fontOf bank lenIV) (suc levels) code (abs t m))

@@ -1,0 +1,198 @@
+-- Definitions: how the code's small state and arrays hold a state of the run, and what a step of the code says of a step of the run.
+-- The command store is document 01's, "Forms of the Rust that need another": 14 words to an entry, the kind, then coordinates as f64 bits, or numbers.
+use Prim.Native.Nat.{ℕ, zero, suc, _+_, _-_, _*_, _≤_, _<_}
+use mathlib.Core.Path.{_≡_}
+use mathlib.Core.Bool.{Bool, true, false}
+use mathlib.Core.List.{List, [], _∷_, _++_}
+use mathlib.Core.Option.{Option, none, some}
+use lib.Dec.{T, eqb, ltb}
+use lib.ListN.{length, take, drop, getD}
+use lib.Seq.{paste}
+use lib.Ieee.{Float, nan, binary64, ofBits, fits}
+use lib.Ieee.Scale.{finite}
+use Rattle.charstring.specs.Cipher.{maxCharstringBytes}
+use Rattle.geometry.specs.declared.Point.{Point}
+use Rattle.type1.specs.declared.Stem.{Stem}
+use Rattle.type1.specs.declared.St.{St}
+use Rattle.type1.specs.declared.Ran.{Ran}
+use Rattle.type1.specs.Operator.{Operator, ofByte, ofEscape}
+use Rattle.type1.specs.State.{Command, move, line, curve, flex, Group, State, sameStems, lastIs, stemCount}
+use Rattle.type1.specs.Run.{pick, Limits, within, Outcome, going, returning, ending, refused}
+
+-- ---- the arrays
+pub record Mem : Type 0 where
+  pub ops : List Float
+  pub ps : List Float
+  pub cells : List Float
+  pub edges : List Float
+  pub across : List Bool
+  pub cmds : List ℕ
+  pub stems : List Stem
+
+-- ---- points and stems in arrays
+
+-- the first n points, at two places each
+unfoldable pub pointsAt : ℕ → List Float → List Point
+pointsAt zero l = []
+pointsAt (suc n) l = pointsAt n l ++ (record { x = getD l (2 * n) nan; y = getD l (2 * n + 1) nan } ∷ [])
+
+-- n stems, from a place on
+abbrev pub stemAt : List Float → List Bool → ℕ → Stem
+stemAt e a i = record { horizontal = getD a i false; pos = getD e (2 * i) nan; width = getD e (2 * i + 1) nan }
+
+unfoldable pub stemsAt : ℕ → ℕ → List Float → List Bool → List Stem
+stemsAt from zero e a = []
+stemsAt from (suc n) e a = stemsAt from n e a ++ (stemAt e a (from + n) ∷ [])
+
+-- ---- the command store: 1 a move, 2 a line, 3 a curve, 4 a flex, 5 a group's start
+abbrev pub word : List ℕ → ℕ → ℕ → ℕ
+word c k i = getD c (14 * k + i) 0
+
+abbrev pub coordinate : List ℕ → ℕ → ℕ → Float
+coordinate c k i = ofBits binary64 (word c k i)
+
+abbrev pub pointIn : List ℕ → ℕ → ℕ → Point
+pointIn c k i = record { x = coordinate c k i; y = coordinate c k (i + 1) }
+
+-- the command of entry k, none where it is a group's start
+unfoldable pub commandIn : List ℕ → ℕ → List Command
+commandIn c k =
+    pick (eqb (word c k 0) 1) (move (pointIn c k 1) ∷ [])
+    (pick (eqb (word c k 0) 2) (line (pointIn c k 1) ∷ [])
+    (pick (eqb (word c k 0) 3) (curve (pointIn c k 1) (pointIn c k 3) (pointIn c k 5) ∷ [])
+    (pick (eqb (word c k 0) 4) (flex (pointIn c k 1) (pointIn c k 3) (pointIn c k 5) (pointIn c k 7) (pointIn c k 9) (pointIn c k 11) (coordinate c k 13) ∷ []) [])))
+
+unfoldable pub drawnIn : ℕ → List ℕ → List Command
+drawnIn zero c = []
+drawnIn (suc k) c = drawnIn k c ++ commandIn c k
+
+-- the group that starts at entry k, with n entries drawn before it: where its records begin, and how many there are
+unfoldable pub groupIn : List ℕ → List Stem → ℕ → ℕ → List Group
+groupIn c z k n = pick (eqb (word c k 0) 5) (record { stems = take (word c k 2) (drop (word c k 1) z); before = n } ∷ []) []
+
+unfoldable pub groupsIn : ℕ → List ℕ → List Stem → List Group
+groupsIn zero c z = []
+groupsIn (suc k) c z = groupsIn k c z ++ groupIn c z k (length (drawnIn k c))
+
+-- ---- the state that is held
+abbrev pub flexIn : Bool → ℕ → List Float → Option (List Point)
+flexIn true n l = some (pointsAt n l)
+flexIn false n l = none
+
+unfoldable pub abs : St → Mem → State
+abs t m = record {
+  operands = take (t .operands) (m .ops);
+  postscript = take (t .postscript) (m .ps);
+  point = record { x = t .x; y = t .y };
+  bearing = record { x = getD (m .cells) 16 nan; y = getD (m .cells) 17 nan };
+  width = getD (m .cells) 18 nan;
+  opened = t .opened;
+  flexing = flexIn (t .flexing) (t .points) (m .cells);
+  hints = stemsAt 0 (t .hints) (m .edges) (m .across);
+  changed = t .changed;
+  groups = groupsIn (t .entries) (m .cmds) (m .stems);
+  drawn = drawnIn (t .entries) (m .cmds);
+  divided = t .divided;
+  ran = t .ran;
+}
+
+-- ---- what an index needs: counts within the arrays
+pub record Bounds (t : St) (words : ℕ) : Type 0 where
+  pub operands : t .operands ≤ 256
+  pub postscript : t .postscript ≤ 256
+  pub points : t .points ≤ 8
+  pub hints : t .hints ≤ 256
+  pub last : t .last ≤ 256
+  pub groups : t .groups ≤ 256
+  pub entries : 14 * t .entries ≤ words
+  pub ran : t .ran ≤ maxCharstringBytes
+
+-- the arrays have their lengths, and what the counts say of the stores is so
+pub record Fit (t : St) (m : Mem) : Type 0 where
+  pub bounds : Bounds t (length (m .cmds))
+  pub ops : length (m .ops) ≡ 256
+  pub ps : length (m .ps) ≡ 256
+  pub cells : length (m .cells) ≡ 19
+  pub edges : length (m .edges) ≡ 1024
+  pub across : length (m .across) ≡ 512
+  pub stems : t .stems ≤ length (m .stems)
+  pub groups : length (groupsIn (t .entries) (m .cmds) (m .stems)) ≡ t .groups
+  pub entries : length (drawnIn (t .entries) (m .cmds)) + t .groups ≡ t .entries
+  pub used : stemCount (groupsIn (t .entries) (m .cmds) (m .stems)) ≡ t .stems
+  -- each group's records lie below those used
+  pub below : (k : ℕ) → k < t .entries → word (m .cmds) k 0 ≡ 5 → word (m .cmds) k 1 + word (m .cmds) k 2 ≤ t .stems
+  -- the last group's stems are kept
+  pub last : 0 < t .groups → (l : List Stem) → lastIs (groupsIn (t .entries) (m .cmds) (m .stems)) l ≡ sameStems (stemsAt 256 (t .last) (m .edges) (m .across)) l
+
+pub record Holds (t : St) (m : Mem) (s : State) : Type 0 where
+  pub is : abs t m ≡ s
+  pub fit : Fit t m
+
+-- ---- every number of the state is a finite double
+pub record Good (x : Float) : Type 0 where
+  pub fit : T (fits binary64 x)
+  pub fine : T (finite x)
+
+-- ---- what a step of the code says of the run's: the flow is 0 where the run goes on, 1 where a body returns, 2 where the glyph ends, else the number of the refusal
+abbrev pub Meets : Ran → Mem → Outcome → Type 0
+Meets r m (going s) = (r .flow ≡ 0) × Holds (r .st) m s
+Meets r m (returning s) = (r .flow ≡ 1) × Holds (r .st) m s
+Meets r m (ending s) = (r .flow ≡ 2) × Holds (r .st) m s
+Meets r m (refused n) = (r .flow ≡ n) × (3 ≤ n)
+
+-- the operator of a token: its byte, or 256 and the byte after a 12
+unfoldable pub operatorOf : ℕ → Operator
+operatorOf n = pickOp (ltb n 256) (ofByte n) (ofEscape (n - 256))
+  where
+    pickOp : Bool → Operator → Operator → Operator
+    pickOp true a b = a
+    pickOp false a b = b
+
+-- ---- arrays and fields that a function changes
+
+abbrev pub withOps : List Float → Mem → Mem
+withOps o m = record { ops = o; ps = m .ps; cells = m .cells; edges = m .edges; across = m .across; cmds = m .cmds; stems = m .stems }
+
+abbrev pub withPs : List Float → Mem → Mem
+withPs p m = record { ops = m .ops; ps = p; cells = m .cells; edges = m .edges; across = m .across; cmds = m .cmds; stems = m .stems }
+
+abbrev pub withCells : List Float → Mem → Mem
+withCells x m = record { ops = m .ops; ps = m .ps; cells = x; edges = m .edges; across = m .across; cmds = m .cmds; stems = m .stems }
+
+abbrev pub withCmds : List ℕ → Mem → Mem
+withCmds c m = record { ops = m .ops; ps = m .ps; cells = m .cells; edges = m .edges; across = m .across; cmds = c; stems = m .stems }
+
+abbrev pub withStems : List Stem → Mem → Mem
+withStems z m = record { ops = m .ops; ps = m .ps; cells = m .cells; edges = m .edges; across = m .across; cmds = m .cmds; stems = z }
+
+abbrev pub withHints : List Float → List Bool → Mem → Mem
+withHints e a m = record { ops = m .ops; ps = m .ps; cells = m .cells; edges = e; across = a; cmds = m .cmds; stems = m .stems }
+
+abbrev pub withPath : List Float → List Bool → List ℕ → Mem → Mem
+withPath e a c m = record { ops = m .ops; ps = m .ps; cells = m .cells; edges = e; across = a; cmds = c; stems = m .stems }
+
+-- the stem store once the group that a step made, if it made one, is stored
+unfoldable pub kept : St → St → List Float → List Bool → List Stem → List Stem
+kept t u e a z = pick (eqb (t .groups) (u .groups)) z (paste z (t .stems) (stemsAt 0 (t .hints) e a) (t .hints))
+
+-- after a step at a path command
+abbrev pub after : St → Ran → List Float → List Bool → List ℕ → Mem → Mem
+after t r e a c m = withPath e a c (withStems (kept t (r .st) e a (m .stems)) m)
+
+-- a step that makes no group and leaves the stems in force
+pub record Plain (t u : St) : Type 0 where
+  pub hints : u .hints ≡ t .hints
+  pub changed : u .changed ≡ t .changed
+  pub last : u .last ≡ t .last
+  pub groups : u .groups ≡ t .groups
+  pub stems : u .stems ≡ t .stems
+
+-- a step at a path command, with so many records in the stem store: it makes one group at the most, and none where the stems did not change
+pub record Path (t : St) (r : Ran) (room : ℕ) : Type 0 where
+  pub quiet : t .changed ≡ false → r .st .groups ≡ t .groups
+  pub settled : r .flow ≡ 0 → r .st .changed ≡ false
+  pub space : (r .st .groups ≡ t .groups → ⊥) → t .stems + t .hints ≤ room
+
+-- a move or a line, by its kind
+abbrev pub pointCommand : ℕ → Point → Command
+pointCommand k p = pick (eqb k 1) (move p) (line p)

@@ -1,0 +1,2044 @@
+// The Type 1 run: a charstring and its subroutines are run on lent stores. The command store gets an
+// entry of 14 words for each path command and for each group's start, the stem store a record for
+// each stem of each group.
+ghost use mathlib.Core.Path.{_≡_};
+ghost use mathlib.Core.Bool.{Bool, true, false, cond, _&&_};
+ghost use mathlib.Core.List.{List, [], _∷_, _++_};
+ghost use Prim.Native.Nat.{ℕ, _+_, _-_, _*_, _≤_, _<_};
+ghost use lib.ListN.{length, getD, take, drop, set, replicate};
+ghost use lib.Seq.{paste};
+ghost use lib.Dec.{T, eqb, ltb, leb};
+ghost use lib.Ieee.{Float, nan, fin};
+ghost use lib.Ieee.Scale.{finite};
+ghost use Rattle.charstring.specs.Cipher.{maxCharstringBytes};
+ghost use Rattle.charstring.specs.Cursor.{start};
+ghost use Rattle.bank.specs.Bank.{Valid};
+ghost use Rattle.type1.specs.Number as Number;
+ghost use Rattle.type1.specs.State as State;
+ghost use Rattle.type1.specs.State.{plusZero};
+ghost use Rattle.type1.specs.Operator as Op;
+ghost use Rattle.type1.specs.Run as Run;
+ghost use Rattle.type1.specs.Run.{pick, within, stemOf, pointAt, isFinite, operate};
+ghost use Rattle.type1.specs.Memory.{Mem, stemAt, stemsAt, Bounds, Good, Holds, Meets, operatorOf, withOps, withPs, withCells, withCmds, withHints, withPath, after, Plain, Path, pointCommand};
+ghost use Rattle.type1.specs.Reading.{cursorOf, byteOf, keyOf, withCount, tokOf, Numbered, Operated, Reads, Calls};
+ghost use Rattle.type1.specs.Small as Small;
+ghost use Rattle.type1.specs.Cycle.{memOf, Ready, opD, runD};
+ghost use Rattle.type1.specs.Entry.{zeroSt, startFlow, numberOf, answerOf, Cleared};
+ghost use Rattle.type1.specs.Interpret.{outcome, refusedWith, Leaves};
+
+// A stem hint in absolute character-space coordinates.
+pub struct Stem {
+    // A horizontal stem (`hstem`), which constrains y.
+    pub horizontal: bool,
+    // The stem's first edge.
+    pub pos: f64,
+    // Distance to its second edge; -20 and -21 mark edge (ghost) hints.
+    pub width: f64,
+}
+
+// What of the state is small. The rest is in arrays: the operands and the PostScript stack, each
+// bottom first; `cells`: the points of a flex, the side bearing and the width; `edges` and `across`:
+// the stems in force, and from LAST on those of the last group.
+struct St {
+    // operands held, and numbers on the PostScript stack
+    operands: usize,
+    postscript: usize,
+    // the current point
+    x: f64,
+    y: f64,
+    // whether a subpath is open
+    opened: bool,
+    // whether a flex runs, and how many points it has collected: 8 at the most
+    flexing: bool,
+    points: usize,
+    // stems in force, whether they changed, and stems of the last group
+    hints: usize,
+    changed: bool,
+    last: usize,
+    // groups, records used, entries used
+    groups: usize,
+    stems: usize,
+    entries: usize,
+    // whether a div ran
+    divided: bool,
+    // bytes run
+    ran: usize,
+}
+
+// A step's or a run's state and flow: 0 goes on, 1 returns from a body, 2 ends the glyph, and any
+// other is document 01's number of a refusal.
+struct Ran {
+    st: St,
+    flow: u8,
+}
+
+// words of an entry
+const ENTRY: usize = 14;
+
+// kinds of entries
+const MOVE: u64 = 1;
+
+const LINE: u64 = 2;
+
+const CURVE: u64 = 3;
+
+const FLEX: u64 = 4;
+
+const GROUP: u64 = 5;
+
+// places in `cells`, after the eight points of a flex
+const BEARING_X: usize = 16;
+
+const BEARING_Y: usize = 17;
+
+const WIDTH: usize = 18;
+
+// where the last group's stems begin among all
+const LAST: usize = 256;
+
+// ---- tokens
+
+// What stands at a place of a charstring, after the numbers before it were pushed.
+struct Tok {
+    st: St,
+    next: usize,
+    key: u16,
+    // 0: an operator; 1: the end of the bytes; else the number of a refusal
+    flow: u8,
+    // its byte, or 256 and the byte after a 12
+    op: u16,
+}
+
+fn wide(b: u8) -> u16
+    ensures { λ r. ⌜ r ≡ b ⌝ }
+{
+    b as u16
+}
+
+fn wider(b: u8) -> u64
+    ensures { λ r. ⌜ r ≡ b ⌝ }
+{
+    b as u64
+}
+
+// The plain byte of the byte c.
+fn plain_of(c: u8, key: u16, encrypted: bool) -> u8
+    ensures { λ r. ⌜ r ≡ byteOf c key encrypted ⌝ }
+{
+    if encrypted {
+        charstring::plain_byte(c, key)
+    } else {
+        c
+    }
+}
+
+// The key after the byte c.
+fn key_after(c: u8, key: u16, encrypted: bool) -> u16
+    ensures { λ r. ⌜ r ≡ keyOf c key encrypted ⌝ }
+{
+    if encrypted {
+        charstring::next_key(c, key)
+    } else {
+        key
+    }
+}
+
+// 32 to 246.
+fn one_byte(v: u8) -> f64
+    ensures { λ r. ⌜ r ≡ Number.double (Number.oneByte v) ⌝ }
+{
+    v as f64 - 139.0
+}
+
+// 247 to 254, and the byte after it.
+fn two_bytes(v: u8, w: u8) -> f64
+    requires { ⌜ 247 ≤ v ⌝ }
+    ensures { λ r. ⌜ r ≡ Number.double (cond (ltb v 251) (Number.twoBytes v w) (Number.twoBytesBelow v w)) ⌝ }
+{
+    if v < 251 {
+        ((wider(v) - 247) * 256 + wider(w) + 108) as f64
+    } else {
+        -(((wider(v) - 251) * 256 + wider(w) + 108) as f64)
+    }
+}
+
+// 255: the four bytes after it.
+fn four_bytes(a: u8, b: u8, c: u8, d: u8) -> f64
+    ensures { λ r. ⌜ r ≡ Number.double (Number.fourBytes a b c d) ⌝ }
+{
+    let n = ((wider(a) * 256 + wider(b)) * 256 + wider(c)) * 256 + wider(d);
+    if n < 2147483648 {
+        n as f64
+    } else {
+        -((4294967296 - n) as f64)
+    }
+}
+
+fn found(st: St, n: usize, next: usize, key: u16, flow: u8, op: u16) -> Tok
+    ensures { λ r. ⌜ r ≡ tokOf st n next key flow op ⌝ }
+{
+    let mut s = st;
+    s.operands = n;
+    Tok {
+        st: s,
+        next,
+        key,
+        flow,
+        op,
+    }
+}
+
+// A number of a charstring, and where the bytes after it begin.
+struct Num {
+    x: f64,
+    next: usize,
+    key: u16,
+    cut: bool,
+}
+
+// The number whose first byte v was read, with the bytes from a place on.
+fn number_at(code: &[u8], i: usize, key: u16, encrypted: bool, v: u8) -> Num
+    requires { ⌜ (32 ≤ v) × (i ≤ length (now code)) ⌝ }
+    ensures { λ r. ⌜ Numbered (now (code .entry)) i key encrypted v r ⌝ }
+{
+    if v < 247 {
+        return Num {
+            x: one_byte(v),
+            next: i,
+            key,
+            cut: false,
+        };
+    }
+    if v < 255 {
+        if code.len() - i < 1 {
+            return Num {
+                x: 0.0,
+                next: i,
+                key,
+                cut: true,
+            };
+        }
+        let c = code[i];
+        return Num {
+            x: two_bytes(v, plain_of(c, key, encrypted)),
+            next: i + 1,
+            key: key_after(c, key, encrypted),
+            cut: false,
+        };
+    }
+    if code.len() - i < 4 {
+        return Num {
+            x: 0.0,
+            next: i,
+            key,
+            cut: true,
+        };
+    }
+    let c1 = code[i];
+    let c2 = code[i + 1];
+    let c3 = code[i + 2];
+    let c4 = code[i + 3];
+    let k2 = key_after(c1, key, encrypted);
+    let k3 = key_after(c2, k2, encrypted);
+    let k4 = key_after(c3, k3, encrypted);
+    let x = four_bytes(
+        plain_of(c1, key, encrypted),
+        plain_of(c2, k2, encrypted),
+        plain_of(c3, k3, encrypted),
+        plain_of(c4, k4, encrypted),
+    );
+    Num {
+        x,
+        next: i + 4,
+        key: key_after(c4, k4, encrypted),
+        cut: false,
+    }
+}
+
+// The operator whose first byte v was read, with the bytes from a place on.
+fn operator_at(code: &[u8], i: usize, key: u16, encrypted: bool, v: u8, n: usize, st: St) -> Tok
+    requires { ⌜ (v < 32) × ((i ≤ length (now code)) × (n ≤ 256)) ⌝ }
+    ensures { λ r. ⌜ Operated (now (code .entry)) i key encrypted v n st r ⌝ }
+{
+    if v != 12 {
+        return found(st, n, i, key, 0, wide(v));
+    }
+    if code.len() - i < 1 {
+        return found(st, n, i, key, 5, 0);
+    }
+    let c = code[i];
+    let e = plain_of(c, key, encrypted);
+    found(st, n, i + 1, key_after(c, key, encrypted), 0, 256 + wide(e))
+}
+
+// Reads numbers, which it pushes, up to an operator or the end of the bytes.
+fn token(code: &[u8], from: usize, start: u16, encrypted: bool, st: St, ops: &mut [f64; 256]) -> Tok
+    requires { ⌜ (from < length (now code)) × (st .operands ≤ 256) ⌝ }
+    ensures { λ r. ⌜ Reads (now (code .entry)) from start encrypted st (now (ops .entry)) r (now (ops .exit)) ⌝ }
+{
+    let mut i = from;
+    let mut key = start;
+    let mut n = st.operands;
+    while i < code.len() {
+        let c = code[i];
+        let v = plain_of(c, key, encrypted);
+        let k = key_after(c, key, encrypted);
+        if v < 32 {
+            return operator_at(code, i + 1, k, encrypted, v, n, st);
+        }
+        let w = number_at(code, i + 1, k, encrypted, v);
+        if w.cut {
+            return found(st, n, i + 1, k, 5, 0);
+        }
+        if n == 256 {
+            return found(st, n, i + 1, k, 15, 0);
+        }
+        ops[n] = w.x;
+        n += 1;
+        i = w.next;
+        key = w.key;
+    }
+    found(st, n, i, key, 1, 0)
+}
+
+// ---- answers
+
+fn made(st: St, flow: u8) -> Ran
+    ensures { λ r. ⌜ r ≡ Small.ranOf st flow ⌝ }
+{
+    Ran { st, flow }
+}
+
+// A body that returns, or comes to its end, goes on after the call.
+fn stopped(st: St, flow: u8) -> Ran
+    ensures { λ r. ⌜ r ≡ Small.ranOf st (pick (eqb flow 1) 0 flow) ⌝ }
+{
+    if flow == 1 {
+        made(st, 0)
+    } else {
+        made(st, flow)
+    }
+}
+
+// The state with no operands.
+fn cleared(st: St) -> St
+    ensures { λ r. ⌜ r ≡ withCount 0 st ⌝ }
+{
+    let mut s = st;
+    s.operands = 0;
+    s
+}
+
+// ---- the command store
+
+// An entry of one point: a move or a line.
+fn enter_point(kind: u64, x: f64, y: f64, st: St, cmds: &mut [u64]) -> Ran
+    requires { ⌜ 14 * st .entries ≤ length (now cmds) ⌝ }
+    requires { ⌜ (0 < kind) × (kind < 3) ⌝ }
+    requires { ⌜ T (finite x) × T (finite y) ⌝ }
+    ensures { λ r. ⌜ ((m : Mem) (s : State.State) (room : ℕ) → Holds st (withCmds (now (cmds .entry)) m) s →
+        Meets r (withCmds (now (cmds .exit)) m) (Run.enter (within room (length (now (cmds .entry)))) (pointCommand kind (pointAt x y)) s)) ⌝ }
+    ensures { λ r. ⌜ Plain st (r .st) ⌝ }
+    ensures { λ r. ⌜ Small.Entered st (r .st) (length (now (cmds .entry))) ⌝ }
+{
+    let k = st.entries;
+    let at = ENTRY * k;
+    if cmds.len() - at < ENTRY {
+        return made(st, 17);
+    }
+    cmds[at] = kind;
+    cmds[at + 1] = f64::to_bits(x);
+    cmds[at + 2] = f64::to_bits(y);
+    let mut s = st;
+    s.entries = k + 1;
+    made(s, 0)
+}
+
+// A curve through p to q and r.
+fn enter_curve(
+    px: f64,
+    py: f64,
+    qx: f64,
+    qy: f64,
+    rx: f64,
+    ry: f64,
+    st: St,
+    cmds: &mut [u64],
+) -> Ran
+    requires { ⌜ 14 * st .entries ≤ length (now cmds) ⌝ }
+    requires { ⌜ T (isFinite (pointAt px py)) × (T (isFinite (pointAt qx qy)) × T (isFinite (pointAt rx ry))) ⌝ }
+    ensures { λ r. ⌜ ((m : Mem) (s : State.State) (room : ℕ) → Holds st (withCmds (now (cmds .entry)) m) s →
+        Meets r (withCmds (now (cmds .exit)) m) (Run.enter (within room (length (now (cmds .entry)))) (State.curve (pointAt px py) (pointAt qx qy) (pointAt rx ry)) s)) ⌝ }
+    ensures { λ r. ⌜ Plain st (r .st) ⌝ }
+{
+    let k = st.entries;
+    let at = ENTRY * k;
+    if cmds.len() - at < ENTRY {
+        return made(st, 17);
+    }
+    cmds[at] = CURVE;
+    cmds[at + 1] = f64::to_bits(px);
+    cmds[at + 2] = f64::to_bits(py);
+    cmds[at + 3] = f64::to_bits(qx);
+    cmds[at + 4] = f64::to_bits(qy);
+    cmds[at + 5] = f64::to_bits(rx);
+    cmds[at + 6] = f64::to_bits(ry);
+    let mut s = st;
+    s.entries = k + 1;
+    made(s, 0)
+}
+
+// A flex through the points after the first in `cells`, with its height.
+fn enter_flex(height: f64, st: St, cells: &[f64; 19], cmds: &mut [u64]) -> Ran
+    requires { ⌜ 14 * st .entries ≤ length (now cmds) ⌝ }
+    requires { ⌜ T (finite height) × ((i : ℕ) → i < 14 → Good (getD (now cells) i nan)) ⌝ }
+    ensures { λ r. ⌜ ((m : Mem) (s : State.State) (room : ℕ) → Holds st (withCells (now (cells .entry)) (withCmds (now (cmds .entry)) m)) s →
+        Meets r (withCells (now (cells .entry)) (withCmds (now (cmds .exit)) m)) (Run.enter (within room (length (now (cmds .entry)))) (Small.flexOf (now (cells .entry)) height) s)) ⌝ }
+    ensures { λ r. ⌜ Plain st (r .st) ⌝ }
+{
+    let k = st.entries;
+    let at = ENTRY * k;
+    if cmds.len() - at < ENTRY {
+        return made(st, 17);
+    }
+    cmds[at] = FLEX;
+    let mut i = 0;
+    while i < 12 {
+        cmds[at + 1 + i] = f64::to_bits(cells[2 + i]);
+        i += 1;
+    }
+    cmds[at + 13] = f64::to_bits(height);
+    let mut s = st;
+    s.entries = k + 1;
+    made(s, 0)
+}
+
+// ---- hints
+
+// Whether the stem is among the first count of those that begin at a place.
+fn in_force(
+    horizontal: bool,
+    pos: f64,
+    width: f64,
+    count: usize,
+    edges: &[f64; 1024],
+    across: &[bool; 512],
+) -> bool
+    requires { ⌜ count ≤ 256 ⌝ }
+    ensures { λ r. ⌜ r ≡ State.isIn (stemsAt 0 count (now (edges .entry)) (now (across .entry))) (stemOf horizontal pos width) ⌝ }
+{
+    let mut i = 0;
+    while i < count {
+        if same_stem(
+            across[i],
+            edges[2 * i],
+            edges[2 * i + 1],
+            horizontal,
+            pos,
+            width,
+        ) {
+            return true;
+        }
+        i += 1;
+    }
+    false
+}
+
+fn same_stem(h: bool, p: f64, w: f64, horizontal: bool, pos: f64, width: f64) -> bool
+    ensures { λ r. ⌜ r ≡ State.sameStem (stemOf h p w) (stemOf horizontal pos width) ⌝ }
+{
+    if h {
+        if !horizontal {
+            return false;
+        }
+    } else if horizontal {
+        return false;
+    }
+    if p == pos { w == width } else { false }
+}
+
+// A stem comes in force, unless an equal one is.
+fn add_stem(
+    horizontal: bool,
+    pos: f64,
+    width: f64,
+    st: St,
+    edges: &mut [f64; 1024],
+    across: &mut [bool; 512],
+) -> Ran
+    requires { ⌜ st .hints ≤ 256 ⌝ }
+    ensures { λ r. ⌜ ((m : Mem) (s : State.State) (room words : ℕ) → Holds st (withHints (now (edges .entry)) (now (across .entry)) m) s →
+        Meets r (withHints (now (edges .exit)) (now (across .exit)) m) (Run.stem (within room words) horizontal pos width s)) ⌝ }
+    ensures { λ r. ⌜ (r .st .hints ≤ 256) × (r .st .groups ≡ st .groups) ⌝ }
+{
+    if !binary64::is_finite(pos) {
+        return made(st, 14);
+    }
+    let n = st.hints;
+    if in_force(horizontal, pos, width, n, edges, across) {
+        return made(st, 0);
+    }
+    if n == 256 {
+        return made(st, 16);
+    }
+    edges[2 * n] = pos;
+    edges[2 * n + 1] = width;
+    across[n] = horizontal;
+    let mut s = st;
+    s.hints = n + 1;
+    s.changed = true;
+    made(s, 0)
+}
+
+// Whether the stems in force are the last group's, in the same order.
+fn is_last(st: St, edges: &[f64; 1024], across: &[bool; 512]) -> bool
+    requires { ⌜ (st .hints ≤ 256) × (st .last ≤ 256) ⌝ }
+    ensures { λ r. ⌜ r ≡ (ltb 0 (st .groups) && State.sameStems (stemsAt 256 (st .last) (now (edges .entry)) (now (across .entry))) (stemsAt 0 (st .hints) (now (edges .entry)) (now (across .entry)))) ⌝ }
+{
+    if st.groups == 0 {
+        return false;
+    }
+    let n = st.hints;
+    if st.last != n {
+        return false;
+    }
+    let mut i = 0;
+    while i < n {
+        let j = LAST + i;
+        if !same_stem(
+            across[j],
+            edges[2 * j],
+            edges[2 * j + 1],
+            across[i],
+            edges[2 * i],
+            edges[2 * i + 1],
+        ) {
+            return false;
+        }
+        i += 1;
+    }
+    true
+}
+
+// The stems in force become the last group's.
+fn keep_last(n: usize, edges: &mut [f64; 1024], across: &mut [bool; 512])
+    requires { ⌜ n ≤ 256 ⌝ }
+    ensures { λ _. ⌜ (length (now (edges .entry)) ≡ 1024 → length (now (across .entry)) ≡ 512 → Small.Copied n (now (edges .entry)) (now (across .entry)) (now (edges .exit)) (now (across .exit))) ⌝ }
+{
+    let mut i = 0;
+    while i < n {
+        let j = LAST + i;
+        edges[2 * j] = edges[2 * i];
+        edges[2 * j + 1] = edges[2 * i + 1];
+        across[j] = across[i];
+        i += 1;
+    }
+}
+
+// The stems in force become a new group, where the stem store has `room` records. Its stems are
+// stored after the operator.
+fn new_group(
+    room: usize,
+    st: St,
+    edges: &mut [f64; 1024],
+    across: &mut [bool; 512],
+    cmds: &mut [u64],
+) -> Ran
+    requires { ⌜ Bounds st (length (now cmds)) ⌝ }
+    requires { ⌜ st .stems ≤ room ⌝ }
+    ensures { λ r. ⌜ ((m : Mem) (s : State.State) → length (m .stems) ≡ room → Holds st (withPath (now (edges .entry)) (now (across .entry)) (now (cmds .entry)) m) s →
+        Meets r (after st r (now (edges .exit)) (now (across .exit)) (now (cmds .exit)) m) (Run.newGroup (within room (length (now (cmds .entry)))) s)) ⌝ }
+    ensures { λ r. ⌜ (r .flow ≡ 0 → r .st .changed ≡ false) × Small.Space st (r .st) room ⌝ }
+    ensures { λ r. ⌜ Small.Grown st (r .st) (length (now (cmds .entry))) room ⌝ }
+{
+    let n = st.hints;
+    let used = st.stems;
+    if st.groups == 256 {
+        return made(st, 16);
+    }
+    if room - used < n {
+        return made(st, 16);
+    }
+    let k = st.entries;
+    let at = ENTRY * k;
+    if cmds.len() - at < ENTRY {
+        return made(st, 17);
+    }
+    cmds[at] = GROUP;
+    cmds[at + 1] = used as u64;
+    cmds[at + 2] = n as u64;
+    keep_last(n, edges, across);
+    let mut s = st;
+    s.entries = k + 1;
+    s.stems = used + n;
+    s.last = n;
+    s.groups = st.groups + 1;
+    s.changed = false;
+    made(s, 0)
+}
+
+// At a path command: changed stems become a new group unless they are the last one's.
+fn commit(
+    room: usize,
+    st: St,
+    edges: &mut [f64; 1024],
+    across: &mut [bool; 512],
+    cmds: &mut [u64],
+) -> Ran
+    requires { ⌜ Bounds st (length (now cmds)) ⌝ }
+    requires { ⌜ st .stems ≤ room ⌝ }
+    ensures { λ r. ⌜ ((m : Mem) (s : State.State) → length (m .stems) ≡ room → Holds st (withPath (now (edges .entry)) (now (across .entry)) (now (cmds .entry)) m) s →
+        Meets r (after st r (now (edges .exit)) (now (across .exit)) (now (cmds .exit)) (m)) (Run.commit (within room (length (now (cmds .entry)))) s)) ⌝ }
+    ensures { λ r. ⌜ Path st r room ⌝ }
+    ensures { λ r. ⌜ Small.Grown st (r .st) (length (now (cmds .entry))) room ⌝ }
+    ensures { λ r. ⌜ Small.Quiet st (now (edges .entry)) (now (across .entry)) (now (edges .exit)) (now (across .exit)) ⌝ }
+{
+    if !st.changed {
+        return made(st, 0);
+    }
+    if is_last(st, edges, across) {
+        let mut s = st;
+        s.changed = false;
+        return made(s, 0);
+    }
+    new_group(room, st, edges, across, cmds)
+}
+
+// ---- paths
+
+// A move or a line to (x, y) is listed.
+fn list_point(
+    kind: u64,
+    x: f64,
+    y: f64,
+    room: usize,
+    st: St,
+    edges: &mut [f64; 1024],
+    across: &mut [bool; 512],
+    cmds: &mut [u64],
+) -> Ran
+    requires { ⌜ Bounds st (length (now cmds)) ⌝ }
+    requires { ⌜ st .stems ≤ room ⌝ }
+    requires { ⌜ (0 < kind) × (kind < 3) ⌝ }
+    requires { ⌜ T (finite x) × T (finite y) ⌝ }
+    ensures { λ r. ⌜ ((m : Mem) (s : State.State) → length (m .stems) ≡ room → Holds st (withPath (now (edges .entry)) (now (across .entry)) (now (cmds .entry)) m) s →
+        Meets r (after st r (now (edges .exit)) (now (across .exit)) (now (cmds .exit)) (m)) (Run.list (within room (length (now (cmds .entry)))) (pointCommand kind (pointAt x y)) s)) ⌝ }
+    ensures { λ r. ⌜ Path st r room ⌝ }
+    ensures { λ r. ⌜ Small.Grown st (r .st) (length (now (cmds .entry))) room ⌝ }
+    ensures { λ r. ⌜ Small.Quiet st (now (edges .entry)) (now (across .entry)) (now (edges .exit)) (now (across .exit)) ⌝ }
+{
+    let c = commit(room, st, edges, across, cmds);
+    if c.flow != 0 {
+        return c;
+    }
+    enter_point(kind, x, y, c.st, cmds)
+}
+
+fn at_point(x: f64, y: f64, st: St) -> St
+    ensures { λ r. ⌜ r ≡ Small.withXY x y st ⌝ }
+{
+    let mut s = st;
+    s.x = x;
+    s.y = y;
+    s
+}
+
+fn opened(r: Ran) -> Ran
+    ensures { λ a. ⌜ a ≡ Small.openedRan r ⌝ }
+{
+    if r.flow != 0 {
+        return r;
+    }
+    let mut s = r.st;
+    s.opened = true;
+    made(s, 0)
+}
+
+fn finite_point(x: f64, y: f64) -> bool
+    ensures { λ r. ⌜ r ≡ isFinite (pointAt x y) ⌝ }
+{
+    if binary64::is_finite(x) {
+        binary64::is_finite(y)
+    } else {
+        false
+    }
+}
+
+// 21, 22, 4.
+fn move_by(
+    dx: f64,
+    dy: f64,
+    room: usize,
+    st: St,
+    edges: &mut [f64; 1024],
+    across: &mut [bool; 512],
+    cmds: &mut [u64],
+) -> Ran
+    requires { ⌜ Bounds st (length (now cmds)) ⌝ }
+    requires { ⌜ st .stems ≤ room ⌝ }
+    ensures { λ r. ⌜ ((m : Mem) (s : State.State) → length (m .stems) ≡ room → Holds st (withPath (now (edges .entry)) (now (across .entry)) (now (cmds .entry)) m) s →
+        Meets r (after st r (now (edges .exit)) (now (across .exit)) (now (cmds .exit)) (m)) (Run.moveBy (within room (length (now (cmds .entry)))) dx dy s)) ⌝ }
+    ensures { λ r. ⌜ Small.Space st (r .st) room ⌝ }
+{
+    let x = st.x + dx;
+    let y = st.y + dy;
+    if !finite_point(x, y) {
+        return made(st, 14);
+    }
+    if st.flexing {
+        return made(at_point(x, y, st), 0);
+    }
+    opened(list_point(MOVE, x, y, room, at_point(x, y, st), edges, across, cmds))
+}
+
+// A line or curve with no subpath open first moves to the current point.
+fn open_subpath(
+    room: usize,
+    st: St,
+    edges: &mut [f64; 1024],
+    across: &mut [bool; 512],
+    cmds: &mut [u64],
+) -> Ran
+    requires { ⌜ Bounds st (length (now cmds)) ⌝ }
+    requires { ⌜ st .stems ≤ room ⌝ }
+    requires { ⌜ T (finite (st .x)) × T (finite (st .y)) ⌝ }
+    ensures { λ r. ⌜ ((m : Mem) (s : State.State) → length (m .stems) ≡ room → Holds st (withPath (now (edges .entry)) (now (across .entry)) (now (cmds .entry)) m) s →
+        Meets r (after st r (now (edges .exit)) (now (across .exit)) (now (cmds .exit)) (m)) (Run.andThen (Run.list (within room (length (now (cmds .entry)))) (State.move (pointAt (st .x) (st .y))) s) (λ t. Run.going (State.withOpen true t)))) ⌝ }
+    ensures { λ r. ⌜ Path st r room ⌝ }
+    ensures { λ r. ⌜ Small.Grown st (r .st) (length (now (cmds .entry))) room ⌝ }
+{
+    opened(list_point(MOVE, st.x, st.y, room, st, edges, across, cmds))
+}
+
+// 5, 6, 7, with a subpath open.
+fn line_to(
+    dx: f64,
+    dy: f64,
+    room: usize,
+    st: St,
+    edges: &mut [f64; 1024],
+    across: &mut [bool; 512],
+    cmds: &mut [u64],
+) -> Ran
+    requires { ⌜ Bounds st (length (now cmds)) ⌝ }
+    requires { ⌜ st .stems ≤ room ⌝ }
+    ensures { λ r. ⌜ ((m : Mem) (s : State.State) → length (m .stems) ≡ room → Holds st (withPath (now (edges .entry)) (now (across .entry)) (now (cmds .entry)) m) s →
+        Meets r (after st r (now (edges .exit)) (now (across .exit)) (now (cmds .exit)) (m)) (Run.lineTo (within room (length (now (cmds .entry)))) dx dy s)) ⌝ }
+    ensures { λ r. ⌜ Path st r room ⌝ }
+    ensures { λ r. ⌜ Small.Quiet st (now (edges .entry)) (now (across .entry)) (now (edges .exit)) (now (across .exit)) ⌝ }
+{
+    let x = st.x + dx;
+    let y = st.y + dy;
+    if !finite_point(x, y) {
+        return made(st, 14);
+    }
+    list_point(LINE, x, y, room, at_point(x, y, st), edges, across, cmds)
+}
+
+fn line_by(
+    dx: f64,
+    dy: f64,
+    room: usize,
+    st: St,
+    edges: &mut [f64; 1024],
+    across: &mut [bool; 512],
+    cmds: &mut [u64],
+) -> Ran
+    requires { ⌜ Bounds st (length (now cmds)) ⌝ }
+    requires { ⌜ st .stems ≤ room ⌝ }
+    requires { ⌜ T (finite (st .x)) × T (finite (st .y)) ⌝ }
+    ensures { λ r. ⌜ ((m : Mem) (s : State.State) → length (m .stems) ≡ room → Holds st (withPath (now (edges .entry)) (now (across .entry)) (now (cmds .entry)) m) s →
+        Meets r (after st r (now (edges .exit)) (now (across .exit)) (now (cmds .exit)) (m)) (Run.lineBy (within room (length (now (cmds .entry)))) dx dy s)) ⌝ }
+    ensures { λ r. ⌜ Small.Space st (r .st) room ⌝ }
+{
+    if st.opened {
+        return line_to(dx, dy, room, st, edges, across, cmds);
+    }
+    let o = open_subpath(room, st, edges, across, cmds);
+    if o.flow != 0 {
+        return o;
+    }
+    line_to(dx, dy, room, o.st, edges, across, cmds)
+}
+
+// 8, 30, 31, with a subpath open.
+fn curve_to(
+    dx1: f64,
+    dy1: f64,
+    dx2: f64,
+    dy2: f64,
+    dx3: f64,
+    dy3: f64,
+    room: usize,
+    st: St,
+    edges: &mut [f64; 1024],
+    across: &mut [bool; 512],
+    cmds: &mut [u64],
+) -> Ran
+    requires { ⌜ Bounds st (length (now cmds)) ⌝ }
+    requires { ⌜ st .stems ≤ room ⌝ }
+    ensures { λ r. ⌜ ((m : Mem) (s : State.State) → length (m .stems) ≡ room → Holds st (withPath (now (edges .entry)) (now (across .entry)) (now (cmds .entry)) m) s →
+        Meets r (after st r (now (edges .exit)) (now (across .exit)) (now (cmds .exit)) (m)) (Run.curveTo (within room (length (now (cmds .entry)))) dx1 dy1 dx2 dy2 dx3 dy3 s)) ⌝ }
+    ensures { λ r. ⌜ Path st r room ⌝ }
+    ensures { λ r. ⌜ Small.Quiet st (now (edges .entry)) (now (across .entry)) (now (edges .exit)) (now (across .exit)) ⌝ }
+{
+    let px = st.x + dx1;
+    let py = st.y + dy1;
+    let qx = px + dx2;
+    let qy = py + dy2;
+    let rx = qx + dx3;
+    let ry = qy + dy3;
+    if !finite_point(px, py) {
+        return made(st, 14);
+    }
+    if !finite_point(qx, qy) {
+        return made(st, 14);
+    }
+    if !finite_point(rx, ry) {
+        return made(st, 14);
+    }
+    let c = commit(room, at_point(rx, ry, st), edges, across, cmds);
+    if c.flow != 0 {
+        return c;
+    }
+    enter_curve(px, py, qx, qy, rx, ry, c.st, cmds)
+}
+
+fn curve_by(
+    dx1: f64,
+    dy1: f64,
+    dx2: f64,
+    dy2: f64,
+    dx3: f64,
+    dy3: f64,
+    room: usize,
+    st: St,
+    edges: &mut [f64; 1024],
+    across: &mut [bool; 512],
+    cmds: &mut [u64],
+) -> Ran
+    requires { ⌜ Bounds st (length (now cmds)) ⌝ }
+    requires { ⌜ st .stems ≤ room ⌝ }
+    requires { ⌜ T (finite (st .x)) × T (finite (st .y)) ⌝ }
+    ensures { λ r. ⌜ ((m : Mem) (s : State.State) → length (m .stems) ≡ room → Holds st (withPath (now (edges .entry)) (now (across .entry)) (now (cmds .entry)) m) s →
+        Meets r (after st r (now (edges .exit)) (now (across .exit)) (now (cmds .exit)) (m)) (Run.curveBy (within room (length (now (cmds .entry)))) dx1 dy1 dx2 dy2 dx3 dy3 s)) ⌝ }
+    ensures { λ r. ⌜ Small.Space st (r .st) room ⌝ }
+{
+    if st.opened {
+        return curve_to(dx1, dy1, dx2, dy2, dx3, dy3, room, st, edges, across, cmds);
+    }
+    let o = open_subpath(room, st, edges, across, cmds);
+    if o.flow != 0 {
+        return o;
+    }
+    curve_to(
+        dx1,
+        dy1,
+        dx2,
+        dy2,
+        dx3,
+        dy3,
+        room,
+        o.st,
+        edges,
+        across,
+        cmds,
+    )
+}
+
+// 12 33.
+fn set_point(
+    x: f64,
+    y: f64,
+    room: usize,
+    st: St,
+    edges: &mut [f64; 1024],
+    across: &mut [bool; 512],
+    cmds: &mut [u64],
+) -> Ran
+    requires { ⌜ Bounds st (length (now cmds)) ⌝ }
+    requires { ⌜ st .stems ≤ room ⌝ }
+    requires { ⌜ T (finite x) × T (finite y) ⌝ }
+    ensures { λ r. ⌜ ((m : Mem) (s : State.State) → length (m .stems) ≡ room → Holds st (withPath (now (edges .entry)) (now (across .entry)) (now (cmds .entry)) m) s →
+        Meets r (after st r (now (edges .exit)) (now (across .exit)) (now (cmds .exit)) (m)) (Run.setPoint (within room (length (now (cmds .entry)))) (pointAt x y) s)) ⌝ }
+    ensures { λ r. ⌜ Small.Space st (r .st) room ⌝ }
+{
+    if x == st.x {
+        if y == st.y {
+            return made(st, 0);
+        }
+    }
+    let s = at_point(x, y, st);
+    if s.opened {
+        if !s.flexing {
+            return list_point(MOVE, x, y, room, s, edges, across, cmds);
+        }
+    }
+    made(s, 0)
+}
+
+// ---- path operators
+
+// 4
+fn vmoveto(
+    room: usize,
+    st: St,
+    ops: &[f64; 256],
+    edges: &mut [f64; 1024],
+    across: &mut [bool; 512],
+    cmds: &mut [u64],
+) -> Ran
+    requires { ⌜ Bounds st (length (now cmds)) ⌝ }
+    requires { ⌜ st .stems ≤ room ⌝ }
+    requires { ⌜ T (finite (st .x)) × T (finite (st .y)) ⌝ }
+    ensures { λ r. ⌜ ((m : Mem) (s : State.State) (c : Run.Outcome) → length (m .stems) ≡ room → Holds st (withOps (now (ops .entry)) (withPath (now (edges .entry)) (now (across .entry)) (now (cmds .entry)) m)) s →
+        Meets r (withOps (now (ops .entry)) (after st r (now (edges .exit)) (now (across .exit)) (now (cmds .exit)) m)) (operate (within room (length (now (cmds .entry)))) c Op.vmoveto s)) ⌝ }
+    ensures { λ r. ⌜ Small.Space st (r .st) room ⌝ }
+{
+    let n = st.operands;
+    if n < 1 {
+        return made(st, 7);
+    }
+    move_by(0.0, ops[n - 1], room, cleared(st), edges, across, cmds)
+}
+
+// 21
+fn rmoveto(
+    room: usize,
+    st: St,
+    ops: &[f64; 256],
+    edges: &mut [f64; 1024],
+    across: &mut [bool; 512],
+    cmds: &mut [u64],
+) -> Ran
+    requires { ⌜ Bounds st (length (now cmds)) ⌝ }
+    requires { ⌜ st .stems ≤ room ⌝ }
+    requires { ⌜ T (finite (st .x)) × T (finite (st .y)) ⌝ }
+    ensures { λ r. ⌜ ((m : Mem) (s : State.State) (c : Run.Outcome) → length (m .stems) ≡ room → Holds st (withOps (now (ops .entry)) (withPath (now (edges .entry)) (now (across .entry)) (now (cmds .entry)) m)) s →
+        Meets r (withOps (now (ops .entry)) (after st r (now (edges .exit)) (now (across .exit)) (now (cmds .exit)) m)) (operate (within room (length (now (cmds .entry)))) c Op.rmoveto s)) ⌝ }
+    ensures { λ r. ⌜ Small.Space st (r .st) room ⌝ }
+{
+    let n = st.operands;
+    if n < 2 {
+        return made(st, 7);
+    }
+    move_by(
+        ops[n - 2],
+        ops[n - 1],
+        room,
+        cleared(st),
+        edges,
+        across,
+        cmds,
+    )
+}
+
+// 22
+fn hmoveto(
+    room: usize,
+    st: St,
+    ops: &[f64; 256],
+    edges: &mut [f64; 1024],
+    across: &mut [bool; 512],
+    cmds: &mut [u64],
+) -> Ran
+    requires { ⌜ Bounds st (length (now cmds)) ⌝ }
+    requires { ⌜ st .stems ≤ room ⌝ }
+    requires { ⌜ T (finite (st .x)) × T (finite (st .y)) ⌝ }
+    ensures { λ r. ⌜ ((m : Mem) (s : State.State) (c : Run.Outcome) → length (m .stems) ≡ room → Holds st (withOps (now (ops .entry)) (withPath (now (edges .entry)) (now (across .entry)) (now (cmds .entry)) m)) s →
+        Meets r (withOps (now (ops .entry)) (after st r (now (edges .exit)) (now (across .exit)) (now (cmds .exit)) m)) (operate (within room (length (now (cmds .entry)))) c Op.hmoveto s)) ⌝ }
+    ensures { λ r. ⌜ Small.Space st (r .st) room ⌝ }
+{
+    let n = st.operands;
+    if n < 1 {
+        return made(st, 7);
+    }
+    move_by(ops[n - 1], 0.0, room, cleared(st), edges, across, cmds)
+}
+
+// 5
+fn rlineto(
+    room: usize,
+    st: St,
+    ops: &[f64; 256],
+    edges: &mut [f64; 1024],
+    across: &mut [bool; 512],
+    cmds: &mut [u64],
+) -> Ran
+    requires { ⌜ Bounds st (length (now cmds)) ⌝ }
+    requires { ⌜ st .stems ≤ room ⌝ }
+    requires { ⌜ T (finite (st .x)) × T (finite (st .y)) ⌝ }
+    ensures { λ r. ⌜ ((m : Mem) (s : State.State) (c : Run.Outcome) → length (m .stems) ≡ room → Holds st (withOps (now (ops .entry)) (withPath (now (edges .entry)) (now (across .entry)) (now (cmds .entry)) m)) s →
+        Meets r (withOps (now (ops .entry)) (after st r (now (edges .exit)) (now (across .exit)) (now (cmds .exit)) m)) (operate (within room (length (now (cmds .entry)))) c Op.rlineto s)) ⌝ }
+    ensures { λ r. ⌜ Small.Space st (r .st) room ⌝ }
+{
+    let n = st.operands;
+    if n < 2 {
+        return made(st, 7);
+    }
+    line_by(
+        ops[n - 2],
+        ops[n - 1],
+        room,
+        cleared(st),
+        edges,
+        across,
+        cmds,
+    )
+}
+
+// 6
+fn hlineto(
+    room: usize,
+    st: St,
+    ops: &[f64; 256],
+    edges: &mut [f64; 1024],
+    across: &mut [bool; 512],
+    cmds: &mut [u64],
+) -> Ran
+    requires { ⌜ Bounds st (length (now cmds)) ⌝ }
+    requires { ⌜ st .stems ≤ room ⌝ }
+    requires { ⌜ T (finite (st .x)) × T (finite (st .y)) ⌝ }
+    ensures { λ r. ⌜ ((m : Mem) (s : State.State) (c : Run.Outcome) → length (m .stems) ≡ room → Holds st (withOps (now (ops .entry)) (withPath (now (edges .entry)) (now (across .entry)) (now (cmds .entry)) m)) s →
+        Meets r (withOps (now (ops .entry)) (after st r (now (edges .exit)) (now (across .exit)) (now (cmds .exit)) m)) (operate (within room (length (now (cmds .entry)))) c Op.hlineto s)) ⌝ }
+    ensures { λ r. ⌜ Small.Space st (r .st) room ⌝ }
+{
+    let n = st.operands;
+    if n < 1 {
+        return made(st, 7);
+    }
+    line_by(ops[n - 1], 0.0, room, cleared(st), edges, across, cmds)
+}
+
+// 7
+fn vlineto(
+    room: usize,
+    st: St,
+    ops: &[f64; 256],
+    edges: &mut [f64; 1024],
+    across: &mut [bool; 512],
+    cmds: &mut [u64],
+) -> Ran
+    requires { ⌜ Bounds st (length (now cmds)) ⌝ }
+    requires { ⌜ st .stems ≤ room ⌝ }
+    requires { ⌜ T (finite (st .x)) × T (finite (st .y)) ⌝ }
+    ensures { λ r. ⌜ ((m : Mem) (s : State.State) (c : Run.Outcome) → length (m .stems) ≡ room → Holds st (withOps (now (ops .entry)) (withPath (now (edges .entry)) (now (across .entry)) (now (cmds .entry)) m)) s →
+        Meets r (withOps (now (ops .entry)) (after st r (now (edges .exit)) (now (across .exit)) (now (cmds .exit)) m)) (operate (within room (length (now (cmds .entry)))) c Op.vlineto s)) ⌝ }
+    ensures { λ r. ⌜ Small.Space st (r .st) room ⌝ }
+{
+    let n = st.operands;
+    if n < 1 {
+        return made(st, 7);
+    }
+    line_by(0.0, ops[n - 1], room, cleared(st), edges, across, cmds)
+}
+
+// 8
+fn rrcurveto(
+    room: usize,
+    st: St,
+    ops: &[f64; 256],
+    edges: &mut [f64; 1024],
+    across: &mut [bool; 512],
+    cmds: &mut [u64],
+) -> Ran
+    requires { ⌜ Bounds st (length (now cmds)) ⌝ }
+    requires { ⌜ st .stems ≤ room ⌝ }
+    requires { ⌜ T (finite (st .x)) × T (finite (st .y)) ⌝ }
+    ensures { λ r. ⌜ ((m : Mem) (s : State.State) (c : Run.Outcome) → length (m .stems) ≡ room → Holds st (withOps (now (ops .entry)) (withPath (now (edges .entry)) (now (across .entry)) (now (cmds .entry)) m)) s →
+        Meets r (withOps (now (ops .entry)) (after st r (now (edges .exit)) (now (across .exit)) (now (cmds .exit)) m)) (operate (within room (length (now (cmds .entry)))) c Op.rrcurveto s)) ⌝ }
+    ensures { λ r. ⌜ Small.Space st (r .st) room ⌝ }
+{
+    let n = st.operands;
+    if n < 6 {
+        return made(st, 7);
+    }
+    curve_by(
+        ops[n - 6],
+        ops[n - 5],
+        ops[n - 4],
+        ops[n - 3],
+        ops[n - 2],
+        ops[n - 1],
+        room,
+        cleared(st),
+        edges,
+        across,
+        cmds,
+    )
+}
+
+// 30
+fn vhcurveto(
+    room: usize,
+    st: St,
+    ops: &[f64; 256],
+    edges: &mut [f64; 1024],
+    across: &mut [bool; 512],
+    cmds: &mut [u64],
+) -> Ran
+    requires { ⌜ Bounds st (length (now cmds)) ⌝ }
+    requires { ⌜ st .stems ≤ room ⌝ }
+    requires { ⌜ T (finite (st .x)) × T (finite (st .y)) ⌝ }
+    ensures { λ r. ⌜ ((m : Mem) (s : State.State) (c : Run.Outcome) → length (m .stems) ≡ room → Holds st (withOps (now (ops .entry)) (withPath (now (edges .entry)) (now (across .entry)) (now (cmds .entry)) m)) s →
+        Meets r (withOps (now (ops .entry)) (after st r (now (edges .exit)) (now (across .exit)) (now (cmds .exit)) m)) (operate (within room (length (now (cmds .entry)))) c Op.vhcurveto s)) ⌝ }
+    ensures { λ r. ⌜ Small.Space st (r .st) room ⌝ }
+{
+    let n = st.operands;
+    if n < 4 {
+        return made(st, 7);
+    }
+    curve_by(
+        0.0,
+        ops[n - 4],
+        ops[n - 3],
+        ops[n - 2],
+        ops[n - 1],
+        0.0,
+        room,
+        cleared(st),
+        edges,
+        across,
+        cmds,
+    )
+}
+
+// 31
+fn hvcurveto(
+    room: usize,
+    st: St,
+    ops: &[f64; 256],
+    edges: &mut [f64; 1024],
+    across: &mut [bool; 512],
+    cmds: &mut [u64],
+) -> Ran
+    requires { ⌜ Bounds st (length (now cmds)) ⌝ }
+    requires { ⌜ st .stems ≤ room ⌝ }
+    requires { ⌜ T (finite (st .x)) × T (finite (st .y)) ⌝ }
+    ensures { λ r. ⌜ ((m : Mem) (s : State.State) (c : Run.Outcome) → length (m .stems) ≡ room → Holds st (withOps (now (ops .entry)) (withPath (now (edges .entry)) (now (across .entry)) (now (cmds .entry)) m)) s →
+        Meets r (withOps (now (ops .entry)) (after st r (now (edges .exit)) (now (across .exit)) (now (cmds .exit)) m)) (operate (within room (length (now (cmds .entry)))) c Op.hvcurveto s)) ⌝ }
+    ensures { λ r. ⌜ Small.Space st (r .st) room ⌝ }
+{
+    let n = st.operands;
+    if n < 4 {
+        return made(st, 7);
+    }
+    curve_by(
+        ops[n - 4],
+        0.0,
+        ops[n - 3],
+        ops[n - 2],
+        0.0,
+        ops[n - 1],
+        room,
+        cleared(st),
+        edges,
+        across,
+        cmds,
+    )
+}
+
+// 12 33
+fn setcurrentpoint(
+    room: usize,
+    st: St,
+    ops: &[f64; 256],
+    edges: &mut [f64; 1024],
+    across: &mut [bool; 512],
+    cmds: &mut [u64],
+) -> Ran
+    requires { ⌜ Bounds st (length (now cmds)) ⌝ }
+    requires { ⌜ st .stems ≤ room ⌝ }
+    requires { ⌜ T (finite (st .x)) × T (finite (st .y)) ⌝ }
+    requires { ⌜ ((i : ℕ) → i < st .operands → T (finite (getD (now ops) i nan))) ⌝ }
+    ensures { λ r. ⌜ ((m : Mem) (s : State.State) (c : Run.Outcome) → length (m .stems) ≡ room → Holds st (withOps (now (ops .entry)) (withPath (now (edges .entry)) (now (across .entry)) (now (cmds .entry)) m)) s →
+        Meets r (withOps (now (ops .entry)) (after st r (now (edges .exit)) (now (across .exit)) (now (cmds .exit)) m)) (operate (within room (length (now (cmds .entry)))) c Op.setcurrentpoint s)) ⌝ }
+    ensures { λ r. ⌜ Small.Space st (r .st) room ⌝ }
+{
+    let n = st.operands;
+    if n < 2 {
+        return made(st, 7);
+    }
+    set_point(
+        ops[n - 2],
+        ops[n - 1],
+        room,
+        cleared(st),
+        edges,
+        across,
+        cmds,
+    )
+}
+
+// ---- hint operators
+
+// 1
+fn hstem(
+    st: St,
+    ops: &[f64; 256],
+    cells: &[f64; 19],
+    edges: &mut [f64; 1024],
+    across: &mut [bool; 512],
+) -> Ran
+    requires { ⌜ (st .operands ≤ 256) × (st .hints ≤ 256) ⌝ }
+    ensures { λ r. ⌜ ((m : Mem) (s : State.State) (c : Run.Outcome) (room words : ℕ) → Holds st (withOps (now (ops .entry)) (withCells (now (cells .entry)) (withHints (now (edges .entry)) (now (across .entry)) m))) s →
+        Meets r (withOps (now (ops .entry)) (withCells (now (cells .entry)) (withHints (now (edges .exit)) (now (across .exit)) m))) (operate (within room words) c Op.hstem s)) ⌝ }
+    ensures { λ r. ⌜ r .st .groups ≡ st .groups ⌝ }
+{
+    let n = st.operands;
+    if n < 2 {
+        return made(st, 7);
+    }
+    add_stem(
+        true,
+        cells[BEARING_Y] + ops[n - 2],
+        ops[n - 1],
+        cleared(st),
+        edges,
+        across,
+    )
+}
+
+// 3
+fn vstem(
+    st: St,
+    ops: &[f64; 256],
+    cells: &[f64; 19],
+    edges: &mut [f64; 1024],
+    across: &mut [bool; 512],
+) -> Ran
+    requires { ⌜ (st .operands ≤ 256) × (st .hints ≤ 256) ⌝ }
+    ensures { λ r. ⌜ ((m : Mem) (s : State.State) (c : Run.Outcome) (room words : ℕ) → Holds st (withOps (now (ops .entry)) (withCells (now (cells .entry)) (withHints (now (edges .entry)) (now (across .entry)) m))) s →
+        Meets r (withOps (now (ops .entry)) (withCells (now (cells .entry)) (withHints (now (edges .exit)) (now (across .exit)) m))) (operate (within room words) c Op.vstem s)) ⌝ }
+    ensures { λ r. ⌜ r .st .groups ≡ st .groups ⌝ }
+{
+    let n = st.operands;
+    if n < 2 {
+        return made(st, 7);
+    }
+    add_stem(
+        false,
+        cells[BEARING_X] + ops[n - 2],
+        ops[n - 1],
+        cleared(st),
+        edges,
+        across,
+    )
+}
+
+// 12 1 and 12 2: three stems in turn, counted from a side bearing.
+fn stems3(
+    horizontal: bool,
+    from: f64,
+    st: St,
+    ops: &[f64; 256],
+    edges: &mut [f64; 1024],
+    across: &mut [bool; 512],
+) -> Ran
+    requires { ⌜ (st .operands ≤ 256) × (st .hints ≤ 256) ⌝ }
+    ensures { λ r. ⌜ ((m : Mem) (s : State.State) (room words : ℕ) → Holds st (withOps (now (ops .entry)) (withHints (now (edges .entry)) (now (across .entry)) m)) s →
+        Meets r (withOps (now (ops .entry)) (withHints (now (edges .exit)) (now (across .exit)) m)) (Run.stems3 (within room words) horizontal from s)) ⌝ }
+    ensures { λ r. ⌜ r .st .groups ≡ st .groups ⌝ }
+{
+    let n = st.operands;
+    if n < 6 {
+        return made(st, 7);
+    }
+    let a = add_stem(
+        horizontal,
+        from + ops[n - 6],
+        ops[n - 5],
+        cleared(st),
+        edges,
+        across,
+    );
+    if a.flow != 0 {
+        return a;
+    }
+    let b = add_stem(
+        horizontal,
+        from + ops[n - 4],
+        ops[n - 3],
+        a.st,
+        edges,
+        across,
+    );
+    if b.flow != 0 {
+        return b;
+    }
+    add_stem(
+        horizontal,
+        from + ops[n - 2],
+        ops[n - 1],
+        b.st,
+        edges,
+        across,
+    )
+}
+
+// ---- OtherSubrs
+
+// The operands from one place to another are left for `pop`, the first popped first.
+fn hand_back(from: usize, to: usize, st: St, ops: &[f64; 256], ps: &mut [f64; 256]) -> Ran
+    requires { ⌜ (from ≤ to) × ((to ≤ 256) × (st .postscript ≤ 256)) ⌝ }
+    ensures { λ r. ⌜ ((m : Mem) (s : State.State) (room words : ℕ) → length (now (ops .entry)) ≡ 256 → Holds st (withPs (now (ps .entry)) m) s →
+        Meets r (withPs (now (ps .exit)) m) (Run.handBack (within room words) (Run.backwards (take (to - from) (drop from (now (ops .entry))))) s)) ⌝ }
+    ensures { λ r. ⌜ r .st .groups ≡ st .groups ⌝ }
+{
+    let p = st.postscript;
+    let n = to - from;
+    if 256 - p < n {
+        return made(st, 15);
+    }
+    let mut i = 0;
+    while i < n {
+        ps[p + i] = ops[to - 1 - i];
+        i += 1;
+    }
+    let mut s = st;
+    s.postscript = p + n;
+    made(s, 0)
+}
+
+// 0: the flex is listed, and its end point left for `pop`.
+fn end_flex(
+    height: f64,
+    room: usize,
+    st: St,
+    ps: &mut [f64; 256],
+    cells: &[f64; 19],
+    edges: &mut [f64; 1024],
+    across: &mut [bool; 512],
+    cmds: &mut [u64],
+) -> Ran
+    requires { ⌜ Bounds st (length (now cmds)) ⌝ }
+    requires { ⌜ st .stems ≤ room ⌝ }
+    requires { ⌜ T (finite height) × (st .flexing ≡ true → (i : ℕ) → i < 2 * st .points → Good (getD (now cells) i nan)) ⌝ }
+    ensures { λ r. ⌜ ((m : Mem) (s : State.State) (args : List Float) → height ≡ Run.heightOf args → length (m .stems) ≡ room → Holds st (withPs (now (ps .entry)) (withCells (now (cells .entry)) (withPath (now (edges .entry)) (now (across .entry)) (now (cmds .entry)) m))) s →
+        Meets r (withPs (now (ps .exit)) (withCells (now (cells .entry)) (after st r (now (edges .exit)) (now (across .exit)) (now (cmds .exit)) m))) (Run.otherSubr0 (within room (length (now (cmds .entry)))) args s)) ⌝ }
+    ensures { λ r. ⌜ Small.Space st (r .st) room ⌝ }
+{
+    if !st.flexing {
+        return made(st, 9);
+    }
+    if st.points != 7 {
+        return made(st, 9);
+    }
+    let mut s = st;
+    s.flexing = false;
+    let c = commit(room, s, edges, across, cmds);
+    if c.flow != 0 {
+        return c;
+    }
+    let e = enter_flex(height, c.st, cells, cmds);
+    if e.flow != 0 {
+        return e;
+    }
+    let mut t = e.st;
+    let p = t.postscript;
+    if 254 < p {
+        return made(t, 15);
+    }
+    ps[p] = cells[13];
+    ps[p + 1] = cells[12];
+    t.postscript = p + 2;
+    t.x = cells[12];
+    t.y = cells[13];
+    made(t, 0)
+}
+
+// 2: the current point is collected.
+fn collect(st: St, cells: &mut [f64; 19]) -> Ran
+    requires { ⌜ st .points ≤ 8 ⌝ }
+    ensures { λ r. ⌜ ((m : Mem) (s : State.State) → Holds st (withCells (now (cells .entry)) m) s →
+        Meets r (withCells (now (cells .exit)) m) (Run.otherSubr2 s)) ⌝ }
+    ensures { λ r. ⌜ r .st .groups ≡ st .groups ⌝ }
+{
+    if !st.flexing {
+        return made(st, 9);
+    }
+    let n = st.points;
+    if n == 8 {
+        return made(st, 0);
+    }
+    cells[2 * n] = st.x;
+    cells[2 * n + 1] = st.y;
+    let mut s = st;
+    s.points = n + 1;
+    made(s, 0)
+}
+
+// 12 16
+fn callothersubr(
+    room: usize,
+    st: St,
+    ops: &[f64; 256],
+    ps: &mut [f64; 256],
+    cells: &mut [f64; 19],
+    edges: &mut [f64; 1024],
+    across: &mut [bool; 512],
+    cmds: &mut [u64],
+) -> Ran
+    requires { ⌜ Bounds st (length (now cmds)) ⌝ }
+    requires { ⌜ st .stems ≤ room ⌝ }
+    requires { ⌜ Small.Finite st (now ops) (now cells) ⌝ }
+    ensures { λ r. ⌜ ((m : Mem) (s : State.State) → length (m .stems) ≡ room → Holds st (withOps (now (ops .entry)) (withPs (now (ps .entry)) (withCells (now (cells .entry)) (withPath (now (edges .entry)) (now (across .entry)) (now (cmds .entry)) m)))) s →
+        Meets r (withOps (now (ops .entry)) (withPs (now (ps .exit)) (withCells (now (cells .exit)) (after st r (now (edges .exit)) (now (across .exit)) (now (cmds .exit)) m)))) (Run.callOtherSubr (within room (length (now (cmds .entry)))) s)) ⌝ }
+    ensures { λ r. ⌜ Small.Space st (r .st) room ⌝ }
+{
+    let n = st.operands;
+    if n < 2 {
+        return made(st, 7);
+    }
+    let left = n - 2;
+    let count = ops[left];
+    if count >= 0.0 {
+        let m = binary64::to_usize(count);
+        if left < m {
+            return made(st, 7);
+        }
+        let from = left - m;
+        let mut s = st;
+        s.operands = from;
+        let number = binary64::to_i64(ops[left + 1]);
+        if number == 0 {
+            if m == 0 {
+                return end_flex(50.0, room, s, ps, cells, edges, across, cmds);
+            }
+            return end_flex(ops[from], room, s, ps, cells, edges, across, cmds);
+        }
+        if number == 1 {
+            s.flexing = true;
+            s.points = 0;
+            return made(s, 0);
+        }
+        if number == 2 {
+            return collect(s, cells);
+        }
+        if number == 3 {
+            s.hints = 0;
+            s.changed = true;
+            return hand_back(from, left, s, ops, ps);
+        }
+        return hand_back(from, left, s, ops, ps);
+    }
+    made(st, 7)
+}
+
+// ---- other operators
+
+// 13
+fn hsbw(st: St, ops: &[f64; 256], cells: &mut [f64; 19]) -> Ran
+    requires { ⌜ st .operands ≤ 256 ⌝ }
+    ensures { λ r. ⌜ ((m : Mem) (s : State.State) (c : Run.Outcome) (room words : ℕ) → Holds st (withOps (now (ops .entry)) (withCells (now (cells .entry)) m)) s →
+        Meets r (withOps (now (ops .entry)) (withCells (now (cells .exit)) m)) (operate (within room words) c Op.hsbw s)) ⌝ }
+    ensures { λ r. ⌜ r .st .groups ≡ st .groups ⌝ }
+{
+    let n = st.operands;
+    if n < 2 {
+        return made(st, 7);
+    }
+    side_bearing(ops[n - 2], 0.0, ops[n - 1], cleared(st), cells)
+}
+
+// 12 7
+fn sbw(st: St, ops: &[f64; 256], cells: &mut [f64; 19]) -> Ran
+    requires { ⌜ st .operands ≤ 256 ⌝ }
+    ensures { λ r. ⌜ ((m : Mem) (s : State.State) (c : Run.Outcome) (room words : ℕ) → Holds st (withOps (now (ops .entry)) (withCells (now (cells .entry)) m)) s →
+        Meets r (withOps (now (ops .entry)) (withCells (now (cells .exit)) m)) (operate (within room words) c Op.sbw s)) ⌝ }
+    ensures { λ r. ⌜ r .st .groups ≡ st .groups ⌝ }
+{
+    let n = st.operands;
+    if n < 4 {
+        return made(st, 7);
+    }
+    side_bearing(ops[n - 4], ops[n - 3], ops[n - 2], cleared(st), cells)
+}
+
+fn side_bearing(x: f64, y: f64, width: f64, st: St, cells: &mut [f64; 19]) -> Ran
+    ensures { λ r. ⌜ ((m : Mem) (s : State.State) → Holds st (withCells (now (cells .entry)) m) s →
+        Meets r (withCells (now (cells .exit)) m) (Run.going (State.withBearing (pointAt x y) width s))) ⌝ }
+    ensures { λ r. ⌜ r .st .groups ≡ st .groups ⌝ }
+{
+    cells[BEARING_X] = x;
+    cells[BEARING_Y] = y;
+    cells[WIDTH] = width;
+    made(at_point(x, y, st), 0)
+}
+
+// 9
+fn closepath(st: St) -> Ran
+    ensures { λ r. ⌜ r ≡ Small.closedRan st ⌝ }
+{
+    let mut s = cleared(st);
+    s.opened = false;
+    made(s, 0)
+}
+
+// 12 12
+fn div(st: St, ops: &mut [f64; 256]) -> Ran
+    requires { ⌜ st .operands ≤ 256 ⌝ }
+    ensures { λ r. ⌜ ((m : Mem) (s : State.State) → Holds st (withOps (now (ops .entry)) m) s →
+        Meets r (withOps (now (ops .exit)) m) (Run.divD s)) ⌝ }
+    ensures { λ r. ⌜ r .st .groups ≡ st .groups ⌝ }
+{
+    let n = st.operands;
+    if n < 2 {
+        return made(st, 7);
+    }
+    let b = ops[n - 1];
+    if b == 0.0 {
+        return made(st, 10);
+    }
+    let q = ops[n - 2] / b;
+    if !binary64::is_finite(q) {
+        return made(st, 14);
+    }
+    ops[n - 2] = q;
+    let mut s = st;
+    s.operands = n - 1;
+    s.divided = true;
+    made(s, 0)
+}
+
+// 12 17
+fn pop(st: St, ops: &mut [f64; 256], ps: &[f64; 256]) -> Ran
+    requires { ⌜ (st .operands ≤ 256) × (st .postscript ≤ 256) ⌝ }
+    ensures { λ r. ⌜ ((m : Mem) (s : State.State) (room words : ℕ) → Holds st (withOps (now (ops .entry)) (withPs (now (ps .entry)) m)) s →
+        Meets r (withOps (now (ops .exit)) (withPs (now (ps .entry)) m)) (Run.popD (within room words) s)) ⌝ }
+    ensures { λ r. ⌜ r .st .groups ≡ st .groups ⌝ }
+{
+    let p = st.postscript;
+    if p == 0 {
+        return made(st, 11);
+    }
+    let n = st.operands;
+    if n == 256 {
+        return made(st, 15);
+    }
+    ops[n] = ps[p - 1];
+    let mut s = st;
+    s.postscript = p - 1;
+    s.operands = n + 1;
+    made(s, 0)
+}
+
+// Every operator but callsubr.
+fn plain(
+    op: u16,
+    room: usize,
+    st: St,
+    ops: &mut [f64; 256],
+    ps: &mut [f64; 256],
+    cells: &mut [f64; 19],
+    edges: &mut [f64; 1024],
+    across: &mut [bool; 512],
+    cmds: &mut [u64],
+) -> Ran
+    requires { ⌜ Bounds st (length (now cmds)) ⌝ }
+    requires { ⌜ st .stems ≤ room ⌝ }
+    requires { ⌜ Small.Finite st (now ops) (now cells) ⌝ }
+    ensures { λ r. ⌜ ((m : Mem) (s : State.State) → length (m .stems) ≡ room → Holds st (withOps (now (ops .entry)) (withPs (now (ps .entry)) (withCells (now (cells .entry)) (withPath (now (edges .entry)) (now (across .entry)) (now (cmds .entry)) m)))) s →
+        Meets r (withOps (now (ops .exit)) (withPs (now (ps .exit)) (withCells (now (cells .exit)) (after st r (now (edges .exit)) (now (across .exit)) (now (cmds .exit)) m)))) (operate (within room (length (now (cmds .entry)))) (Run.refused 6) (operatorOf op) s)) ⌝ }
+    ensures { λ r. ⌜ Small.Space st (r .st) room ⌝ }
+{
+    match op {
+        1 => {
+            return hstem(st, ops, cells, edges, across);
+        }
+        3 => {
+            return vstem(st, ops, cells, edges, across);
+        }
+        4 => {
+            return vmoveto(room, st, ops, edges, across, cmds);
+        }
+        5 => {
+            return rlineto(room, st, ops, edges, across, cmds);
+        }
+        6 => {
+            return hlineto(room, st, ops, edges, across, cmds);
+        }
+        7 => {
+            return vlineto(room, st, ops, edges, across, cmds);
+        }
+        8 => {
+            return rrcurveto(room, st, ops, edges, across, cmds);
+        }
+        9 => {
+            return closepath(st);
+        }
+        11 => {
+            return made(st, 1);
+        }
+        13 => {
+            return hsbw(st, ops, cells);
+        }
+        14 => {
+            return made(cleared(st), 2);
+        }
+        21 => {
+            return rmoveto(room, st, ops, edges, across, cmds);
+        }
+        22 => {
+            return hmoveto(room, st, ops, edges, across, cmds);
+        }
+        30 => {
+            return vhcurveto(room, st, ops, edges, across, cmds);
+        }
+        31 => {
+            return hvcurveto(room, st, ops, edges, across, cmds);
+        }
+        256 => {
+            return made(cleared(st), 0);
+        }
+        257 => {
+            return stems3(false, cells[BEARING_X], st, ops, edges, across);
+        }
+        258 => {
+            return stems3(true, cells[BEARING_Y], st, ops, edges, across);
+        }
+        262 => {
+            return made(st, 12);
+        }
+        263 => {
+            return sbw(st, ops, cells);
+        }
+        268 => {
+            return div(st, ops);
+        }
+        272 => {
+            return callothersubr(room, st, ops, ps, cells, edges, across, cmds);
+        }
+        273 => {
+            return pop(st, ops, ps);
+        }
+        289 => {
+            return setcurrentpoint(room, st, ops, edges, across, cmds);
+        }
+        _ => {
+            return made(st, 6);
+        }
+    }
+}
+
+// ---- subroutines
+
+// A call about to be made: which body.
+struct Called {
+    st: St,
+    flow: u8,
+    index: usize,
+}
+
+// 10: the body that the top operand names, its encrypted bytes counted.
+fn callsubr(bank: &[u8], st: St, ops: &[f64; 256]) -> Called
+    requires { ⌜ Valid (now bank) × ((st .operands ≤ 256) × (st .ran ≤ maxCharstringBytes)) ⌝ }
+    ensures { λ r. ⌜ ((m : Mem) (s : State.State) (lenIV : ℕ) → Holds st (withOps (now (ops .entry)) m) s →
+        Calls (now (bank .entry)) lenIV (withOps (now (ops .entry)) m) s r) ⌝ }
+{
+    let n = st.operands;
+    if n == 0 {
+        return Called {
+            st,
+            flow: 7,
+            index: 0,
+        };
+    }
+    let number = ops[n - 1];
+    if number >= 0.0 {
+        let index = binary64::to_usize(number);
+        let bank::Found::At(start, end) = bank::find(bank, index) else {
+            return Called {
+                st,
+                flow: 8,
+                index: 0,
+            };
+        };
+        let size = end - start;
+        if charstring::MAX_CHARSTRING_BYTES - st.ran < size {
+            return Called {
+                st,
+                flow: 3,
+                index: 0,
+            };
+        }
+        let mut s = st;
+        s.operands = n - 1;
+        s.ran = st.ran + size;
+        return Called {
+            st: s,
+            flow: 0,
+            index,
+        };
+    }
+    Called {
+        st,
+        flow: 8,
+        index: 0,
+    }
+}
+
+// ---- the stem store: the functions that hold it are few and thin
+
+// How many records there are.
+fn room(stems: &mut [Stem]) -> usize
+    ensures { λ r. ⌜ (r ≡ length (now (stems .entry))) × (now (stems .exit) ≡ now (stems .entry)) ⌝ }
+{
+    stems.len()
+}
+
+fn put(stems: &mut [Stem], i: usize, v: Stem)
+    requires { ⌜ i < length (now stems) ⌝ }
+    ensures { λ _. ⌜ now (stems .exit) ≡ set (now (stems .entry)) i v ⌝ }
+{
+    stems[i] = v;
+}
+
+// The zero record: vertical, 0, 0.
+fn blank() -> Stem
+    ensures { λ r. ⌜ r ≡ Small.zeroStem ⌝ }
+{
+    Stem {
+        horizontal: false,
+        pos: 0.0,
+        width: 0.0,
+    }
+}
+
+// The stem in force at a place.
+fn stem_at(i: usize, edges: &[f64; 1024], across: &[bool; 512]) -> Stem
+    requires { ⌜ i < 256 ⌝ }
+    ensures { λ r. ⌜ r ≡ stemAt (now (edges .entry)) (now (across .entry)) i ⌝ }
+{
+    Stem {
+        horizontal: across[i],
+        pos: edges[2 * i],
+        width: edges[2 * i + 1],
+    }
+}
+
+fn sum(a: usize, b: usize) -> usize
+    requires { ⌜ a + b < 18446744073709551616 ⌝ }
+    ensures { λ r. ⌜ r ≡ a + b ⌝ }
+{
+    a + b
+}
+
+// The stems in force are stored as a group's records.
+fn keep_group(used: usize, n: usize, edges: &[f64; 1024], across: &[bool; 512], stems: &mut [Stem])
+    requires { ⌜ (n ≤ 256) × (used + n ≤ length (now stems)) ⌝ }
+    ensures { λ _. ⌜ now (stems .exit) ≡ paste (now (stems .entry)) used (stemsAt 0 n (now (edges .entry)) (now (across .entry))) n ⌝ }
+{
+    let mut i = 0;
+    while i < n {
+        put(stems, sum(used, i), stem_at(i, edges, across));
+        i += 1;
+    }
+}
+
+// Every record becomes the zero record.
+fn wipe(stems: &mut [Stem])
+    ensures { λ _. ⌜ now (stems .exit) ≡ replicate (length (now (stems .entry))) Small.zeroStem ⌝ }
+{
+    let mut i = 0;
+    while i < stems.len() {
+        put(stems, i, blank());
+        i += 1;
+    }
+}
+
+// ---- the run
+
+// The place and the key at which a charstring's plain bytes begin.
+struct Begun {
+    at: usize,
+    key: u16,
+    encrypted: bool,
+}
+
+fn begin(code: &[u8], len_iv: usize) -> Begun
+    ensures { λ r. ⌜ cursorOf (r .at) (r .key) (r .encrypted) ≡ start «len_iv» (now (code .entry)) ⌝ }
+{
+    let c = charstring::Cursor::new(code, len_iv);
+    Begun {
+        at: c.at,
+        key: c.key,
+        encrypted: c.encrypted,
+    }
+}
+
+// One operator.
+fn op(
+    op: u16,
+    bank: &[u8],
+    len_iv: usize,
+    levels: usize,
+    st: St,
+    ops: &mut [f64; 256],
+    ps: &mut [f64; 256],
+    cells: &mut [f64; 19],
+    edges: &mut [f64; 1024],
+    across: &mut [bool; 512],
+    cmds: &mut [u64],
+    stems: &mut [Stem],
+) -> Ran
+    requires { ⌜ (levels < 100) × (Valid (now bank) × Ready st (memOf (now ops) (now ps) (now cells) (now edges) (now across) (now cmds) (now stems))) ⌝ }
+    ensures { λ r. ⌜ Meets r (memOf (now (ops .exit)) (now (ps .exit)) (now (cells .exit)) (now (edges .exit)) (now (across .exit)) (now (cmds .exit)) (now (stems .exit)))
+        (opD (now (bank .entry)) «len_iv» levels op st (memOf (now (ops .entry)) (now (ps .entry)) (now (cells .entry)) (now (edges .entry)) (now (across .entry)) (now (cmds .entry)) (now (stems .entry)))) ⌝ }
+{
+    if op == 10 {
+        let c = callsubr(bank, st, ops);
+        let f = c.flow;
+        if f != 0 {
+            return made(c.st, f);
+        }
+        if levels == 0 {
+            return made(c.st, 4);
+        }
+        return run(
+            bank::body(bank, c.index),
+            bank,
+            len_iv,
+            levels - 1,
+            c.st,
+            ops,
+            ps,
+            cells,
+            edges,
+            across,
+            cmds,
+            stems,
+        );
+    }
+    let n = room(stems);
+    let r = plain(op, n, st, ops, ps, cells, edges, across, cmds);
+    let s = r.st;
+    let g = s.groups;
+    let h = st.groups;
+    if g != h {
+        keep_group(st.stems, st.hints, edges, across, stems);
+        return r;
+    }
+    r
+}
+
+// The bytes of a charstring or of a body.
+fn run(
+    code: &[u8],
+    bank: &[u8],
+    len_iv: usize,
+    levels: usize,
+    st: St,
+    ops: &mut [f64; 256],
+    ps: &mut [f64; 256],
+    cells: &mut [f64; 19],
+    edges: &mut [f64; 1024],
+    across: &mut [bool; 512],
+    cmds: &mut [u64],
+    stems: &mut [Stem],
+) -> Ran
+    requires { ⌜ (levels < 100) × (Valid (now bank) × Ready st (memOf (now ops) (now ps) (now cells) (now edges) (now across) (now cmds) (now stems))) ⌝ }
+    ensures { λ r. ⌜ Meets r (memOf (now (ops .exit)) (now (ps .exit)) (now (cells .exit)) (now (edges .exit)) (now (across .exit)) (now (cmds .exit)) (now (stems .exit)))
+        (runD (now (bank .entry)) «len_iv» levels (now (code .entry)) st (memOf (now (ops .entry)) (now (ps .entry)) (now (cells .entry)) (now (edges .entry)) (now (across .entry)) (now (cmds .entry)) (now (stems .entry)))) ⌝ }
+{
+    let b = begin(code, len_iv);
+    let e = b.encrypted;
+    let mut i = b.at;
+    let mut key = b.key;
+    let mut s = st;
+    while i < code.len() {
+        let t = token(code, i, key, e, s, ops);
+        s = t.st;
+        let g = t.flow;
+        if g != 0 {
+            return stopped(s, g);
+        }
+        i = t.next;
+        key = t.key;
+        let r = op(
+            t.op,
+            bank,
+            len_iv,
+            levels,
+            s,
+            ops,
+            ps,
+            cells,
+            edges,
+            across,
+            cmds,
+            stems,
+        );
+        s = r.st;
+        let f = r.flow;
+        if f != 0 {
+            return stopped(s, f);
+        }
+    }
+    made(s, 0)
+}
+
+// What a run leaves: document 01's number, and where it is 0 the width, the bytes run, and how many
+// entries and records the stores hold.
+pub struct Interpreted {
+    pub number: u64,
+    pub width: f64,
+    pub ran: usize,
+    pub entries: usize,
+    pub stems: usize,
+}
+
+// The state before the first byte, with so many bytes counted.
+fn zero_state(ran: usize) -> St
+    ensures { λ r. ⌜ r ≡ zeroSt ran ⌝ }
+{
+    St {
+        operands: 0,
+        postscript: 0,
+        x: 0.0,
+        y: 0.0,
+        opened: false,
+        flexing: false,
+        points: 0,
+        hints: 0,
+        changed: false,
+        last: 0,
+        groups: 0,
+        stems: 0,
+        entries: 0,
+        divided: false,
+        ran,
+    }
+}
+
+// The bank's layout is tested, and the charstring's bytes are counted.
+fn start_run(charstring: &[u8], bank: &[u8]) -> Ran
+    ensures { λ r. ⌜ r ≡ Small.ranOf (zeroSt (length (now (charstring .entry)))) (startFlow (now (charstring .entry)) (now (bank .entry))) ⌝ }
+{
+    let st = zero_state(charstring.len());
+    if !bank::is_valid(bank) {
+        return made(st, 2);
+    }
+    if charstring.len() <= 1048576 {
+        made(st, 0)
+    } else {
+        made(st, 3)
+    }
+}
+
+// The number that a run's flow stands for.
+fn number_of(flow: u8) -> u8
+    ensures { λ r. ⌜ r ≡ numberOf flow ⌝ }
+{
+    if flow == 2 { 0 } else { flow }
+}
+
+// Every word becomes 0.
+fn wipe_words(commands: &mut [u64])
+    ensures { λ _. ⌜ now (commands .exit) ≡ replicate (length (now (commands .entry))) 0 ⌝ }
+{
+    let mut i = 0;
+    while i < commands.len() {
+        commands[i] = 0;
+        i += 1;
+    }
+}
+
+fn refused(number: u8) -> Interpreted
+    ensures { λ r. ⌜ r ≡ refusedWith number ⌝ }
+{
+    Interpreted {
+        number: number as u64,
+        width: 0.0,
+        ran: 0,
+        entries: 0,
+        stems: 0,
+    }
+}
+
+fn answer(st: St, cells: &[f64; 19]) -> Interpreted
+    ensures { λ r. ⌜ r ≡ answerOf st (now (cells .entry)) ⌝ }
+{
+    Interpreted {
+        number: 0,
+        width: cells[18],
+        ran: st.ran,
+        entries: st.entries,
+        stems: st.stems,
+    }
+}
+
+// The entry's work, on arrays that are zero.
+fn interpret(
+    charstring: &[u8],
+    bank: &[u8],
+    len_iv: usize,
+    ops: &mut [f64; 256],
+    ps: &mut [f64; 256],
+    cells: &mut [f64; 19],
+    edges: &mut [f64; 1024],
+    across: &mut [bool; 512],
+    commands: &mut [u64],
+    stems: &mut [Stem],
+) -> Interpreted
+    requires { ⌜ Cleared (now ops) (now ps) (now cells) (now edges) (now across) ⌝ }
+    ensures { λ r. ⌜ Leaves r (now (commands .exit)) (now (stems .exit)) (now (commands .entry)) (now (stems .entry)) (outcome (now (charstring .entry)) (now (bank .entry)) «len_iv» (length (now (stems .entry))) (length (now (commands .entry)))) ⌝ }
+{
+    let b = start_run(charstring, bank);
+    let f = b.flow;
+    if f != 0 {
+        wipe(stems);
+        wipe_words(commands);
+        return refused(f);
+    }
+    let r = run(
+        charstring,
+        bank,
+        len_iv,
+        10,
+        b.st,
+        ops,
+        ps,
+        cells,
+        edges,
+        across,
+        commands,
+        stems,
+    );
+    let g = number_of(r.flow);
+    if g != 0 {
+        wipe(stems);
+        wipe_words(commands);
+        return refused(g);
+    }
+    answer(r.st, cells)
+}
+
+// Runs a Type 1 charstring with the subroutines of a bank.
+pub fn run_charstring(
+    charstring: &[u8],
+    bank: &[u8],
+    len_iv: usize,
+    commands: &mut [u64],
+    stems: &mut [Stem],
+) -> Interpreted
+    ensures { λ r. ⌜ Leaves r (now (commands .exit)) (now (stems .exit)) (now (commands .entry)) (now (stems .entry)) (outcome (now (charstring .entry)) (now (bank .entry)) «len_iv» (length (now (stems .entry))) (length (now (commands .entry)))) ⌝ }
+{
+    let mut ops = [0.0; 256];
+    let mut ps = [0.0; 256];
+    let mut cells = [0.0; 19];
+    let mut edges = [0.0; 1024];
+    let mut across = [false; 512];
+    interpret(
+        charstring,
+        bank,
+        len_iv,
+        &mut ops,
+        &mut ps,
+        &mut cells,
+        &mut edges,
+        &mut across,
+        commands,
+        stems,
+    )
+}
