@@ -1,26 +1,24 @@
 -- Laws: path commands: a step of the code is the run's step, with its group and its entries.
 use mathlib.Core.Path.{_≡_, refl, sym, ap, ap₂, _∙_, subst}
-use Prim.Native.Nat.{ℕ, zero, suc, _+_, _-_, _*_, _≤_, _<_}
+use Prim.Native.Nat.{ℕ, suc, _+_, _-_, _*_, _≤_}
 use native.Mathlib.Omega.{arith}
-use mathlib.Core.Bool.{Bool, true, false, not, _&&_, true≢false}
-use mathlib.Core.List.{List, [], _∷_, _++_}
-use mathlib.Core.Option.{Option, none, some}
+use mathlib.Core.Bool.{Bool, true, false, not, _&&_}
+use mathlib.Core.List.{List}
 use mathlib.Core.Logic.{_⊎_, inl, inr}
 use borrow.Author.Tests.{eq-eqb, ne-eqb, eqb-true, eqb-false}
-use lib.Dec.{T, eqb, leb, ltb, lit≤}
-use lib.ListN.{length, getD, take, drop}
+use lib.Dec.{T, eqb, lit≤}
+use lib.ListN.{length}
 use lib.Seq.{paste, length-paste}
-use lib.Ieee.{Float, nan, binary64, add, eq}
+use lib.Ieee.{Float, binary64, add, eq}
 use lib.Ieee.Scale.{finite}
 use lib.Ieee.Fits.{and-l, and-r}
 use Rattle.geometry.specs.declared.Point.{Point}
 use Rattle.type1.specs.declared.Stem.{Stem}
 use Rattle.type1.specs.declared.St.{St}
 use Rattle.type1.specs.declared.Ran.{Ran}
-use Rattle.type1.specs.State.{Command, move, line, curve, State, withOperands, withPoint, withOpen}
+use Rattle.type1.specs.State.{Command, move, line, curve, State, withPoint, withOpen}
 use Rattle.type1.specs.Run.{pick, Limits, within, Outcome, going, returning, ending, refused, andThen, check, commit, enter, list, pointAt, isFinite, shifted, noFlex, moveBy, openSubpath, lineTo, lineBy, curveTo, curveBy, samePoint, setPoint}
-use Rattle.type1.specs.Memory.{Mem, stemsAt, flexIn, abs, Bounds, Fit, Holds, Meets, kept, after, withPath, withStems, withCmds, Plain, Path, pointCommand}
-use Rattle.type1.specs.Reading.{withCount}
+use Rattle.type1.specs.Memory.{Mem, stemsAt, flexIn, abs, Bounds, Fit, Holds, Meets, kept, after, withPath, withStems, withCmds, Plain, Path}
 use Rattle.type1.specs.Small.{ranOf, withXY, withOpened, openedRan, Grown, Entered, Space, Quiet}
 use Rattle.type1.proofs.Hints.{stems-length}
 use Rattle.type1.proofs.Groups.{Step, kept-none, after-none}
@@ -69,8 +67,6 @@ lists-on t d r e e' a a' c c' c'' room x C z len E P m s q H =
     (subst (λ (n : ℕ). Meets r (withCmds c'' M) (enter (within room n) x u)) len (E M u room h)))
 
 -- ---- the small state over two steps
-pub path-stop : (t : St) (r : Ran) (room : ℕ) → Path t r room → Path t r room
-path-stop t r room P = P
 
 pub path-enter : (t : St) (d r : Ran) (room : ℕ) → Path t d room → d .flow ≡ 0 → Plain (d .st) (r .st) → Path t r room
 path-enter t d r room P z E = record {
@@ -125,10 +121,6 @@ opened-meets r q M (going s) e h = subst (λ (x : Ran). Meets x M (going (withOp
 opened-meets r q M (returning s) e h = subst (λ (x : Ran). Meets x M (returning s)) (sym (e ∙ ap (λ (b : Bool). pick b (ranOf (withOpened true (r .st)) 0) r) (ne-eqb (r .flow) 0 (λ z. let y : 1 ≡ 0 = sym (h .0) ∙ z in let x : ⊥ = omega arith in x)))) h
 opened-meets r q M (ending s) e h = subst (λ (x : Ran). Meets x M (ending s)) (sym (e ∙ ap (λ (b : Bool). pick b (ranOf (withOpened true (r .st)) 0) r) (ne-eqb (r .flow) 0 (λ z. let y : 2 ≡ 0 = sym (h .0) ∙ z in let x : ⊥ = omega arith in x)))) h
 opened-meets r q M (refused n) e h = subst (λ (x : Ran). Meets x M (refused n)) (sym (e ∙ ap (λ (b : Bool). pick b (ranOf (withOpened true (r .st)) 0) r) (ne-eqb (r .flow) 0 (λ z. let a = h .0 in let b = h .1 in let x : ⊥ = omega arith in x)))) h
-
--- what it leaves of the small state
-abbrev pub Like : St → St → Type 0
-Like u v = (u .groups ≡ v .groups) × ((u .changed ≡ v .changed) × ((u .hints ≡ v .hints) × (u .stems ≡ v .stems)))
 
 opened-like : (r q : Ran) → q ≡ openedRan r → (q .flow ≡ r .flow) × ((q .st .groups ≡ r .st .groups) × (q .st .changed ≡ r .st .changed))
 opened-like r q e = subst (λ (x : Ran). (x .flow ≡ r .flow) × ((x .st .groups ≡ r .st .groups) × (x .st .changed ≡ r .st .changed))) (sym e) (go (eqb (r .flow) 0) refl)
@@ -253,9 +245,6 @@ module _ (D : Limits → State → Outcome) (t : St) (e e' : List Float) (a a' :
 pub space-of : (t : St) (r : Ran) (room : ℕ) → Path t r room → Space t (r .st) room
 space-of t r room P = P .space
 
-pub space-stay : (t u : St) (room : ℕ) → u .groups ≡ t .groups → Space t u room
-space-stay t u room e n = absurd (n e)
-
 pub space-move : (t : St) (d r : Ran) (room : ℕ) → Path t d room → d .flow ≡ 0 → Path (d .st) r room → Space t (r .st) room
 space-move t d r room P z Q n = P .space (λ h. n (Q .quiet (P .settled z) ∙ h))
 
@@ -284,9 +273,6 @@ finite-both x y b e h = let t = subst T (sym (sym e ∙ h)) tt in (and-l (finite
 
 pub path-infinite : (t : St) (r : Ran) (n room : ℕ) → r ≡ ranOf t (suc n) → Path t r room
 path-infinite t r n room e = record { quiet = λ z. ap (λ (q : Ran). q .st .groups) e; settled = λ z. absurd (let y : suc n ≡ 0 = sym (ap (λ (q : Ran). q .flow) e) ∙ z in let x : ⊥ = omega arith in x); space = λ z. absurd (z (ap (λ (q : Ran). q .st .groups) e)) }
-
-pub opened-both : (r q : Ran) → q ≡ openedRan r → (q .flow ≡ r .flow) × ((q .st .groups ≡ r .st .groups) × (q .st .changed ≡ r .st .changed))
-opened-both r q e = opened-like r q e
 
 pub space-opened : (t u : St) (d r : Ran) (room : ℕ) (x y : Float) → u ≡ withXY x y t → r ≡ openedRan d → Path u d room → Space t (r .st) room
 space-opened t u d r room x y e p P n = subst (λ (v : St). Path v d room) e P .space (λ h. n (opened-like d r p .1 .0 ∙ h))

@@ -4,26 +4,25 @@ use Prim.Native.Nat.{ℕ, zero, suc, _+_, _-_, _*_, _≤_, _<_}
 use native.Mathlib.Nat.{add-zero, pos-of-ne-zero}
 use native.Mathlib.Numerals.{add-one}
 use native.Mathlib.Omega.{arith}
-use mathlib.Core.Bool.{Bool, true, false, not, _&&_}
+use mathlib.Core.Bool.{Bool, true, false, not}
 use mathlib.Core.List.{List, [], _∷_, _++_, append-nil, append-assoc}
 use mathlib.Core.Option.{Option, none, some}
-use borrow.Author.Tests.{eq-eqb, ne-eqb, le-leb, lt-leb, eqb-true, eqb-false, lt-ltb, le-ltb}
-use lib.Dec.{T, eqb, leb, ltb, lit≤}
+use borrow.Author.Tests.{le-leb, lt-leb, lt-ltb, le-ltb}
+use lib.Dec.{leb, ltb, lit≤}
 use lib.Arith.{lt-of-le-ne}
 use lib.ListN.{length, getD, take, drop, set, length-set, length-append}
-use lib.Seq.{getD-set-same, getD-set-other, getD-take, length-take-le, take-take, take-suc-set, drop-cons, take-set-le}
+use lib.Seq.{getD-set-same, getD-set-other, getD-take, length-take-le, take-take, take-suc-set, drop-cons}
 use lib.Ieee.{Float, nan, binary64, eq, div}
 use lib.Ieee.Scale.{finite}
 use Rattle.charstring.specs.Cipher.{maxCharstringBytes}
 use Rattle.geometry.specs.declared.Point.{Point}
-use Rattle.type1.specs.declared.Stem.{Stem}
 use Rattle.type1.specs.declared.St.{St}
 use Rattle.type1.specs.declared.Ran.{Ran}
 use Rattle.type1.specs.State.{State, plusZero, withOperands, withPostscript, withPoint, withBearing, withDivided, withFlex}
-use Rattle.type1.specs.Run.{pick, Limits, within, Outcome, going, refused, check, top, cleared, without, needs, push, popD, divD, backwards, handBack, collected, otherSubr2, pointAt}
+use Rattle.type1.specs.Run.{pick, within, Outcome, going, refused, check, top, cleared, without, needs, push, popD, divD, backwards, handBack, collected, otherSubr2, pointAt}
 use Rattle.type1.specs.Memory.{Mem, pointsAt, flexIn, abs, Bounds, Fit, Holds, Meets, withOps, withPs, withCells}
 use Rattle.type1.specs.Reading.{withCount}
-use Rattle.type1.specs.Small.{ranOf, withXY, withOpened, openedRan}
+use Rattle.type1.specs.Small.{ranOf, withXY}
 
 -- ---- what the stores do not hold changes: the state still fits
 abbrev pub small : ℕ → ℕ → Float → Float → Bool → Bool → ℕ → ℕ → Bool → Bool → ℕ → St → St
@@ -403,11 +402,6 @@ module _ (o : List Float) (from to : ℕ) (h : from ≤ to) (k : to ≤ 256) (l 
         (ap (λ (j : ℕ). take (t .postscript + j) ps) (sym n) ∙ I .is (omega arith) ∙ ap (λ (j : ℕ). take (t .postscript) (m .ps) ++ handed o to j) n ∙ ap (λ (q : List Float). take (t .postscript) (m .ps) ++ q) handed-is)
 
 -- ---- a subpath is open where the step before goes on
-pub opened-stopped : (r : Ran) → (r .flow ≡ 0 → ⊥) → r ≡ openedRan r
-opened-stopped r n = sym (ap (λ (b : Bool). pick b (ranOf (withOpened true (r .st)) 0) r) (ne-eqb (r .flow) 0 n))
-
-pub opened-goes : (r : Ran) → r .flow ≡ 0 → openedRan r ≡ ranOf (withOpened true (r .st)) 0
-opened-goes r e = ap (λ (b : Bool). pick b (ranOf (withOpened true (r .st)) 0) r) (eq-eqb (r .flow) 0 e)
 
 pub fewer-bounds : (t : St) (n words : ℕ) → Bounds t words → n ≤ t .operands → Bounds (withCount n t) words
 fewer-bounds t n words b h = record { operands = (let o = b .operands in omega arith); postscript = b .postscript; points = b .points; hints = b .hints; last = b .last; groups = b .groups; entries = b .entries; ran = b .ran }

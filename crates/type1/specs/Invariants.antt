@@ -1,5 +1,5 @@
 -- Laws: what is so of the state that a run from `start` leaves (`Outcomes.ends-going` and `ends-ending` give it for the state itself).
---     run-points    it drew at most as many points as it ran bytes, and those are at most 1,048,576
+--     run-points    points drawn and operands held are together at most the bytes run, and those are at most 1,048,576
 --     run-finite    every number and point is finite
 --     run-whole     if no div ran, every number and point is whole
 --     run-placed    the groups' numbers rise strictly and are below the number of entries drawn
@@ -95,7 +95,7 @@ unfolding pointsOf Rising
 start-weighs = record { below = omega arith; ran = omega arith; placed = tt }
 
 module _ (lim : Limits) (f : Font) (l : List ℕ) where
-  pub run-points : Ends (λ t. (pointsOf (t .drawn) ≤ t .ran) × (t .ran ≤ 1048576)) (run lim f l start)
+  pub run-points : Ends (λ t. (pointsOf (t .drawn) + length (t .operands) ≤ t .ran) × (t .ran ≤ 1048576)) (run lim f l start)
   run-points = weaken-ends (Weighs 0) _ (run lim f l start) (λ t w. let b = w .below in (omega arith, w .ran)) (run-weighs lim f 0 l start start-weighs)
 
   pub run-placed : Ends Placed (run lim f l start)
