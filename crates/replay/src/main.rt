@@ -7,6 +7,8 @@ ghost use lib.Dec.{T};
 ghost use lib.ListN.{length, getD, replicate};
 ghost use lib.Ieee.{binary64, ofBits};
 ghost use Rattle.widths.specs.Widths.{zeroWidth};
+ghost use Rattle.type1.specs.Interpret.{outcome, Leaves};
+ghost use Rattle.replay.specs.Stores.{usedStem, afterRun};
 use libc::STDOUT_FILENO;
 
 // The most bytes of a payload.
@@ -369,6 +371,267 @@ fn compare_choose_widths(v: &[u8]) -> bool {
     compare_widths(v, size(v, 1), &mut ws, &mut scratch)
 }
 
+// The most stem records and command words of a run.
+const RECORDS: usize = 512;
+
+const ENTRIES: usize = 1024;
+
+const WORDS: usize = 14336;
+
+// What the command store holds before a call.
+const USED: u64 = 170;
+
+fn command_store() -> [u64; WORDS]
+    ensures { λ r. ⌜ 14336 ≡ length r ⌝ }
+{
+    [USED; WORDS]
+}
+
+// The stem store before a call: no record is zero.
+fn stem_store() -> [type1::Stem; RECORDS]
+    ensures { λ r. ⌜ r ≡ replicate 512 usedStem ⌝ }
+{
+    let used = type1::Stem {
+        horizontal: true,
+        pos: 0.0,
+        width: 0.0,
+    };
+    [used; RECORDS]
+}
+
+// What a run answers, and the stem store after it.
+struct AfterRun {
+    answer: type1::Interpreted,
+    stems: [type1::Stem; RECORDS],
+}
+
+fn with_stems(answer: type1::Interpreted, stems: [type1::Stem; RECORDS]) -> AfterRun
+    ensures { λ r. ⌜ r ≡ afterRun answer stems ⌝ }
+{
+    AfterRun { answer, stems }
+}
+
+// Runs a charstring with a stem store of its own.
+fn run(charstring: &[u8], bank: &[u8], len_iv: usize, words: &mut [u64]) -> AfterRun
+    ensures { λ r. ⌜ Leaves (r .answer) (now (words .exit)) (r .stems) (now (words .entry)) (replicate 512 usedStem) (outcome (now (charstring .entry)) (now (bank .entry)) «len_iv» 512 (length (now (words .entry)))) ⌝ }
+{
+    let mut stems = stem_store();
+    let answer = type1::run_charstring(charstring, bank, len_iv, words, &mut stems);
+    with_stems(answer, stems)
+}
+
+// The record at a place; a zero record beyond the end.
+fn stem_at(stems: [type1::Stem; RECORDS], at: usize) -> type1::Stem {
+    if at < RECORDS {
+        return stems[at];
+    }
+    type1::Stem {
+        horizontal: false,
+        pos: 0.0,
+        width: 0.0,
+    }
+}
+
+fn direction(s: type1::Stem) -> u64 {
+    if s.horizontal { 1 } else { 0 }
+}
+
+// The record is that of the vector's place.
+fn is_stem(s: type1::Stem, v: &[u8], at: usize) -> bool {
+    direction(s) == number(v, at)
+        && same(s.pos, double(v, place(at, 8)))
+        && same(s.width, double(v, place(at, 16)))
+}
+
+// The place after the stems of a group; 0 where one is not among the records.
+fn after_stems(
+    stems: [type1::Stem; RECORDS],
+    first: usize,
+    count: usize,
+    v: &[u8],
+    from: usize,
+) -> usize {
+    let mut at = from;
+    let mut i: usize = 0;
+    while i < count {
+        if !is_stem(stem_at(stems, place(first, i)), v, at) {
+            return 0;
+        }
+        at = place(at, 24);
+        i += 1;
+    }
+    at
+}
+
+// Word k of an entry; 0 beyond the end.
+fn word(words: &[u64], entry: usize, k: usize) -> u64 {
+    if entry >= ENTRIES {
+        return 0;
+    }
+    let at = place(14 * entry, k);
+    if at < words.len() { words[at] } else { 0 }
+}
+
+// The kind of an entry that starts a group.
+const GROUP: u64 = 5;
+
+// The place after a vector's groups, which begin with their count; 0 where one differs.
+// A group's entry has the first of its records, which follow those of the group before, and their count.
+fn after_groups(words: &[u64], r: AfterRun, v: &[u8], from: usize) -> usize {
+    let answer = r.answer;
+    let stems = r.stems;
+    let entries = answer.entries;
+    let mut at = place(from, 8);
+    let mut groups: u64 = 0;
+    let mut used: u64 = 0;
+    let mut e: usize = 0;
+    while e < entries {
+        if word(words, e, 0) == GROUP {
+            let count = word(words, e, 2);
+            if word(words, e, 1) != used || count != number(v, at) {
+                return 0;
+            }
+            at = after_stems(stems, used as usize, count as usize, v, place(at, 8));
+            if at == 0 {
+                return 0;
+            }
+            groups = sum(groups, 1);
+            used = sum(used, count);
+        }
+        e += 1;
+    }
+    if groups == number(v, from) && used == answer.stems as u64 {
+        at
+    } else {
+        0
+    }
+}
+
+// How many numbers a vector's command has.
+fn numbers_of(kind: u64) -> usize {
+    match kind {
+        0 => 2,
+        1 => 2,
+        2 => 6,
+        3 => 13,
+        _ => 0,
+    }
+}
+
+// The place after a vector's command, which is the entry's; 0 where it is not.
+fn after_command(words: &[u64], entry: usize, v: &[u8], from: usize) -> usize {
+    let kind = number(v, from);
+    if word(words, entry, 0) != sum(kind, 1) {
+        return 0;
+    }
+    let n = numbers_of(kind);
+    let mut at = place(from, 8);
+    let mut i: usize = 0;
+    while i < n {
+        if !same(from_pattern(word(words, entry, place(i, 1))), double(v, at)) {
+            return 0;
+        }
+        at = place(at, 8);
+        i += 1;
+    }
+    at
+}
+
+// The start of a group, among a vector's commands: its number.
+const START: u64 = 4;
+
+// The place after a vector's commands, which begin with their count; 0 where one differs.
+fn after_commands(words: &[u64], entries: usize, v: &[u8], from: usize) -> usize {
+    let mut at = place(from, 8);
+    let mut groups: u64 = 0;
+    let mut e: usize = 0;
+    while e < entries {
+        let kind = number(v, at);
+        let next = after_command(words, e, v, at);
+        if next == 0 {
+            return 0;
+        }
+        at = next;
+        if kind == START {
+            if number(v, at) != groups {
+                return 0;
+            }
+            groups = sum(groups, 1);
+            at = place(at, 8);
+        }
+        e += 1;
+    }
+    if number(v, from) == entries as u64 {
+        at
+    } else {
+        0
+    }
+}
+
+fn all_zero(words: &[u64]) -> bool {
+    let mut i: usize = 0;
+    while i < words.len() {
+        if words[i] != 0 {
+            return false;
+        }
+        i += 1;
+    }
+    true
+}
+
+fn is_blank(s: type1::Stem) -> bool {
+    direction(s) == 0 && same(s.pos, 0.0) && same(s.width, 0.0)
+}
+
+fn all_blank(stems: [type1::Stem; RECORDS]) -> bool {
+    let mut i: usize = 0;
+    while i < RECORDS {
+        if !is_blank(stem_at(stems, i)) {
+            return false;
+        }
+        i += 1;
+    }
+    true
+}
+
+// A refused run: all but the number are 0, and both stores are zero.
+fn is_refusal(words: &[u64], r: AfterRun) -> bool {
+    let answer = r.answer;
+    let stems = r.stems;
+    same(answer.width, 0.0)
+        && answer.ran == 0
+        && answer.entries == 0
+        && answer.stems == 0
+        && all_zero(words)
+        && all_blank(stems)
+}
+
+// The run is that of the vector's results, which begin at a place.
+fn is_run(words: &[u64], r: AfterRun, v: &[u8], at: usize) -> bool {
+    let answer = r.answer;
+    if answer.number != number(v, at) {
+        return false;
+    }
+    if answer.number != 0 {
+        return v.len() == place(at, 8) && is_refusal(words, r);
+    }
+    if !same(answer.width, double(v, place(at, 8))) || answer.ran != size(v, place(at, 16)) {
+        return false;
+    }
+    let commands = after_groups(words, r, v, place(at, 24));
+    commands != 0 && after_commands(words, answer.entries, v, commands) == v.len()
+}
+
+fn compare_run(v: &[u8]) -> bool {
+    let len_iv = size(v, 1);
+    let charstring = string(v, 9);
+    let at = after_string(v, 9);
+    let bank = string(v, at);
+    let mut words = command_store();
+    let r = run(charstring, bank, len_iv, &mut words);
+    is_run(&words, r, v, after_string(v, at))
+}
+
 // Our function gives what the vector says. A vector of another kind than its file's counts as different.
 fn compare(kind: u64, v: &[u8]) -> bool {
     if byte(v, 0) != kind {
@@ -388,6 +651,7 @@ fn compare(kind: u64, v: &[u8]) -> bool {
         11 => compare_quantize(v),
         12 => compare_push_number(v),
         13 => compare_choose_widths(v),
+        14 => compare_run(v),
         _ => false,
     }
 }
@@ -520,5 +784,6 @@ fn main() {
     t = replay(b"quantize", b"quantize.vec", 11, t);
     t = replay(b"push_number", b"push_number.vec", 12, t);
     t = replay(b"choose_widths", b"choose_widths.vec", 13, t);
+    t = replay(b"run", b"run.vec", 14, t);
     print(b"total", t);
 }

@@ -1,0 +1,79 @@
+-- `replay::after_commands` is safe, and ends.
+use Prim.Native.Nat.{_-_, _≤_}
+use native.Mathlib.Omega.{arith}
+use borrow.Author.Needs.{needs}
+use Rattle.replay.proofs.after_commands.Statement.{statement}
+use Rattle.replay.proofs.after_commands.Tie as tie
+
+abbrev Inv-loop : tie.InvT-loop
+Inv-loop words entries v from at₀ groups₀ e₀ at groups e = e ≤ entries
+
+abbrev μ-loop : tie.MeasureT-loop
+μ-loop words entries v from at₀ groups₀ e₀ at groups e = entries - e
+
+place-requires : tie.Need-place-requires Inv-loop μ-loop
+place-requires c κs = search needs
+
+loop-holds : tie.Need-loop-holds Inv-loop μ-loop
+loop-holds c = omega arith
+
+number-requires : tie.Need-number-requires Inv-loop μ-loop
+number-requires c κs = search needs
+
+after-command-requires : tie.Need-after-command-requires Inv-loop μ-loop
+after-command-requires c κs = search needs
+
+returns : tie.Need-returns Inv-loop μ-loop
+returns c = search needs
+
+number-requires-2 : tie.Need-number-requires-2 Inv-loop μ-loop
+number-requires-2 c κs = search needs
+
+returns-2 : tie.Need-returns-2 Inv-loop μ-loop
+returns-2 c = search needs
+
+sum-requires : tie.Need-sum-requires Inv-loop μ-loop
+sum-requires c κs = search needs
+
+place-requires-2 : tie.Need-place-requires-2 Inv-loop μ-loop
+place-requires-2 c κs = search needs
+
+add-e : tie.Need-add-e Inv-loop μ-loop
+add-e c = search needs
+
+loop-less : tie.Need-loop-less Inv-loop μ-loop
+loop-less c = search needs
+
+loop-again : tie.Need-loop-again Inv-loop μ-loop
+loop-again c = omega arith
+
+number-requires-3 : tie.Need-number-requires-3 Inv-loop μ-loop
+number-requires-3 c κs = search needs
+
+returns-3 : tie.Need-returns-3 Inv-loop μ-loop
+returns-3 c = search needs
+
+returns-4 : tie.Need-returns-4 Inv-loop μ-loop
+returns-4 c = search needs
+
+pub after-commands-spec : {M : Type 1} → statement M
+after-commands-spec =
+    tie.close
+    (tie.spec
+    Inv-loop
+    μ-loop
+    place-requires
+    loop-holds
+    number-requires
+    after-command-requires
+    returns
+    number-requires-2
+    returns-2
+    sum-requires
+    place-requires-2
+    add-e
+    loop-less
+    loop-again
+    number-requires-3
+    returns-3
+    returns-4)

@@ -1,0 +1,51 @@
+-- `replay::all_blank` is safe, and ends.
+use Prim.Native.Nat.{_-_, _≤_}
+use native.Mathlib.Omega.{arith}
+use borrow.Author.Needs.{needs}
+use Rattle.replay.proofs.all_blank.Statement.{statement}
+use Rattle.replay.proofs.all_blank.Tie as tie
+
+abbrev Inv-loop : tie.InvT-loop
+Inv-loop stems i₀ i = i ≤ 512
+
+abbrev μ-loop : tie.MeasureT-loop
+μ-loop stems i₀ i = 512 - i
+
+loop-holds : tie.Need-loop-holds Inv-loop μ-loop
+loop-holds c = omega arith
+
+stem-at-requires : tie.Need-stem-at-requires Inv-loop μ-loop
+stem-at-requires c κs = search needs
+
+is-blank-requires : tie.Need-is-blank-requires Inv-loop μ-loop
+is-blank-requires c κs = search needs
+
+returns : tie.Need-returns Inv-loop μ-loop
+returns c = search needs
+
+add-i : tie.Need-add-i Inv-loop μ-loop
+add-i c = search needs
+
+loop-less : tie.Need-loop-less Inv-loop μ-loop
+loop-less c = search needs
+
+loop-again : tie.Need-loop-again Inv-loop μ-loop
+loop-again c = omega arith
+
+returns-2 : tie.Need-returns-2 Inv-loop μ-loop
+returns-2 c = search needs
+
+pub all-blank-spec : {M : Type 1} → statement M
+all-blank-spec =
+    tie.close
+    (tie.spec
+    Inv-loop
+    μ-loop
+    loop-holds
+    stem-at-requires
+    is-blank-requires
+    returns
+    add-i
+    loop-less
+    loop-again
+    returns-2)
