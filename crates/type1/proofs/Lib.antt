@@ -9,7 +9,9 @@ pub mod EntryLaws
 pub mod Flex
 pub mod Groups
 pub mod Hints
+pub mod Leaving
 pub mod Lent
+pub mod LentArray
 pub mod LentLocal
 pub mod LentWith
 pub mod Locals

@@ -51,7 +51,7 @@ use Rattle.replay.proofs.AfterRun.Laws as E′
 use Rattle.type1.proofs.Lent.{at-list, Own, lend}
 use Rattle.type1.proofs.LentWith.{returned}
 use Rattle.type1.proofs.Many.{GotAll, asks-all}
-use Rattle.replay.proofs.LentArray.{lend-array, array-back}
+use Rattle.type1.proofs.LentArray.{lend-array, array-back}
 use Rattle.type1.specs.Interpret.{outcome, Leaves}
 use Rattle.replay.specs.Stores.{usedStem, afterRun}
 use Rattle.replay.proofs.stem_store as stem-store-f

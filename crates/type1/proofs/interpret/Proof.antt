@@ -20,7 +20,7 @@ use prog.Wp.{Heap, Calls, Loops, WpFn, Tables}
 use ghost.Atoms.{Atoms}
 use contract.Monad.{Fun}
 use types.Kit.{Given, ‵, _⊛_, ⋆, _$_, _∵_, !, qed, by, move, keep, drop, split, join, rewrite, fsplit, fjoin, feqL, use1, suffices, frame, done}
-use types.Run.{look, init, store, forget, stop, hop, fld, from, load, lit, addr, of-opd, and-then, no-more, bin, assigns, land, returns, returns-within, enter, alloc1, alloc0, params1, pass1, pass0, free1, free0}
+use types.Run.{look, init, store, stop, hop, fld, from, load, lit, addr, of-opd, and-then, no-more, bin, assigns, land, returns, returns-within, enter, alloc1, alloc0, params1, pass1, pass0}
 use types.Part.{agg, whole, sub, look-in}
 use sound.WpLaws.{FmC, fmOf, WpFn-mono}
 use denote.RattleType.{owns}
@@ -45,6 +45,7 @@ use Rattle.type1.specs.declared.Stem.{Stem}
 use Rattle.type1.specs.declared.St.{St}
 use Rattle.type1.specs.declared.Ran.{Ran}
 use Rattle.type1.specs.declared.Interpreted.{Interpreted}
+use Rattle.type1.proofs.Leaving.{filled, bare, leave}
 use Rattle.type1.proofs.Stem as T
 use Rattle.type1.proofs.St as S
 use Rattle.type1.proofs.St.Laws as S′
@@ -185,8 +186,7 @@ module _ {M : Type 1} (𝓤 : URA M) (H : Heap 𝓤) (A : Atoms 𝓤) (W : Given
         -- `refused`
         nothing ! $ asks-all ! fm I.the-row (Is I.the-row) (shows 𝓤 H A I.the-row) (Unit {0} × Unit {0}) (λ (r : I.the-row .Denot) (lasts : (Unit {0} × Unit {0})). r ≡ refusedWith (r1 .flow)) (λ (lasts : (Unit {0} × Unit {0})). (fsep ftrue ftrue)) (‵ ftrue) (‵ ftrue) (vint w8 (r1 .flow) ∷ []) (refused-as 𝓤 H A mem run′ W C known-refused ((r1 .flow)) ((LL.owed N.the-type N′.the-laws r1 (w1 ∷ []) is1) .1 .0 .1)) (and-then ! (load ! (from ! (stop !)) (look ! 65 refl)) (no-more !)) (λ w4 r4 zs4 e4 is4. land ! (from ! (stop !)) (init ! 91 refl (typedI 𝓤 H A W r4 _ is4)) $ rewrite ! 91 (λ (u : Val). ‵ (fat fullShare tIt l₀ 0 u)) (ap only (LL.tells I.the-type I′.the-laws r4 (w4 ∷ []) is4)) refl $ drop ! $ drop ! $ fsplit ! $ drop ! $ drop ! $
         owned ! I.the-row (Is I.the-row) (LL.makes I.the-type I′.the-plain 𝓤 H A) r4 _ (mineI r4 w4 is4) $
-        returns-within ! (Post) refl (look ! 89 refl) $ forget ! 89 refl $ forget ! 87 refl $ forget ! 85 refl $ forget ! 83 refl $ forget ! 81 refl $ forget ! 79 refl $ forget ! 77 refl $ forget ! 75 refl $ forget ! 73 refl $ forget ! 71 refl $ forget ! 69 refl $ forget ! 67 refl $ forget ! 65 refl $ forget ! 59 refl $ forget ! 57 refl $ forget ! 55 refl $ forget ! 53 refl $ forget ! 51 refl $ forget ! 49 refl $
-        move ! (89 ∷ 90 ∷ []) $ free1 ! $ move ! (87 ∷ 88 ∷ []) $ free1 ! $ move ! (85 ∷ 86 ∷ []) $ free1 ! $ move ! (83 ∷ 84 ∷ []) $ free1 ! $ move ! (81 ∷ 82 ∷ []) $ free1 ! $ move ! (79 ∷ 80 ∷ []) $ free1 ! $ move ! (77 ∷ 78 ∷ []) $ free1 ! $ move ! (75 ∷ 76 ∷ []) $ free1 ! $ move ! (73 ∷ 74 ∷ []) $ free1 ! $ move ! (71 ∷ 72 ∷ []) $ free1 ! $ move ! (69 ∷ 70 ∷ []) $ free1 ! $ move ! (67 ∷ 68 ∷ []) $ free1 ! $ move ! (65 ∷ 66 ∷ []) $ free1 ! $ move ! (63 ∷ 64 ∷ []) $ free1 ! $ move ! (61 ∷ 62 ∷ []) $ free1 ! $ move ! (59 ∷ 60 ∷ []) $ free1 ! $ move ! (57 ∷ 58 ∷ []) $ free1 ! $ move ! (55 ∷ 56 ∷ []) $ free1 ! $ move ! (53 ∷ 54 ∷ []) $ free1 ! $ move ! (51 ∷ 52 ∷ []) $ free1 ! $ move ! (49 ∷ 50 ∷ []) $ free1 ! $ move ! (47 ∷ 48 ∷ []) $ free1 ! $ move ! (45 ∷ 46 ∷ []) $ free1 ! $ move ! (43 ∷ 44 ∷ []) $ free1 ! $ move ! (41 ∷ 42 ∷ []) $ free1 ! $ move ! (39 ∷ 40 ∷ []) $ free1 ! $ move ! (37 ∷ 38 ∷ []) $ free1 ! $ move ! (35 ∷ 36 ∷ []) $ free1 ! $ move ! (33 ∷ 34 ∷ []) $ free1 ! $ move ! (31 ∷ 32 ∷ []) $ free1 ! $ move ! (29 ∷ 30 ∷ []) $ free1 ! $ move ! (27 ∷ 28 ∷ []) $ free1 ! $ move ! (25 ∷ 26 ∷ []) $ free1 ! $ move ! (23 ∷ 24 ∷ []) $ free1 ! $ move ! (21 ∷ 22 ∷ []) $ free1 ! $ move ! (19 ∷ 20 ∷ []) $ free1 ! $ free0 ! $ keep ! (0 ∷ 8 ∷ 6 ∷ 7 ∷ 5 ∷ 9 ∷ 10 ∷ 11 ∷ 12 ∷ 13 ∷ 14 ∷ 15 ∷ 16 ∷ 17 ∷ 18 ∷ 1 ∷ 2 ∷ 3 ∷ 4 ∷ []) $ by ! (exits r4 (machI r4) ysops ysps yscells ysedges ysacross (zs3 .0) (zs2 .0) (refused-first (xcharstring .now) (xbank .now) iv r1 e1 yscommands ysstems off r4 (zs3 .0) (zs2 .0) e4 e3 e2) (lcommands3) (lstems2))))))))))))
+        returns-within ! (Post) refl (look ! 89 refl) $ leave ! (_ ∷ _ ∷ _ ∷ _ ∷ _ ∷ _ ∷ _ ∷ _ ∷ _ ∷ _ ∷ _ ∷ _ ∷ _ ∷ _ ∷ _ ∷ _ ∷ _ ∷ _ ∷ _ ∷ []) (filled _ _ _ ∷ filled _ _ _ ∷ filled _ _ _ ∷ filled _ _ _ ∷ filled _ _ _ ∷ filled _ _ _ ∷ filled _ _ _ ∷ filled _ _ _ ∷ filled _ _ _ ∷ filled _ _ _ ∷ filled _ _ _ ∷ filled _ _ _ ∷ filled _ _ _ ∷ bare _ _ ∷ bare _ _ ∷ filled _ _ _ ∷ filled _ _ _ ∷ filled _ _ _ ∷ filled _ _ _ ∷ filled _ _ _ ∷ filled _ _ _ ∷ bare _ _ ∷ bare _ _ ∷ bare _ _ ∷ bare _ _ ∷ bare _ _ ∷ bare _ _ ∷ bare _ _ ∷ bare _ _ ∷ bare _ _ ∷ bare _ _ ∷ bare _ _ ∷ bare _ _ ∷ bare _ _ ∷ bare _ _ ∷ bare _ _ ∷ []) $ keep ! (0 ∷ 8 ∷ 6 ∷ 7 ∷ 5 ∷ 9 ∷ 10 ∷ 11 ∷ 12 ∷ 13 ∷ 14 ∷ 15 ∷ 16 ∷ 17 ∷ 18 ∷ 1 ∷ 2 ∷ 3 ∷ 4 ∷ []) $ by ! (exits r4 (machI r4) ysops ysps yscells ysedges ysacross (zs3 .0) (zs2 .0) (refused-first (xcharstring .now) (xbank .now) iv r1 e1 yscommands ysstems off r4 (zs3 .0) (zs2 .0) e4 e3 e2) (lcommands3) (lstems2))))))))))))
         (λ on.
         assigns ! (addr ! (from ! (hop ! (look ! 80 refl) (stop !)))) (from ! (stop !)) (init ! 46 refl (tt, tt)) $
         assigns ! (addr ! (from ! (hop ! (look ! 78 refl) (stop !)))) (from ! (stop !)) (init ! 44 refl (tt, tt)) $
@@ -218,15 +218,13 @@ module _ {M : Type 1} (𝓤 : URA M) (H : Heap 𝓤) (A : Atoms 𝓤) (W : Given
         -- `refused`
         nothing ! $ asks-all ! fm I.the-row (Is I.the-row) (shows 𝓤 H A I.the-row) (Unit {0} × Unit {0}) (λ (r : I.the-row .Denot) (lasts : (Unit {0} × Unit {0})). r ≡ refusedWith r3) (λ (lasts : (Unit {0} × Unit {0})). (fsep ftrue ftrue)) (‵ ftrue) (‵ ftrue) (vint w8 r3 ∷ []) (refused-as 𝓤 H A mem run′ W C known-refused (r3) (is3 .1)) (and-then ! (load ! (from ! (stop !)) (look ! 61 refl)) (no-more !)) (λ w6 r6 zs6 e6 is6. land ! (from ! (stop !)) (init ! 91 refl (typedI 𝓤 H A W r6 _ is6)) $ rewrite ! 91 (λ (u : Val). ‵ (fat fullShare tIt l₀ 0 u)) (ap only (LL.tells I.the-type I′.the-laws r6 (w6 ∷ []) is6)) refl $ drop ! $ drop ! $ fsplit ! $ drop ! $ drop ! $
         owned ! I.the-row (Is I.the-row) (LL.makes I.the-type I′.the-plain 𝓤 H A) r6 _ (mineI r6 w6 is6) $
-        returns-within ! (Post) refl (look ! 89 refl) $ forget ! 89 refl $ forget ! 87 refl $ forget ! 85 refl $ forget ! 83 refl $ forget ! 81 refl $ forget ! 79 refl $ forget ! 77 refl $ forget ! 75 refl $ forget ! 73 refl $ forget ! 71 refl $ forget ! 69 refl $ forget ! 67 refl $ forget ! 65 refl $ forget ! 63 refl $ forget ! 61 refl $ forget ! 59 refl $ forget ! 47 refl $ forget ! 45 refl $ forget ! 43 refl $ forget ! 41 refl $ forget ! 39 refl $ forget ! 37 refl $ forget ! 35 refl $ forget ! 33 refl $ forget ! 31 refl $ forget ! 29 refl $ forget ! 27 refl $ forget ! 25 refl $ forget ! 23 refl $ forget ! 21 refl $
-        move ! (89 ∷ 90 ∷ []) $ free1 ! $ move ! (87 ∷ 88 ∷ []) $ free1 ! $ move ! (85 ∷ 86 ∷ []) $ free1 ! $ move ! (83 ∷ 84 ∷ []) $ free1 ! $ move ! (81 ∷ 82 ∷ []) $ free1 ! $ move ! (79 ∷ 80 ∷ []) $ free1 ! $ move ! (77 ∷ 78 ∷ []) $ free1 ! $ move ! (75 ∷ 76 ∷ []) $ free1 ! $ move ! (73 ∷ 74 ∷ []) $ free1 ! $ move ! (71 ∷ 72 ∷ []) $ free1 ! $ move ! (69 ∷ 70 ∷ []) $ free1 ! $ move ! (67 ∷ 68 ∷ []) $ free1 ! $ move ! (65 ∷ 66 ∷ []) $ free1 ! $ move ! (63 ∷ 64 ∷ []) $ free1 ! $ move ! (61 ∷ 62 ∷ []) $ free1 ! $ move ! (59 ∷ 60 ∷ []) $ free1 ! $ move ! (57 ∷ 58 ∷ []) $ free1 ! $ move ! (55 ∷ 56 ∷ []) $ free1 ! $ move ! (53 ∷ 54 ∷ []) $ free1 ! $ move ! (51 ∷ 52 ∷ []) $ free1 ! $ move ! (49 ∷ 50 ∷ []) $ free1 ! $ move ! (47 ∷ 48 ∷ []) $ free1 ! $ move ! (45 ∷ 46 ∷ []) $ free1 ! $ move ! (43 ∷ 44 ∷ []) $ free1 ! $ move ! (41 ∷ 42 ∷ []) $ free1 ! $ move ! (39 ∷ 40 ∷ []) $ free1 ! $ move ! (37 ∷ 38 ∷ []) $ free1 ! $ move ! (35 ∷ 36 ∷ []) $ free1 ! $ move ! (33 ∷ 34 ∷ []) $ free1 ! $ move ! (31 ∷ 32 ∷ []) $ free1 ! $ move ! (29 ∷ 30 ∷ []) $ free1 ! $ move ! (27 ∷ 28 ∷ []) $ free1 ! $ move ! (25 ∷ 26 ∷ []) $ free1 ! $ move ! (23 ∷ 24 ∷ []) $ free1 ! $ move ! (21 ∷ 22 ∷ []) $ free1 ! $ move ! (19 ∷ 20 ∷ []) $ free1 ! $ free0 ! $ keep ! (0 ∷ 18 ∷ 16 ∷ 17 ∷ 15 ∷ 13 ∷ 14 ∷ 11 ∷ 12 ∷ 9 ∷ 10 ∷ 7 ∷ 8 ∷ 5 ∷ 6 ∷ 1 ∷ 2 ∷ 3 ∷ 4 ∷ []) $ by ! (exits r6 (machI r6) (zs2 .1 .1 .1 .1 .1 .0) (zs2 .1 .1 .1 .1 .1 .1 .0) (zs2 .1 .1 .1 .1 .1 .1 .1 .0) (zs2 .1 .1 .1 .1 .1 .1 .1 .1 .0) (zs2 .1 .1 .1 .1 .1 .1 .1 .1 .1 .0) (zs5 .0) (zs4 .0) (refused-later (xcharstring .now) (xbank .now) iv r1 e1 yscommands ysstems ysops ysps yscells ysedges ysacross need on r2 (memOf (zs2 .1 .1 .1 .1 .1 .0) (zs2 .1 .1 .1 .1 .1 .1 .0) (zs2 .1 .1 .1 .1 .1 .1 .1 .0) (zs2 .1 .1 .1 .1 .1 .1 .1 .1 .0) (zs2 .1 .1 .1 .1 .1 .1 .1 .1 .1 .0) (zs2 .1 .1 .1 .1 .1 .1 .1 .1 .1 .1 .0) (zs2 .1 .1 .1 .1 .1 .1 .1 .1 .1 .1 .1 .0)) e2 r3 e3 off r6 (zs5 .0) (zs4 .0) e6 (e5 ∙ ap (λ (k : ℕ). replicate k 0) (lcommands2)) (e4 ∙ ap (λ (k : ℕ). replicate k zeroStem) (lstems2))) (lcommands5 ∙ lcommands2) (lstems4 ∙ lstems2))))))))))))
+        returns-within ! (Post) refl (look ! 89 refl) $ leave ! (_ ∷ _ ∷ _ ∷ _ ∷ _ ∷ _ ∷ _ ∷ _ ∷ _ ∷ _ ∷ _ ∷ _ ∷ _ ∷ _ ∷ _ ∷ _ ∷ _ ∷ _ ∷ _ ∷ []) (filled _ _ _ ∷ filled _ _ _ ∷ filled _ _ _ ∷ filled _ _ _ ∷ filled _ _ _ ∷ filled _ _ _ ∷ filled _ _ _ ∷ filled _ _ _ ∷ filled _ _ _ ∷ filled _ _ _ ∷ filled _ _ _ ∷ filled _ _ _ ∷ filled _ _ _ ∷ filled _ _ _ ∷ filled _ _ _ ∷ filled _ _ _ ∷ bare _ _ ∷ bare _ _ ∷ bare _ _ ∷ bare _ _ ∷ bare _ _ ∷ filled _ _ _ ∷ filled _ _ _ ∷ filled _ _ _ ∷ filled _ _ _ ∷ filled _ _ _ ∷ filled _ _ _ ∷ filled _ _ _ ∷ filled _ _ _ ∷ filled _ _ _ ∷ filled _ _ _ ∷ filled _ _ _ ∷ filled _ _ _ ∷ filled _ _ _ ∷ filled _ _ _ ∷ bare _ _ ∷ []) $ keep ! (0 ∷ 18 ∷ 16 ∷ 17 ∷ 15 ∷ 13 ∷ 14 ∷ 11 ∷ 12 ∷ 9 ∷ 10 ∷ 7 ∷ 8 ∷ 5 ∷ 6 ∷ 1 ∷ 2 ∷ 3 ∷ 4 ∷ []) $ by ! (exits r6 (machI r6) (zs2 .1 .1 .1 .1 .1 .0) (zs2 .1 .1 .1 .1 .1 .1 .0) (zs2 .1 .1 .1 .1 .1 .1 .1 .0) (zs2 .1 .1 .1 .1 .1 .1 .1 .1 .0) (zs2 .1 .1 .1 .1 .1 .1 .1 .1 .1 .0) (zs5 .0) (zs4 .0) (refused-later (xcharstring .now) (xbank .now) iv r1 e1 yscommands ysstems ysops ysps yscells ysedges ysacross need on r2 (memOf (zs2 .1 .1 .1 .1 .1 .0) (zs2 .1 .1 .1 .1 .1 .1 .0) (zs2 .1 .1 .1 .1 .1 .1 .1 .0) (zs2 .1 .1 .1 .1 .1 .1 .1 .1 .0) (zs2 .1 .1 .1 .1 .1 .1 .1 .1 .1 .0) (zs2 .1 .1 .1 .1 .1 .1 .1 .1 .1 .1 .0) (zs2 .1 .1 .1 .1 .1 .1 .1 .1 .1 .1 .1 .0)) e2 r3 e3 off r6 (zs5 .0) (zs4 .0) e6 (e5 ∙ ap (λ (k : ℕ). replicate k 0) (lcommands2)) (e4 ∙ ap (λ (k : ℕ). replicate k zeroStem) (lstems2))) (lcommands5 ∙ lcommands2) (lstems4 ∙ lstems2))))))))))))
         (λ done′.
         assigns ! (addr ! (from ! (hop ! (look ! 76 refl) (stop !)))) (from ! (stop !)) (init ! 18 refl (tt, tt)) $
         -- `answer`
         move ! (8 ∷ 9 ∷ []) $ lend-shr ! tt (Array f64 19) bcells ocells (zs2 .1 .1 .1 .1 .1 .1 .1 .0) (λ νcells4 δcells4. asks-all ! fm I.the-row (Is I.the-row) (shows 𝓤 H A I.the-row) (Unit {0} × (Unit {0} × Unit {0})) (λ (r : I.the-row .Denot) (lasts : (Unit {0} × (Unit {0} × Unit {0}))). r ≡ answerOf (r2 .st) ((at-one (Array f64 19) bcells ocells δcells4 (zs2 .1 .1 .1 .1 .1 .1 .1 .0)) .now)) (λ (lasts : (Unit {0} × (Unit {0} × Unit {0}))). (fsep ftrue (fsep ftrue ftrue))) (‵ (flft (νcells4 ∷ []) fullShare) ⊛ ‵ ftrue) (‵ (flft (νcells4 ∷ []) fullShare) ⊛ ‵ (ShrRef (named 0) (νcells4 ∷ []) (Array f64 19) .own (at-one (Array f64 19) bcells ocells δcells4 (zs2 .1 .1 .1 .1 .1 .1 .1 .0)) (vptr ((at-one (Array f64 19) bcells ocells δcells4 (zs2 .1 .1 .1 .1 .1 .1 .1 .0)) .ptr .0) ((at-one (Array f64 19) bcells ocells δcells4 (zs2 .1 .1 .1 .1 .1 .1 .1 .0)) .ptr .1) ∷ []))) (machS (r2 .st) ∷ vptr ((at-one (Array f64 19) bcells ocells δcells4 (zs2 .1 .1 .1 .1 .1 .1 .1 .0)) .ptr .0) ((at-one (Array f64 19) bcells ocells δcells4 (zs2 .1 .1 .1 .1 .1 .1 .1 .0)) .ptr .1) ∷ []) (answer-as 𝓤 H A mem run′ W C known-answer (νcells4 ∷ []) fullShare (at-one (Array f64 19) bcells ocells δcells4 (zs2 .1 .1 .1 .1 .1 .1 .1 .0)) ((r2 .st)) ((LL.owed N.the-type N′.the-laws r2 (w2 ∷ []) is2) .0)) (and-then ! (load ! (from ! (fld ! refl (stop !))) (look-in ! 62 (sub ! 0 refl (whole !)))) (and-then ! (load ! (from ! (stop !)) (look ! 18 refl)) (no-more !))) (λ w4 r4 zs4 e4 is4. land ! (from ! (stop !)) (init ! 90 refl (typedI 𝓤 H A W r4 _ is4)) $ rewrite ! 90 (λ (u : Val). ‵ (fat fullShare tIt l₀ 0 u)) (ap only (LL.tells I.the-type I′.the-laws r4 (w4 ∷ []) is4)) refl $ drop ! $ split ! $ move ! (1 ∷ []) $ drop ! $ move ! (1 ∷ []) $ fsplit ! $ drop ! $ fsplit ! $ drop ! $ drop ! $
         returned-shr ! tt (Array f64 19) bcells ocells νcells4 (zs2 .1 .1 .1 .1 .1 .1 .1 .0) (owned ! I.the-row (Is I.the-row) (LL.makes I.the-type I′.the-plain 𝓤 H A) r4 _ (mineI r4 w4 is4) $
-        returns ! (look ! 89 refl) $ forget ! 89 refl $ forget ! 87 refl $ forget ! 85 refl $ forget ! 83 refl $ forget ! 81 refl $ forget ! 79 refl $ forget ! 77 refl $ forget ! 75 refl $ forget ! 73 refl $ forget ! 71 refl $ forget ! 69 refl $ forget ! 67 refl $ forget ! 65 refl $ forget ! 63 refl $ forget ! 61 refl $ forget ! 59 refl $ forget ! 47 refl $ forget ! 45 refl $ forget ! 43 refl $ forget ! 41 refl $ forget ! 39 refl $ forget ! 37 refl $ forget ! 35 refl $ forget ! 33 refl $ forget ! 31 refl $ forget ! 19 refl $
-        move ! (89 ∷ 90 ∷ []) $ free1 ! $ move ! (87 ∷ 88 ∷ []) $ free1 ! $ move ! (85 ∷ 86 ∷ []) $ free1 ! $ move ! (83 ∷ 84 ∷ []) $ free1 ! $ move ! (81 ∷ 82 ∷ []) $ free1 ! $ move ! (79 ∷ 80 ∷ []) $ free1 ! $ move ! (77 ∷ 78 ∷ []) $ free1 ! $ move ! (75 ∷ 76 ∷ []) $ free1 ! $ move ! (73 ∷ 74 ∷ []) $ free1 ! $ move ! (71 ∷ 72 ∷ []) $ free1 ! $ move ! (69 ∷ 70 ∷ []) $ free1 ! $ move ! (67 ∷ 68 ∷ []) $ free1 ! $ move ! (65 ∷ 66 ∷ []) $ free1 ! $ move ! (63 ∷ 64 ∷ []) $ free1 ! $ move ! (61 ∷ 62 ∷ []) $ free1 ! $ move ! (59 ∷ 60 ∷ []) $ free1 ! $ move ! (57 ∷ 58 ∷ []) $ free1 ! $ move ! (55 ∷ 56 ∷ []) $ free1 ! $ move ! (53 ∷ 54 ∷ []) $ free1 ! $ move ! (51 ∷ 52 ∷ []) $ free1 ! $ move ! (49 ∷ 50 ∷ []) $ free1 ! $ move ! (47 ∷ 48 ∷ []) $ free1 ! $ move ! (45 ∷ 46 ∷ []) $ free1 ! $ move ! (43 ∷ 44 ∷ []) $ free1 ! $ move ! (41 ∷ 42 ∷ []) $ free1 ! $ move ! (39 ∷ 40 ∷ []) $ free1 ! $ move ! (37 ∷ 38 ∷ []) $ free1 ! $ move ! (35 ∷ 36 ∷ []) $ free1 ! $ move ! (33 ∷ 34 ∷ []) $ free1 ! $ move ! (31 ∷ 32 ∷ []) $ free1 ! $ move ! (29 ∷ 30 ∷ []) $ free1 ! $ move ! (27 ∷ 28 ∷ []) $ free1 ! $ move ! (25 ∷ 26 ∷ []) $ free1 ! $ move ! (23 ∷ 24 ∷ []) $ free1 ! $ move ! (21 ∷ 22 ∷ []) $ free1 ! $ move ! (19 ∷ 20 ∷ []) $ free1 ! $ free0 ! $ keep ! (0 ∷ 18 ∷ 16 ∷ 17 ∷ 15 ∷ 13 ∷ 14 ∷ 11 ∷ 12 ∷ 1 ∷ 2 ∷ 9 ∷ 10 ∷ 7 ∷ 8 ∷ 5 ∷ 6 ∷ 3 ∷ 4 ∷ []) $ by ! (exits r4 (machI r4) (zs2 .1 .1 .1 .1 .1 .0) (zs2 .1 .1 .1 .1 .1 .1 .0) (zs2 .1 .1 .1 .1 .1 .1 .1 .0) (zs2 .1 .1 .1 .1 .1 .1 .1 .1 .0) (zs2 .1 .1 .1 .1 .1 .1 .1 .1 .1 .0) (zs2 .1 .1 .1 .1 .1 .1 .1 .1 .1 .1 .0) (zs2 .1 .1 .1 .1 .1 .1 .1 .1 .1 .1 .1 .0) (ran-through (xcharstring .now) (xbank .now) iv r1 e1 yscommands ysstems ysops ysps yscells ysedges ysacross need on r2 (memOf (zs2 .1 .1 .1 .1 .1 .0) (zs2 .1 .1 .1 .1 .1 .1 .0) (zs2 .1 .1 .1 .1 .1 .1 .1 .0) (zs2 .1 .1 .1 .1 .1 .1 .1 .1 .0) (zs2 .1 .1 .1 .1 .1 .1 .1 .1 .1 .0) (zs2 .1 .1 .1 .1 .1 .1 .1 .1 .1 .1 .0) (zs2 .1 .1 .1 .1 .1 .1 .1 .1 .1 .1 .1 .0)) e2 r3 e3 octets octets′ done′ r4 e4) (lcommands2) (lstems2))))))))))))))))))))))))))))))))))))))))))))))))))))))))))))))))
+        returns ! (look ! 89 refl) $ leave ! (_ ∷ _ ∷ _ ∷ _ ∷ _ ∷ _ ∷ _ ∷ _ ∷ _ ∷ _ ∷ _ ∷ _ ∷ _ ∷ _ ∷ _ ∷ _ ∷ _ ∷ _ ∷ _ ∷ []) (filled _ _ _ ∷ filled _ _ _ ∷ filled _ _ _ ∷ filled _ _ _ ∷ filled _ _ _ ∷ filled _ _ _ ∷ filled _ _ _ ∷ filled _ _ _ ∷ filled _ _ _ ∷ filled _ _ _ ∷ filled _ _ _ ∷ filled _ _ _ ∷ filled _ _ _ ∷ filled _ _ _ ∷ filled _ _ _ ∷ filled _ _ _ ∷ bare _ _ ∷ bare _ _ ∷ bare _ _ ∷ bare _ _ ∷ bare _ _ ∷ filled _ _ _ ∷ filled _ _ _ ∷ filled _ _ _ ∷ filled _ _ _ ∷ filled _ _ _ ∷ filled _ _ _ ∷ filled _ _ _ ∷ filled _ _ _ ∷ filled _ _ _ ∷ bare _ _ ∷ bare _ _ ∷ bare _ _ ∷ bare _ _ ∷ bare _ _ ∷ filled _ _ _ ∷ []) $ keep ! (0 ∷ 18 ∷ 16 ∷ 17 ∷ 15 ∷ 13 ∷ 14 ∷ 11 ∷ 12 ∷ 1 ∷ 2 ∷ 9 ∷ 10 ∷ 7 ∷ 8 ∷ 5 ∷ 6 ∷ 3 ∷ 4 ∷ []) $ by ! (exits r4 (machI r4) (zs2 .1 .1 .1 .1 .1 .0) (zs2 .1 .1 .1 .1 .1 .1 .0) (zs2 .1 .1 .1 .1 .1 .1 .1 .0) (zs2 .1 .1 .1 .1 .1 .1 .1 .1 .0) (zs2 .1 .1 .1 .1 .1 .1 .1 .1 .1 .0) (zs2 .1 .1 .1 .1 .1 .1 .1 .1 .1 .1 .0) (zs2 .1 .1 .1 .1 .1 .1 .1 .1 .1 .1 .1 .0) (ran-through (xcharstring .now) (xbank .now) iv r1 e1 yscommands ysstems ysops ysps yscells ysedges ysacross need on r2 (memOf (zs2 .1 .1 .1 .1 .1 .0) (zs2 .1 .1 .1 .1 .1 .1 .0) (zs2 .1 .1 .1 .1 .1 .1 .1 .0) (zs2 .1 .1 .1 .1 .1 .1 .1 .1 .0) (zs2 .1 .1 .1 .1 .1 .1 .1 .1 .1 .0) (zs2 .1 .1 .1 .1 .1 .1 .1 .1 .1 .1 .0) (zs2 .1 .1 .1 .1 .1 .1 .1 .1 .1 .1 .1 .0)) e2 r3 e3 octets octets′ done′ r4 e4) (lcommands2) (lstems2))))))))))))))))))))))))))))))))))))))))))))))))))))))))))))))))
 
 module _ {M : Type 1} (𝓤 : URA M) (H : Heap 𝓤) (A : Atoms 𝓤) (W : Given 𝓤 H A) (mem : Memory → SProp 𝓤) (run′ : Routine → Fun 𝓤) where
   meets : (𝓣 : Tables 𝓤 H) → (let C : Calls 𝓤 H = 𝓣 .C in Triple 𝓤 (C #type1·start-run) (StartRunC 𝓤 H A mem run′) → Triple 𝓤 (C #type1·wipe) (WipeC 𝓤 H A mem run′) → Triple 𝓤 (C #type1·wipe-words) (WipeWordsC 𝓤 H A mem run′) → Triple 𝓤 (C #type1·refused) (RefusedC 𝓤 H A mem run′) → Triple 𝓤 (C #type1·run) (RunC 𝓤 H A mem run′) → Triple 𝓤 (C #type1·number-of) (NumberOfC 𝓤 H A mem run′) → Triple 𝓤 (C #type1·answer) (AnswerC 𝓤 H A mem run′) → MeetsC 𝓤 H A f.signature (WpFn 𝓤 H (𝓣 .C) (𝓣 .Λ) code.function) (f.spec 𝓤 H A mem run′))

@@ -23,7 +23,7 @@ use prog.Wp.{Heap, Out as Outs, Env, afterSeq, afterBlock, afterTurn, Calls, Loo
 use ghost.Atoms.{Atoms}
 use contract.Monad.{Fun}
 use types.Kit.{Given, Item, ‵, _⊛_, ⋆, anyQ, atRet, _$_, _∵_, !, qed, by, move, keep, drop, split, join, rewrite, fsplit, fjoin, feqL, feqI, use1, suffices, frame, done}
-use types.Run.{look, init, store, forget, stop, hop, fld, from, load, lit, unit-lit, addr, of-opd, and-then, no-more, bin, assigns, assigns-last, stays, leaves-loop, exec, land, returns, enter, alloc1, alloc0, params1, pass1, pass0, free1, free0}
+use types.Run.{look, init, store, forget, stop, hop, fld, from, load, lit, unit-lit, addr, of-opd, and-then, no-more, bin, assigns, assigns-last, stays, leaves-loop, exec, land, returns, enter, alloc1, alloc0, params1, pass1, pass0}
 use types.Part.{agg, whole, sub, look-in}
 use sound.Loop.{loop-rule}
 use sound.WpLaws.{FmC, fmOf, WpFn-mono}
@@ -46,6 +46,7 @@ use denote.Triple.Walked.{says, needs, Stays, stay-none, stay-none-ref, stay-sli
 use denote.Exit.{yes}
 use contract.Running.{givenOf, tables, tablesOf}
 use Rattle.type1.specs.declared.Stem.{Stem}
+use Rattle.type1.proofs.Leaving.{filled, bare, leave}
 use Rattle.type1.proofs.Stem as T
 use Rattle.type1.proofs.Stem.Laws as T′
 use Rattle.type1.proofs.Lent.{at-list, Own, lend}
@@ -173,8 +174,7 @@ module _ {M : Type 1} (𝓤 : URA M) (H : Heap 𝓤) (A : Atoms 𝓤) (W : Given
         qed W (At i zs l₀ l₁ l₂ l₃ l₄ l₅ l₆ l₇ l₈ l₉ l₁₀ l₁₁ l₁₂) ∵ exec ! C Λ (En l₀ l₁ l₂ l₃ l₄ l₅ l₆ l₇ l₈ l₉ l₁₀ l₁₁ l₁₂) text.turn-1 (anyQ (afterTurn 𝓤 H X (Left l₀ l₁ l₂ l₃ l₄ l₅ l₆ l₇ l₈ l₉ l₁₀ l₁₁ l₁₂))) $
         assigns ! (bin ! (load ! (from ! (stop !)) (look ! 18 refl)) (load ! (from ! (stop !)) (look ! 26 refl)) tt) (from ! (stop !)) (init ! 16 refl (tt, tt)) $ rewrite ! 16 (λ (t : Bool). ‵ (fat fullShare tyBool l₇ 0 (vbool t))) (over) refl $ leaves-loop ! (load ! (from ! (stop !)) (look ! 16 refl)) $ exec ! C Λ (En l₀ l₁ l₂ l₃ l₄ l₅ l₆ l₇ l₈ l₉ l₁₀ l₁₁ l₁₂) text.t-3 (atRet (En l₀ l₁ l₂ l₃ l₄ l₅ l₆ l₇ l₈ l₉ l₁₀ l₁₁ l₁₂) Post) $
         assigns ! (of-opd ! (unit-lit !)) (from ! (stop !)) (init ! 30 refl (tt, tt)) $ feqI ! (List Val) (vunit ∷ []) (vunit ∷ []) refl $
-        returns ! (look ! 31 refl) $ forget ! 31 refl $ forget ! 29 refl $ forget ! 27 refl $ forget ! 25 refl $ forget ! 23 refl $ forget ! 21 refl $ forget ! 19 refl $ forget ! 17 refl $
-        move ! (31 ∷ 32 ∷ []) $ free1 ! $ move ! (29 ∷ 30 ∷ []) $ free1 ! $ move ! (27 ∷ 28 ∷ []) $ free1 ! $ move ! (25 ∷ 26 ∷ []) $ free1 ! $ move ! (23 ∷ 24 ∷ []) $ free1 ! $ move ! (21 ∷ 22 ∷ []) $ free1 ! $ move ! (19 ∷ 20 ∷ []) $ free1 ! $ move ! (17 ∷ 18 ∷ []) $ free1 ! $ move ! (15 ∷ 16 ∷ []) $ free1 ! $ move ! (13 ∷ 14 ∷ []) $ free1 ! $ move ! (11 ∷ 12 ∷ []) $ free1 ! $ move ! (9 ∷ 10 ∷ []) $ free1 ! $ move ! (7 ∷ 8 ∷ []) $ free1 ! $ free0 ! $ keep ! (0 ∷ 1 ∷ 2 ∷ 3 ∷ 4 ∷ 5 ∷ 6 ∷ []) $ by ! (exits tt (vunit) zs (all-stored ysstems used (stemsAt 0 n (xedges .now) (xacross .now)) i n zs over (held .1 .0) (held .1 .1 .1)) (held .1 .1 .0))
+        returns ! (look ! 31 refl) $ leave ! (_ ∷ _ ∷ _ ∷ _ ∷ _ ∷ _ ∷ _ ∷ []) (filled _ _ _ ∷ filled _ _ _ ∷ filled _ _ _ ∷ filled _ _ _ ∷ filled _ _ _ ∷ filled _ _ _ ∷ filled _ _ _ ∷ filled _ _ _ ∷ bare _ _ ∷ bare _ _ ∷ bare _ _ ∷ bare _ _ ∷ bare _ _ ∷ []) $ keep ! (0 ∷ 1 ∷ 2 ∷ 3 ∷ 4 ∷ 5 ∷ 6 ∷ []) $ by ! (exits tt (vunit) zs (all-stored ysstems used (stemsAt 0 n (xedges .now) (xacross .now)) i n zs over (held .1 .0) (held .1 .1 .1)) (held .1 .1 .0))
 
     in-range : (i : ℕ) → ltb i n ≡ true → i < n
     in-range i is = ltb→lt i n (subst So (sym is) tt)

@@ -22,7 +22,7 @@ use prog.Wp.{Heap, Out as Outs, Env, afterSeq, afterBlock, afterTurn, Calls, Loo
 use ghost.Atoms.{Atoms}
 use contract.Monad.{Fun}
 use types.Kit.{Given, Item, ‵, _⊛_, ⋆, anyQ, atRet, _$_, _∵_, !, qed, by, move, keep, drop, split, join, rewrite, fsplit, fjoin, feqL, feqI, suffices, frame, done}
-use types.Run.{look, init, store, forget, stop, hop, fld, from, load, lit, unit-lit, addr, of-opd, and-then, no-more, bin, assigns, assigns-last, stays, leaves-loop, exec, land, returns, enter, alloc1, alloc0, params1, pass1, pass0, free1, free0}
+use types.Run.{look, init, store, forget, stop, hop, fld, from, load, lit, unit-lit, addr, of-opd, and-then, no-more, bin, assigns, assigns-last, stays, leaves-loop, exec, land, returns, enter, alloc1, alloc0, params1, pass1, pass0}
 use types.Part.{agg, whole, sub, look-in}
 use sound.Loop.{loop-rule}
 use sound.WpLaws.{FmC, fmOf, WpFn-mono}
@@ -42,6 +42,7 @@ use denote.Triple.Table.{entered, cited}
 use denote.Triple.Walked.{says, Stays, stay-slice, walkOf, goes-slice, ends-at, walked, walk-meets}
 use contract.Running.{givenOf, tables, tablesOf}
 use Rattle.type1.specs.declared.Stem.{Stem}
+use Rattle.type1.proofs.Leaving.{filled, bare, leave}
 use Rattle.type1.proofs.Stem as T
 use Rattle.type1.proofs.Stem.Laws as T′
 use Rattle.type1.proofs.Lent.{at-list, Own, lend}
@@ -165,8 +166,7 @@ module _ {M : Type 1} (𝓤 : URA M) (H : Heap 𝓤) (A : Atoms 𝓤) (W : Given
         assigns ! (of-opd ! (load ! (from ! (fld ! refl (stop !))) (look-in ! 16 (sub ! 1 refl (whole !))))) (from ! (stop !)) (init ! 12 refl (tt, record { fits = fitstems .0 })) $
         assigns ! (bin ! (load ! (from ! (stop !)) (look ! 14 refl)) (load ! (from ! (stop !)) (look ! 12 refl)) tt) (from ! (stop !)) (init ! 10 refl (tt, tt)) $ rewrite ! 10 (λ (t : Bool). ‵ (fat fullShare tyBool l₄ 0 (vbool t))) (over) refl $ leaves-loop ! (load ! (from ! (stop !)) (look ! 10 refl)) $ exec ! C Λ (En l₀ l₁ l₂ l₃ l₄ l₅ l₆ l₇ l₈) text.t-3 (atRet (En l₀ l₁ l₂ l₃ l₄ l₅ l₆ l₇ l₈) Post) $
         assigns ! (of-opd ! (unit-lit !)) (from ! (stop !)) (init ! 18 refl (tt, tt)) $ feqI ! (List Val) (vunit ∷ []) (vunit ∷ []) refl $
-        returns ! (look ! 19 refl) $ forget ! 19 refl $ forget ! 17 refl $ forget ! 15 refl $ forget ! 13 refl $ forget ! 11 refl $
-        move ! (19 ∷ 20 ∷ []) $ free1 ! $ move ! (17 ∷ 18 ∷ []) $ free1 ! $ move ! (15 ∷ 16 ∷ []) $ free1 ! $ move ! (13 ∷ 14 ∷ []) $ free1 ! $ move ! (11 ∷ 12 ∷ []) $ free1 ! $ move ! (9 ∷ 10 ∷ []) $ free1 ! $ move ! (7 ∷ 8 ∷ []) $ free1 ! $ move ! (5 ∷ 6 ∷ []) $ free1 ! $ move ! (3 ∷ 4 ∷ []) $ free1 ! $ free0 ! $ keep ! (0 ∷ 1 ∷ 2 ∷ []) $ by ! (exits tt (vunit) zs (all-stored ysstems 0 (replicate mstems zeroStem) i mstems zs over (held .1 .0) (held .1 .1 .1) ∙ paste-all ysstems (replicate mstems zeroStem) mstems refl (length-replicate mstems zeroStem)) (held .1 .1 .0))
+        returns ! (look ! 19 refl) $ leave ! (_ ∷ _ ∷ _ ∷ []) (filled _ _ _ ∷ filled _ _ _ ∷ filled _ _ _ ∷ filled _ _ _ ∷ filled _ _ _ ∷ bare _ _ ∷ bare _ _ ∷ bare _ _ ∷ bare _ _ ∷ []) $ keep ! (0 ∷ 1 ∷ 2 ∷ []) $ by ! (exits tt (vunit) zs (all-stored ysstems 0 (replicate mstems zeroStem) i mstems zs over (held .1 .0) (held .1 .1 .1) ∙ paste-all ysstems (replicate mstems zeroStem) mstems refl (length-replicate mstems zeroStem)) (held .1 .1 .0))
 
     in-range : (i : ℕ) → ltb i mstems ≡ true → i < mstems
     in-range i is = ltb→lt i mstems (subst So (sym is) tt)

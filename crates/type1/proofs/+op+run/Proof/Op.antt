@@ -22,7 +22,7 @@ use prog.Wp.{Heap, Env, Calls as Table, Loops, WpFn, Tables}
 use ghost.Atoms.{Atoms}
 use contract.Monad.{Fun}
 use types.Kit.{Given, Item, ‵, _⊛_, ⋆, runs, atRet, Sq, _$_, _∵_, !, qed, by, move, keep, drop, split, join, rewrite, fsplit, fjoin, feqL, use1, use2, suffices, frame, done}
-use types.Run.{look, init, store, forget, stop, hop, fld, from, load, lit, addr, of-opd, and-then, no-more, bin, assigns, land, returns, returns-within, enter, alloc1, alloc0, params1, pass1, pass0, free1, free0}
+use types.Run.{look, init, store, forget, stop, hop, fld, from, load, lit, addr, of-opd, and-then, no-more, bin, assigns, land, returns, returns-within, enter, alloc1, alloc0, params1, pass1, pass0}
 use types.Part.{agg, whole, sub, look-in}
 use sound.WpLaws.{FmC, fmOf}
 use denote.RattleType.{owns}
@@ -45,6 +45,7 @@ use Rattle.type1.specs.declared.Stem.{Stem}
 use Rattle.type1.specs.declared.St.{St}
 use Rattle.type1.specs.declared.Ran.{Ran}
 use Rattle.type1.specs.declared.Called.{Called}
+use Rattle.type1.proofs.Leaving.{filled, bare, leave}
 use Rattle.type1.proofs.Stem as T
 use Rattle.type1.proofs.St as S
 use Rattle.type1.proofs.St.Laws as S′
@@ -196,12 +197,10 @@ module _ {M : Type 1} (𝓤 : URA M) (H : Heap 𝓤) (A : Atoms 𝓤) (W : Given
         move ! (4 ∷ 5 ∷ []) $ lend-shr ! tt (Array f64 1024) bedges oedges (zs2 .1 .1 .1 .1 .1 .1 .0) (λ νedges3 δedges3. move ! (4 ∷ 5 ∷ []) $ lend-shr ! tt (Array bool 512) bacross oacross (zs2 .1 .1 .1 .1 .1 .1 .1 .0) (λ νacross3 δacross3. move ! (12 ∷ 13 ∷ []) $ lend ! tt T.the-row mstems bstems ostems (zs1 .0) (lstems1) (λ νstems3 δstems3. move ! (2 ∷ 0 ∷ []) $ join ! $ move ! (3 ∷ 0 ∷ []) $ join ! $ asks-all ! fm Nothing (Is Nothing) (shows 𝓤 H A Nothing) (Unit {0} × (Unit {0} × (Unit {0} × (Unit {0} × (List Stem × Unit {0}))))) (λ (r : Nothing .Denot) (lasts : (Unit {0} × (Unit {0} × (Unit {0} × (Unit {0} × (List Stem × Unit {0})))))). lasts .1 .1 .1 .1 .0 ≡ paste (zs1 .0) (st .stems) (stemsAt 0 (st .hints) ((at-one (Array f64 1024) bedges oedges δedges3 (zs2 .1 .1 .1 .1 .1 .1 .0)) .now) ((at-one (Array bool 512) bacross oacross δacross3 (zs2 .1 .1 .1 .1 .1 .1 .1 .0)) .now)) (st .hints)) (λ (lasts : (Unit {0} × (Unit {0} × (Unit {0} × (Unit {0} × (List Stem × Unit {0})))))). (fsep ftrue (fsep ftrue (fsep ftrue (fsep ftrue (fsep (fsep (finally T.the-row δstems3 (lasts .1 .1 .1 .1 .0)) (feq ℕ (length (lasts .1 .1 .1 .1 .0)) (length (zs1 .0)))) ftrue)))))) (‵ (flft (νedges3 ∷ []) fullShare) ⊛ (‵ (flft (νacross3 ∷ []) fullShare) ⊛ (‵ (flft (νstems3 ∷ []) fullShare) ⊛ ‵ ftrue))) ((‵ (flft (νedges3 ∷ []) fullShare) ⊛ ‵ (ShrRef (named 0) (νedges3 ∷ []) (Array f64 1024) .own (at-one (Array f64 1024) bedges oedges δedges3 (zs2 .1 .1 .1 .1 .1 .1 .0)) (vptr ((at-one (Array f64 1024) bedges oedges δedges3 (zs2 .1 .1 .1 .1 .1 .1 .0)) .ptr .0) ((at-one (Array f64 1024) bedges oedges δedges3 (zs2 .1 .1 .1 .1 .1 .1 .0)) .ptr .1) ∷ []))) ⊛ ((‵ (flft (νacross3 ∷ []) fullShare) ⊛ ‵ (ShrRef (named 0) (νacross3 ∷ []) (Array bool 512) .own (at-one (Array bool 512) bacross oacross δacross3 (zs2 .1 .1 .1 .1 .1 .1 .1 .0)) (vptr ((at-one (Array bool 512) bacross oacross δacross3 (zs2 .1 .1 .1 .1 .1 .1 .1 .0)) .ptr .0) ((at-one (Array bool 512) bacross oacross δacross3 (zs2 .1 .1 .1 .1 .1 .1 .1 .0)) .ptr .1) ∷ []))) ⊛ (‵ (flft (νstems3 ∷ []) fullShare) ⊛ ‵ (Own T.the-row mstems bstems ostems (νstems3 ∷ []) δstems3 (zs1 .0))))) (vint w64 (st .stems) ∷ vint w64 (st .hints) ∷ vptr ((at-one (Array f64 1024) bedges oedges δedges3 (zs2 .1 .1 .1 .1 .1 .1 .0)) .ptr .0) ((at-one (Array f64 1024) bedges oedges δedges3 (zs2 .1 .1 .1 .1 .1 .1 .0)) .ptr .1) ∷ vptr ((at-one (Array bool 512) bacross oacross δacross3 (zs2 .1 .1 .1 .1 .1 .1 .1 .0)) .ptr .0) ((at-one (Array bool 512) bacross oacross δacross3 (zs2 .1 .1 .1 .1 .1 .1 .1 .0)) .ptr .1) ∷ sliceVal (bstems, ostems) mstems ∷ []) (keep-group-as 𝓤 H A mem run′ W C known-keep-group (νedges3 ∷ []) fullShare (at-one (Array f64 1024) bedges oedges δedges3 (zs2 .1 .1 .1 .1 .1 .1 .0)) (νacross3 ∷ []) fullShare (at-one (Array bool 512) bacross oacross δacross3 (zs2 .1 .1 .1 .1 .1 .1 .1 .0)) (νstems3 ∷ []) fullShare mstems bstems ostems δstems3 (zs1 .0) ((st .stems)) ((st .hints)) ((LL.owed S.the-type S′.the-laws st (machS st ∷ []) st-fits) .1 .1 .1 .1 .1 .1 .1 .1 .1 .1 .1 .0 .1) ((LL.owed S.the-type S′.the-laws st (machS st ∷ []) st-fits) .1 .1 .1 .1 .1 .1 .1 .0 .1) (need .1 .1 .fit .bounds .hints, subst (λ (k : ℕ). st .stems + st .hints ≤ k) (e1 .0 ∙ ap length (sym (e1 .1))) (e2 .1 (new-group st (r2 .st) new)))) (and-then ! (load ! (from ! (fld ! refl (stop !))) (look-in ! 98 (sub ! 11 refl (whole !)))) (and-then ! (load ! (from ! (fld ! refl (stop !))) (look-in ! 98 (sub ! 7 refl (whole !)))) (and-then ! (load ! (from ! (stop !)) (look ! 20 refl)) (and-then ! (load ! (from ! (stop !)) (look ! 18 refl)) (and-then ! (load ! (from ! (stop !)) (look ! 14 refl)) (no-more !)))))) (λ w3 r3 zs3 e3 is3. land ! (from ! (stop !)) (init ! 24 refl (nothing-lawful 𝓤 H A W .typed r3 _ is3 .0)) $ drop ! $ split ! $ move ! (1 ∷ []) $ split ! $ move ! (1 ∷ []) $ split ! $ move ! (1 ∷ []) $ drop ! $ move ! (3 ∷ []) $ fsplit ! $ drop ! $ fsplit ! $ drop ! $ fsplit ! $ drop ! $ fsplit ! $ drop ! $ fsplit ! $ fsplit ! $ move ! (1 ∷ []) $ feqL ! (λ lstems3. move ! (1 ∷ []) $ drop ! $
         move ! (3 ∷ 6 ∷ []) $ returned-shr ! tt (Array f64 1024) bedges oedges νedges3 (zs2 .1 .1 .1 .1 .1 .1 .0) (move ! (4 ∷ 6 ∷ []) $ returned-shr ! tt (Array bool 512) bacross oacross νacross3 (zs2 .1 .1 .1 .1 .1 .1 .1 .0) (move ! (5 ∷ 6 ∷ 4 ∷ []) $ returned ! tt T.the-row mstems bstems ostems νstems3 δstems3 (zs1 .0) (zs3 .1 .1 .1 .1 .0) (lstems1) lstems3 fitstems (
         assigns ! (of-opd ! (load ! (from ! (stop !)) (look ! 78 refl))) (from ! (stop !)) (init ! 110 refl (typedN 𝓤 H A W r2 _ (mineN r2 w2 is2))) $ owned ! N.the-row (Is N.the-row) (LL.makes N.the-type N′.the-plain 𝓤 H A) r2 _ (mineN r2 w2 is2) $
-        returns-within ! (Post) refl (look ! 111 refl) $ forget ! 111 refl $ forget ! 109 refl $ forget ! 107 refl $ forget ! 105 refl $ forget ! 103 refl $ forget ! 101 refl $ forget ! 99 refl $ forget ! 97 refl $ forget ! 95 refl $ forget ! 93 refl $ forget ! 91 refl $ forget ! 89 refl $ forget ! 87 refl $ forget ! 81 refl $ forget ! 79 refl $ forget ! 77 refl $ forget ! 75 refl $ forget ! 73 refl $ forget ! 71 refl $ forget ! 43 refl $ forget ! 41 refl $ forget ! 39 refl $ forget ! 37 refl $ forget ! 35 refl $ forget ! 33 refl $ forget ! 31 refl $ forget ! 29 refl $ forget ! 27 refl $ forget ! 25 refl $ forget ! 23 refl $ forget ! 21 refl $ forget ! 19 refl $ forget ! 17 refl $
-        move ! (111 ∷ 112 ∷ []) $ free1 ! $ move ! (109 ∷ 110 ∷ []) $ free1 ! $ move ! (107 ∷ 108 ∷ []) $ free1 ! $ move ! (105 ∷ 106 ∷ []) $ free1 ! $ move ! (103 ∷ 104 ∷ []) $ free1 ! $ move ! (101 ∷ 102 ∷ []) $ free1 ! $ move ! (99 ∷ 100 ∷ []) $ free1 ! $ move ! (97 ∷ 98 ∷ []) $ free1 ! $ move ! (95 ∷ 96 ∷ []) $ free1 ! $ move ! (93 ∷ 94 ∷ []) $ free1 ! $ move ! (91 ∷ 92 ∷ []) $ free1 ! $ move ! (89 ∷ 90 ∷ []) $ free1 ! $ move ! (87 ∷ 88 ∷ []) $ free1 ! $ move ! (85 ∷ 86 ∷ []) $ free1 ! $ move ! (83 ∷ 84 ∷ []) $ free1 ! $ move ! (81 ∷ 82 ∷ []) $ free1 ! $ move ! (79 ∷ 80 ∷ []) $ free1 ! $ move ! (77 ∷ 78 ∷ []) $ free1 ! $ move ! (75 ∷ 76 ∷ []) $ free1 ! $ move ! (73 ∷ 74 ∷ []) $ free1 ! $ move ! (71 ∷ 72 ∷ []) $ free1 ! $ move ! (69 ∷ 70 ∷ []) $ free1 ! $ move ! (67 ∷ 68 ∷ []) $ free1 ! $ move ! (65 ∷ 66 ∷ []) $ free1 ! $ move ! (63 ∷ 64 ∷ []) $ free1 ! $ move ! (61 ∷ 62 ∷ []) $ free1 ! $ move ! (59 ∷ 60 ∷ []) $ free1 ! $ move ! (57 ∷ 58 ∷ []) $ free1 ! $ move ! (55 ∷ 56 ∷ []) $ free1 ! $ move ! (53 ∷ 54 ∷ []) $ free1 ! $ move ! (51 ∷ 52 ∷ []) $ free1 ! $ move ! (49 ∷ 50 ∷ []) $ free1 ! $ move ! (47 ∷ 48 ∷ []) $ free1 ! $ move ! (45 ∷ 46 ∷ []) $ free1 ! $ move ! (43 ∷ 44 ∷ []) $ free1 ! $ move ! (41 ∷ 42 ∷ []) $ free1 ! $ move ! (39 ∷ 40 ∷ []) $ free1 ! $ move ! (37 ∷ 38 ∷ []) $ free1 ! $ move ! (35 ∷ 36 ∷ []) $ free1 ! $ move ! (33 ∷ 34 ∷ []) $ free1 ! $ move ! (31 ∷ 32 ∷ []) $ free1 ! $ move ! (29 ∷ 30 ∷ []) $ free1 ! $ move ! (27 ∷ 28 ∷ []) $ free1 ! $ move ! (25 ∷ 26 ∷ []) $ free1 ! $ move ! (23 ∷ 24 ∷ []) $ free1 ! $ move ! (21 ∷ 22 ∷ []) $ free1 ! $ move ! (19 ∷ 20 ∷ []) $ free1 ! $ move ! (17 ∷ 18 ∷ []) $ free1 ! $ free0 ! $ keep ! (0 ∷ 15 ∷ 16 ∷ 13 ∷ 14 ∷ 11 ∷ 12 ∷ 9 ∷ 10 ∷ 5 ∷ 6 ∷ 3 ∷ 4 ∷ 7 ∷ 8 ∷ 1 ∷ 2 ∷ []) $ by ! (exits r2 (machN r2) (zs2 .1 .1 .1 .0) (zs2 .1 .1 .1 .1 .0) (zs2 .1 .1 .1 .1 .1 .0) (zs2 .1 .1 .1 .1 .1 .1 .0) (zs2 .1 .1 .1 .1 .1 .1 .1 .0) (zs2 .1 .1 .1 .1 .1 .1 .1 .1 .0) (zs3 .1 .1 .1 .1 .0) (subst (λ (z : List Stem). Meets r2 (memOf (zs2 .1 .1 .1 .0) (zs2 .1 .1 .1 .1 .0) (zs2 .1 .1 .1 .1 .1 .0) (zs2 .1 .1 .1 .1 .1 .1 .0) (zs2 .1 .1 .1 .1 .1 .1 .1 .0) (zs2 .1 .1 .1 .1 .1 .1 .1 .1 .0) z) (opD (xbank .now) iv levels o st (memOf ysops ysps yscells ysedges ysacross yscmds ysstems))) (kept-new st (r2 .st) (zs2 .1 .1 .1 .1 .1 .1 .0) (zs2 .1 .1 .1 .1 .1 .1 .1 .0) ysstems new ∙ sym (e3 ∙ ap (λ (l : List Stem). paste l (st .stems) (stemsAt 0 (st .hints) (zs2 .1 .1 .1 .1 .1 .1 .0) (zs2 .1 .1 .1 .1 .1 .1 .1 .0)) (st .hints)) (e1 .1))) (plained (xbank .now) iv levels o st (memOf ysops ysps yscells ysedges ysacross yscmds ysstems) not-call r1 (e1 .0) r2 (memOf (zs2 .1 .1 .1 .0) (zs2 .1 .1 .1 .1 .0) (zs2 .1 .1 .1 .1 .1 .0) (zs2 .1 .1 .1 .1 .1 .1 .0) (zs2 .1 .1 .1 .1 .1 .1 .1 .0) (zs2 .1 .1 .1 .1 .1 .1 .1 .1 .0) (kept st (r2 .st) (zs2 .1 .1 .1 .1 .1 .1 .0) (zs2 .1 .1 .1 .1 .1 .1 .1 .0) ysstems)) (e2 .0 (memOf ysops ysps yscells ysedges ysacross yscmds ysstems) (abs st (memOf ysops ysps yscells ysedges ysacross yscmds ysstems)) (sym (e1 .0)) (record { is = refl; fit = need .1 .1 .fit })))) (lcmds2) (lstems3 ∙ lstems1)))))))))))
+        returns-within ! (Post) refl (look ! 111 refl) $ leave ! (_ ∷ _ ∷ _ ∷ _ ∷ _ ∷ _ ∷ _ ∷ _ ∷ _ ∷ _ ∷ _ ∷ _ ∷ _ ∷ _ ∷ _ ∷ _ ∷ _ ∷ []) (filled _ _ _ ∷ filled _ _ _ ∷ filled _ _ _ ∷ filled _ _ _ ∷ filled _ _ _ ∷ filled _ _ _ ∷ filled _ _ _ ∷ filled _ _ _ ∷ filled _ _ _ ∷ filled _ _ _ ∷ filled _ _ _ ∷ filled _ _ _ ∷ filled _ _ _ ∷ bare _ _ ∷ bare _ _ ∷ filled _ _ _ ∷ filled _ _ _ ∷ filled _ _ _ ∷ filled _ _ _ ∷ filled _ _ _ ∷ filled _ _ _ ∷ bare _ _ ∷ bare _ _ ∷ bare _ _ ∷ bare _ _ ∷ bare _ _ ∷ bare _ _ ∷ bare _ _ ∷ bare _ _ ∷ bare _ _ ∷ bare _ _ ∷ bare _ _ ∷ bare _ _ ∷ bare _ _ ∷ filled _ _ _ ∷ filled _ _ _ ∷ filled _ _ _ ∷ filled _ _ _ ∷ filled _ _ _ ∷ filled _ _ _ ∷ filled _ _ _ ∷ filled _ _ _ ∷ filled _ _ _ ∷ filled _ _ _ ∷ filled _ _ _ ∷ filled _ _ _ ∷ filled _ _ _ ∷ filled _ _ _ ∷ []) $ keep ! (0 ∷ 15 ∷ 16 ∷ 13 ∷ 14 ∷ 11 ∷ 12 ∷ 9 ∷ 10 ∷ 5 ∷ 6 ∷ 3 ∷ 4 ∷ 7 ∷ 8 ∷ 1 ∷ 2 ∷ []) $ by ! (exits r2 (machN r2) (zs2 .1 .1 .1 .0) (zs2 .1 .1 .1 .1 .0) (zs2 .1 .1 .1 .1 .1 .0) (zs2 .1 .1 .1 .1 .1 .1 .0) (zs2 .1 .1 .1 .1 .1 .1 .1 .0) (zs2 .1 .1 .1 .1 .1 .1 .1 .1 .0) (zs3 .1 .1 .1 .1 .0) (subst (λ (z : List Stem). Meets r2 (memOf (zs2 .1 .1 .1 .0) (zs2 .1 .1 .1 .1 .0) (zs2 .1 .1 .1 .1 .1 .0) (zs2 .1 .1 .1 .1 .1 .1 .0) (zs2 .1 .1 .1 .1 .1 .1 .1 .0) (zs2 .1 .1 .1 .1 .1 .1 .1 .1 .0) z) (opD (xbank .now) iv levels o st (memOf ysops ysps yscells ysedges ysacross yscmds ysstems))) (kept-new st (r2 .st) (zs2 .1 .1 .1 .1 .1 .1 .0) (zs2 .1 .1 .1 .1 .1 .1 .1 .0) ysstems new ∙ sym (e3 ∙ ap (λ (l : List Stem). paste l (st .stems) (stemsAt 0 (st .hints) (zs2 .1 .1 .1 .1 .1 .1 .0) (zs2 .1 .1 .1 .1 .1 .1 .1 .0)) (st .hints)) (e1 .1))) (plained (xbank .now) iv levels o st (memOf ysops ysps yscells ysedges ysacross yscmds ysstems) not-call r1 (e1 .0) r2 (memOf (zs2 .1 .1 .1 .0) (zs2 .1 .1 .1 .1 .0) (zs2 .1 .1 .1 .1 .1 .0) (zs2 .1 .1 .1 .1 .1 .1 .0) (zs2 .1 .1 .1 .1 .1 .1 .1 .0) (zs2 .1 .1 .1 .1 .1 .1 .1 .1 .0) (kept st (r2 .st) (zs2 .1 .1 .1 .1 .1 .1 .0) (zs2 .1 .1 .1 .1 .1 .1 .1 .0) ysstems)) (e2 .0 (memOf ysops ysps yscells ysedges ysacross yscmds ysstems) (abs st (memOf ysops ysps yscells ysedges ysacross yscmds ysstems)) (sym (e1 .0)) (record { is = refl; fit = need .1 .1 .fit })))) (lcmds2) (lstems3 ∙ lstems1)))))))))))
         (λ same.
         assigns ! (of-opd ! (load ! (from ! (stop !)) (look ! 78 refl))) (from ! (stop !)) (init ! 110 refl (typedN 𝓤 H A W r2 _ (mineN r2 w2 is2))) $ owned ! N.the-row (Is N.the-row) (LL.makes N.the-type N′.the-plain 𝓤 H A) r2 _ (mineN r2 w2 is2) $
-        returns ! (look ! 111 refl) $ forget ! 111 refl $ forget ! 109 refl $ forget ! 107 refl $ forget ! 105 refl $ forget ! 103 refl $ forget ! 101 refl $ forget ! 99 refl $ forget ! 97 refl $ forget ! 95 refl $ forget ! 93 refl $ forget ! 91 refl $ forget ! 89 refl $ forget ! 87 refl $ forget ! 81 refl $ forget ! 79 refl $ forget ! 77 refl $ forget ! 75 refl $ forget ! 73 refl $ forget ! 71 refl $ forget ! 43 refl $ forget ! 41 refl $ forget ! 39 refl $ forget ! 37 refl $ forget ! 35 refl $ forget ! 33 refl $ forget ! 31 refl $ forget ! 29 refl $ forget ! 27 refl $
-        move ! (111 ∷ 112 ∷ []) $ free1 ! $ move ! (109 ∷ 110 ∷ []) $ free1 ! $ move ! (107 ∷ 108 ∷ []) $ free1 ! $ move ! (105 ∷ 106 ∷ []) $ free1 ! $ move ! (103 ∷ 104 ∷ []) $ free1 ! $ move ! (101 ∷ 102 ∷ []) $ free1 ! $ move ! (99 ∷ 100 ∷ []) $ free1 ! $ move ! (97 ∷ 98 ∷ []) $ free1 ! $ move ! (95 ∷ 96 ∷ []) $ free1 ! $ move ! (93 ∷ 94 ∷ []) $ free1 ! $ move ! (91 ∷ 92 ∷ []) $ free1 ! $ move ! (89 ∷ 90 ∷ []) $ free1 ! $ move ! (87 ∷ 88 ∷ []) $ free1 ! $ move ! (85 ∷ 86 ∷ []) $ free1 ! $ move ! (83 ∷ 84 ∷ []) $ free1 ! $ move ! (81 ∷ 82 ∷ []) $ free1 ! $ move ! (79 ∷ 80 ∷ []) $ free1 ! $ move ! (77 ∷ 78 ∷ []) $ free1 ! $ move ! (75 ∷ 76 ∷ []) $ free1 ! $ move ! (73 ∷ 74 ∷ []) $ free1 ! $ move ! (71 ∷ 72 ∷ []) $ free1 ! $ move ! (69 ∷ 70 ∷ []) $ free1 ! $ move ! (67 ∷ 68 ∷ []) $ free1 ! $ move ! (65 ∷ 66 ∷ []) $ free1 ! $ move ! (63 ∷ 64 ∷ []) $ free1 ! $ move ! (61 ∷ 62 ∷ []) $ free1 ! $ move ! (59 ∷ 60 ∷ []) $ free1 ! $ move ! (57 ∷ 58 ∷ []) $ free1 ! $ move ! (55 ∷ 56 ∷ []) $ free1 ! $ move ! (53 ∷ 54 ∷ []) $ free1 ! $ move ! (51 ∷ 52 ∷ []) $ free1 ! $ move ! (49 ∷ 50 ∷ []) $ free1 ! $ move ! (47 ∷ 48 ∷ []) $ free1 ! $ move ! (45 ∷ 46 ∷ []) $ free1 ! $ move ! (43 ∷ 44 ∷ []) $ free1 ! $ move ! (41 ∷ 42 ∷ []) $ free1 ! $ move ! (39 ∷ 40 ∷ []) $ free1 ! $ move ! (37 ∷ 38 ∷ []) $ free1 ! $ move ! (35 ∷ 36 ∷ []) $ free1 ! $ move ! (33 ∷ 34 ∷ []) $ free1 ! $ move ! (31 ∷ 32 ∷ []) $ free1 ! $ move ! (29 ∷ 30 ∷ []) $ free1 ! $ move ! (27 ∷ 28 ∷ []) $ free1 ! $ move ! (25 ∷ 26 ∷ []) $ free1 ! $ move ! (23 ∷ 24 ∷ []) $ free1 ! $ move ! (21 ∷ 22 ∷ []) $ free1 ! $ move ! (19 ∷ 20 ∷ []) $ free1 ! $ move ! (17 ∷ 18 ∷ []) $ free1 ! $ free0 ! $ keep ! (0 ∷ 15 ∷ 16 ∷ 11 ∷ 12 ∷ 9 ∷ 10 ∷ 7 ∷ 8 ∷ 5 ∷ 6 ∷ 3 ∷ 4 ∷ 1 ∷ 2 ∷ 13 ∷ 14 ∷ []) $ by ! (exits r2 (machN r2) (zs2 .1 .1 .1 .0) (zs2 .1 .1 .1 .1 .0) (zs2 .1 .1 .1 .1 .1 .0) (zs2 .1 .1 .1 .1 .1 .1 .0) (zs2 .1 .1 .1 .1 .1 .1 .1 .0) (zs2 .1 .1 .1 .1 .1 .1 .1 .1 .0) (zs1 .0) (subst (λ (z : List Stem). Meets r2 (memOf (zs2 .1 .1 .1 .0) (zs2 .1 .1 .1 .1 .0) (zs2 .1 .1 .1 .1 .1 .0) (zs2 .1 .1 .1 .1 .1 .1 .0) (zs2 .1 .1 .1 .1 .1 .1 .1 .0) (zs2 .1 .1 .1 .1 .1 .1 .1 .1 .0) z) (opD (xbank .now) iv levels o st (memOf ysops ysps yscells ysedges ysacross yscmds ysstems))) (kept-same st (r2 .st) (zs2 .1 .1 .1 .1 .1 .1 .0) (zs2 .1 .1 .1 .1 .1 .1 .1 .0) ysstems same ∙ sym (e1 .1)) (plained (xbank .now) iv levels o st (memOf ysops ysps yscells ysedges ysacross yscmds ysstems) not-call r1 (e1 .0) r2 (memOf (zs2 .1 .1 .1 .0) (zs2 .1 .1 .1 .1 .0) (zs2 .1 .1 .1 .1 .1 .0) (zs2 .1 .1 .1 .1 .1 .1 .0) (zs2 .1 .1 .1 .1 .1 .1 .1 .0) (zs2 .1 .1 .1 .1 .1 .1 .1 .1 .0) (kept st (r2 .st) (zs2 .1 .1 .1 .1 .1 .1 .0) (zs2 .1 .1 .1 .1 .1 .1 .1 .0) ysstems)) (e2 .0 (memOf ysops ysps yscells ysedges ysacross yscmds ysstems) (abs st (memOf ysops ysps yscells ysedges ysacross yscmds ysstems)) (sym (e1 .0)) (record { is = refl; fit = need .1 .1 .fit })))) (lcmds2) (lstems1)))))))))))))))))))))
+        returns ! (look ! 111 refl) $ leave ! (_ ∷ _ ∷ _ ∷ _ ∷ _ ∷ _ ∷ _ ∷ _ ∷ _ ∷ _ ∷ _ ∷ _ ∷ _ ∷ _ ∷ _ ∷ _ ∷ _ ∷ []) (filled _ _ _ ∷ filled _ _ _ ∷ filled _ _ _ ∷ filled _ _ _ ∷ filled _ _ _ ∷ filled _ _ _ ∷ filled _ _ _ ∷ filled _ _ _ ∷ filled _ _ _ ∷ filled _ _ _ ∷ filled _ _ _ ∷ filled _ _ _ ∷ filled _ _ _ ∷ bare _ _ ∷ bare _ _ ∷ filled _ _ _ ∷ filled _ _ _ ∷ filled _ _ _ ∷ filled _ _ _ ∷ filled _ _ _ ∷ filled _ _ _ ∷ bare _ _ ∷ bare _ _ ∷ bare _ _ ∷ bare _ _ ∷ bare _ _ ∷ bare _ _ ∷ bare _ _ ∷ bare _ _ ∷ bare _ _ ∷ bare _ _ ∷ bare _ _ ∷ bare _ _ ∷ bare _ _ ∷ filled _ _ _ ∷ filled _ _ _ ∷ filled _ _ _ ∷ filled _ _ _ ∷ filled _ _ _ ∷ filled _ _ _ ∷ filled _ _ _ ∷ filled _ _ _ ∷ filled _ _ _ ∷ bare _ _ ∷ bare _ _ ∷ bare _ _ ∷ bare _ _ ∷ bare _ _ ∷ []) $ keep ! (0 ∷ 15 ∷ 16 ∷ 11 ∷ 12 ∷ 9 ∷ 10 ∷ 7 ∷ 8 ∷ 5 ∷ 6 ∷ 3 ∷ 4 ∷ 1 ∷ 2 ∷ 13 ∷ 14 ∷ []) $ by ! (exits r2 (machN r2) (zs2 .1 .1 .1 .0) (zs2 .1 .1 .1 .1 .0) (zs2 .1 .1 .1 .1 .1 .0) (zs2 .1 .1 .1 .1 .1 .1 .0) (zs2 .1 .1 .1 .1 .1 .1 .1 .0) (zs2 .1 .1 .1 .1 .1 .1 .1 .1 .0) (zs1 .0) (subst (λ (z : List Stem). Meets r2 (memOf (zs2 .1 .1 .1 .0) (zs2 .1 .1 .1 .1 .0) (zs2 .1 .1 .1 .1 .1 .0) (zs2 .1 .1 .1 .1 .1 .1 .0) (zs2 .1 .1 .1 .1 .1 .1 .1 .0) (zs2 .1 .1 .1 .1 .1 .1 .1 .1 .0) z) (opD (xbank .now) iv levels o st (memOf ysops ysps yscells ysedges ysacross yscmds ysstems))) (kept-same st (r2 .st) (zs2 .1 .1 .1 .1 .1 .1 .0) (zs2 .1 .1 .1 .1 .1 .1 .1 .0) ysstems same ∙ sym (e1 .1)) (plained (xbank .now) iv levels o st (memOf ysops ysps yscells ysedges ysacross yscmds ysstems) not-call r1 (e1 .0) r2 (memOf (zs2 .1 .1 .1 .0) (zs2 .1 .1 .1 .1 .0) (zs2 .1 .1 .1 .1 .1 .0) (zs2 .1 .1 .1 .1 .1 .1 .0) (zs2 .1 .1 .1 .1 .1 .1 .1 .0) (zs2 .1 .1 .1 .1 .1 .1 .1 .1 .0) (kept st (r2 .st) (zs2 .1 .1 .1 .1 .1 .1 .0) (zs2 .1 .1 .1 .1 .1 .1 .1 .0) ysstems)) (e2 .0 (memOf ysops ysps yscells ysedges ysacross yscmds ysstems) (abs st (memOf ysops ysps yscells ysedges ysacross yscmds ysstems)) (sym (e1 .0)) (record { is = refl; fit = need .1 .1 .fit })))) (lcmds2) (lstems1)))))))))))))))))))))
 
     pub walk : ent 𝓤 (onEntry 𝓤 H A f.signature (κbank, (κops, (κps, (κcells, (κedges, (κacross, (κcmds, (κstems, tt)))))))) (qbank, (qops, (qps, (qcells, (qedges, (qacross, (qcmds, (qstems, tt)))))))) a vals) (WpFn 𝓤 H C Λ code.op-function args Post)
     walk =
@@ -222,8 +221,7 @@ module _ {M : Type 1} (𝓤 : URA M) (H : Heap 𝓤) (A : Atoms 𝓤) (W : Given
         -- `made`
         nothing ! $ asks-all ! fm N.the-row (Is N.the-row) (shows 𝓤 H A N.the-row) (Unit {0} × (Unit {0} × Unit {0})) (λ (r : N.the-row .Denot) (lasts : (Unit {0} × (Unit {0} × Unit {0}))). r ≡ ranOf (r1 .st) (r1 .flow)) (λ (lasts : (Unit {0} × (Unit {0} × Unit {0}))). (fsep ftrue (fsep ftrue ftrue))) (‵ ftrue) (‵ ftrue) (machS (r1 .st) ∷ vint w8 (r1 .flow) ∷ []) (made-as 𝓤 H A mem run′ W C known-made ((r1 .st)) ((r1 .flow)) ((LL.owed D.the-type D′.the-laws r1 (w1 ∷ []) is1) .0) ((LL.owed D.the-type D′.the-laws r1 (w1 ∷ []) is1) .1 .0 .1)) (and-then ! (load ! (from ! (fld ! refl (stop !))) (look-in ! 85 (sub ! 0 refl (whole !)))) (and-then ! (load ! (from ! (stop !)) (look ! 83 refl)) (no-more !))) (λ w2 r2 zs2 e2 is2. land ! (from ! (stop !)) (init ! 113 refl (typedN 𝓤 H A W r2 _ is2)) $ rewrite ! 113 (λ (u : Val). ‵ (fat fullShare tNt l₀ 0 u)) (ap only (LL.tells N.the-type N′.the-laws r2 (w2 ∷ []) is2)) refl $ drop ! $ drop ! $ fsplit ! $ drop ! $ fsplit ! $ drop ! $ drop ! $
         owned ! N.the-row (Is N.the-row) (LL.makes N.the-type N′.the-plain 𝓤 H A) r2 _ (mineN r2 w2 is2) $
-        returns-within ! (Post) refl (look ! 111 refl) $ forget ! 111 refl $ forget ! 109 refl $ forget ! 107 refl $ forget ! 105 refl $ forget ! 103 refl $ forget ! 101 refl $ forget ! 99 refl $ forget ! 97 refl $ forget ! 95 refl $ forget ! 93 refl $ forget ! 91 refl $ forget ! 89 refl $ forget ! 87 refl $ forget ! 85 refl $ forget ! 83 refl $ forget ! 71 refl $ forget ! 69 refl $ forget ! 67 refl $
-        move ! (111 ∷ 112 ∷ []) $ free1 ! $ move ! (109 ∷ 110 ∷ []) $ free1 ! $ move ! (107 ∷ 108 ∷ []) $ free1 ! $ move ! (105 ∷ 106 ∷ []) $ free1 ! $ move ! (103 ∷ 104 ∷ []) $ free1 ! $ move ! (101 ∷ 102 ∷ []) $ free1 ! $ move ! (99 ∷ 100 ∷ []) $ free1 ! $ move ! (97 ∷ 98 ∷ []) $ free1 ! $ move ! (95 ∷ 96 ∷ []) $ free1 ! $ move ! (93 ∷ 94 ∷ []) $ free1 ! $ move ! (91 ∷ 92 ∷ []) $ free1 ! $ move ! (89 ∷ 90 ∷ []) $ free1 ! $ move ! (87 ∷ 88 ∷ []) $ free1 ! $ move ! (85 ∷ 86 ∷ []) $ free1 ! $ move ! (83 ∷ 84 ∷ []) $ free1 ! $ move ! (81 ∷ 82 ∷ []) $ free1 ! $ move ! (79 ∷ 80 ∷ []) $ free1 ! $ move ! (77 ∷ 78 ∷ []) $ free1 ! $ move ! (75 ∷ 76 ∷ []) $ free1 ! $ move ! (73 ∷ 74 ∷ []) $ free1 ! $ move ! (71 ∷ 72 ∷ []) $ free1 ! $ move ! (69 ∷ 70 ∷ []) $ free1 ! $ move ! (67 ∷ 68 ∷ []) $ free1 ! $ move ! (65 ∷ 66 ∷ []) $ free1 ! $ move ! (63 ∷ 64 ∷ []) $ free1 ! $ move ! (61 ∷ 62 ∷ []) $ free1 ! $ move ! (59 ∷ 60 ∷ []) $ free1 ! $ move ! (57 ∷ 58 ∷ []) $ free1 ! $ move ! (55 ∷ 56 ∷ []) $ free1 ! $ move ! (53 ∷ 54 ∷ []) $ free1 ! $ move ! (51 ∷ 52 ∷ []) $ free1 ! $ move ! (49 ∷ 50 ∷ []) $ free1 ! $ move ! (47 ∷ 48 ∷ []) $ free1 ! $ move ! (45 ∷ 46 ∷ []) $ free1 ! $ move ! (43 ∷ 44 ∷ []) $ free1 ! $ move ! (41 ∷ 42 ∷ []) $ free1 ! $ move ! (39 ∷ 40 ∷ []) $ free1 ! $ move ! (37 ∷ 38 ∷ []) $ free1 ! $ move ! (35 ∷ 36 ∷ []) $ free1 ! $ move ! (33 ∷ 34 ∷ []) $ free1 ! $ move ! (31 ∷ 32 ∷ []) $ free1 ! $ move ! (29 ∷ 30 ∷ []) $ free1 ! $ move ! (27 ∷ 28 ∷ []) $ free1 ! $ move ! (25 ∷ 26 ∷ []) $ free1 ! $ move ! (23 ∷ 24 ∷ []) $ free1 ! $ move ! (21 ∷ 22 ∷ []) $ free1 ! $ move ! (19 ∷ 20 ∷ []) $ free1 ! $ move ! (17 ∷ 18 ∷ []) $ free1 ! $ free0 ! $ keep ! (0 ∷ 4 ∷ 3 ∷ 1 ∷ 2 ∷ 5 ∷ 6 ∷ 7 ∷ 8 ∷ 9 ∷ 10 ∷ 11 ∷ 12 ∷ 13 ∷ 14 ∷ 15 ∷ 16 ∷ []) $ by ! (exits r2 (machN r2) ysops ysps yscells ysedges ysacross yscmds ysstems (call-refused (xbank .now) iv levels o st (memOf ysops ysps yscells ysedges ysacross yscmds ysstems) r1 (e1 (memOf ysops ysps yscells ysedges ysacross yscmds ysstems) (abs st (memOf ysops ysps yscells ysedges ysacross yscmds ysstems)) iv (record { is = refl; fit = need .1 .1 .fit })) is-call r2 e2 off) (refl) (refl))))
+        returns-within ! (Post) refl (look ! 111 refl) $ leave ! (_ ∷ _ ∷ _ ∷ _ ∷ _ ∷ _ ∷ _ ∷ _ ∷ _ ∷ _ ∷ _ ∷ _ ∷ _ ∷ _ ∷ _ ∷ _ ∷ _ ∷ []) (filled _ _ _ ∷ filled _ _ _ ∷ filled _ _ _ ∷ filled _ _ _ ∷ filled _ _ _ ∷ filled _ _ _ ∷ filled _ _ _ ∷ filled _ _ _ ∷ filled _ _ _ ∷ filled _ _ _ ∷ filled _ _ _ ∷ filled _ _ _ ∷ filled _ _ _ ∷ filled _ _ _ ∷ filled _ _ _ ∷ bare _ _ ∷ bare _ _ ∷ bare _ _ ∷ bare _ _ ∷ bare _ _ ∷ filled _ _ _ ∷ filled _ _ _ ∷ filled _ _ _ ∷ bare _ _ ∷ bare _ _ ∷ bare _ _ ∷ bare _ _ ∷ bare _ _ ∷ bare _ _ ∷ bare _ _ ∷ bare _ _ ∷ bare _ _ ∷ bare _ _ ∷ bare _ _ ∷ bare _ _ ∷ bare _ _ ∷ bare _ _ ∷ bare _ _ ∷ bare _ _ ∷ bare _ _ ∷ bare _ _ ∷ bare _ _ ∷ bare _ _ ∷ bare _ _ ∷ bare _ _ ∷ bare _ _ ∷ bare _ _ ∷ bare _ _ ∷ []) $ keep ! (0 ∷ 4 ∷ 3 ∷ 1 ∷ 2 ∷ 5 ∷ 6 ∷ 7 ∷ 8 ∷ 9 ∷ 10 ∷ 11 ∷ 12 ∷ 13 ∷ 14 ∷ 15 ∷ 16 ∷ []) $ by ! (exits r2 (machN r2) ysops ysps yscells ysedges ysacross yscmds ysstems (call-refused (xbank .now) iv levels o st (memOf ysops ysps yscells ysedges ysacross yscmds ysstems) r1 (e1 (memOf ysops ysps yscells ysedges ysacross yscmds ysstems) (abs st (memOf ysops ysps yscells ysedges ysacross yscmds ysstems)) iv (record { is = refl; fit = need .1 .1 .fit })) is-call r2 e2 off) (refl) (refl))))
         (λ on.
         assigns ! (bin ! (load ! (from ! (stop !)) (look ! 102 refl)) (lit ! tt) tt) (from ! (stop !)) (store ! 66 refl (tt, tt)) $
         guards ! (load ! (from ! (stop !)) (look ! 66 refl))
@@ -231,8 +229,7 @@ module _ {M : Type 1} (𝓤 : URA M) (H : Heap 𝓤) (A : Atoms 𝓤) (W : Given
         -- `made`
         nothing ! $ asks-all ! fm N.the-row (Is N.the-row) (shows 𝓤 H A N.the-row) (Unit {0} × (Unit {0} × Unit {0})) (λ (r : N.the-row .Denot) (lasts : (Unit {0} × (Unit {0} × Unit {0}))). r ≡ ranOf (r1 .st) 4) (λ (lasts : (Unit {0} × (Unit {0} × Unit {0}))). (fsep ftrue (fsep ftrue ftrue))) (‵ ftrue) (‵ ftrue) (machS (r1 .st) ∷ vint w8 4 ∷ []) (made-as 𝓤 H A mem run′ W C known-made ((r1 .st)) (4) ((LL.owed D.the-type D′.the-laws r1 (w1 ∷ []) is1) .0) (lit< tt)) (and-then ! (load ! (from ! (fld ! refl (stop !))) (look-in ! 85 (sub ! 0 refl (whole !)))) (and-then ! (lit ! tt) (no-more !))) (λ w2 r2 zs2 e2 is2. land ! (from ! (stop !)) (init ! 113 refl (typedN 𝓤 H A W r2 _ is2)) $ rewrite ! 113 (λ (u : Val). ‵ (fat fullShare tNt l₀ 0 u)) (ap only (LL.tells N.the-type N′.the-laws r2 (w2 ∷ []) is2)) refl $ drop ! $ drop ! $ fsplit ! $ drop ! $ fsplit ! $ drop ! $ drop ! $
         owned ! N.the-row (Is N.the-row) (LL.makes N.the-type N′.the-plain 𝓤 H A) r2 _ (mineN r2 w2 is2) $
-        returns-within ! (Post) refl (look ! 111 refl) $ forget ! 111 refl $ forget ! 109 refl $ forget ! 107 refl $ forget ! 105 refl $ forget ! 103 refl $ forget ! 101 refl $ forget ! 99 refl $ forget ! 97 refl $ forget ! 95 refl $ forget ! 93 refl $ forget ! 91 refl $ forget ! 89 refl $ forget ! 87 refl $ forget ! 85 refl $ forget ! 83 refl $ forget ! 71 refl $ forget ! 69 refl $ forget ! 67 refl $
-        move ! (111 ∷ 112 ∷ []) $ free1 ! $ move ! (109 ∷ 110 ∷ []) $ free1 ! $ move ! (107 ∷ 108 ∷ []) $ free1 ! $ move ! (105 ∷ 106 ∷ []) $ free1 ! $ move ! (103 ∷ 104 ∷ []) $ free1 ! $ move ! (101 ∷ 102 ∷ []) $ free1 ! $ move ! (99 ∷ 100 ∷ []) $ free1 ! $ move ! (97 ∷ 98 ∷ []) $ free1 ! $ move ! (95 ∷ 96 ∷ []) $ free1 ! $ move ! (93 ∷ 94 ∷ []) $ free1 ! $ move ! (91 ∷ 92 ∷ []) $ free1 ! $ move ! (89 ∷ 90 ∷ []) $ free1 ! $ move ! (87 ∷ 88 ∷ []) $ free1 ! $ move ! (85 ∷ 86 ∷ []) $ free1 ! $ move ! (83 ∷ 84 ∷ []) $ free1 ! $ move ! (81 ∷ 82 ∷ []) $ free1 ! $ move ! (79 ∷ 80 ∷ []) $ free1 ! $ move ! (77 ∷ 78 ∷ []) $ free1 ! $ move ! (75 ∷ 76 ∷ []) $ free1 ! $ move ! (73 ∷ 74 ∷ []) $ free1 ! $ move ! (71 ∷ 72 ∷ []) $ free1 ! $ move ! (69 ∷ 70 ∷ []) $ free1 ! $ move ! (67 ∷ 68 ∷ []) $ free1 ! $ move ! (65 ∷ 66 ∷ []) $ free1 ! $ move ! (63 ∷ 64 ∷ []) $ free1 ! $ move ! (61 ∷ 62 ∷ []) $ free1 ! $ move ! (59 ∷ 60 ∷ []) $ free1 ! $ move ! (57 ∷ 58 ∷ []) $ free1 ! $ move ! (55 ∷ 56 ∷ []) $ free1 ! $ move ! (53 ∷ 54 ∷ []) $ free1 ! $ move ! (51 ∷ 52 ∷ []) $ free1 ! $ move ! (49 ∷ 50 ∷ []) $ free1 ! $ move ! (47 ∷ 48 ∷ []) $ free1 ! $ move ! (45 ∷ 46 ∷ []) $ free1 ! $ move ! (43 ∷ 44 ∷ []) $ free1 ! $ move ! (41 ∷ 42 ∷ []) $ free1 ! $ move ! (39 ∷ 40 ∷ []) $ free1 ! $ move ! (37 ∷ 38 ∷ []) $ free1 ! $ move ! (35 ∷ 36 ∷ []) $ free1 ! $ move ! (33 ∷ 34 ∷ []) $ free1 ! $ move ! (31 ∷ 32 ∷ []) $ free1 ! $ move ! (29 ∷ 30 ∷ []) $ free1 ! $ move ! (27 ∷ 28 ∷ []) $ free1 ! $ move ! (25 ∷ 26 ∷ []) $ free1 ! $ move ! (23 ∷ 24 ∷ []) $ free1 ! $ move ! (21 ∷ 22 ∷ []) $ free1 ! $ move ! (19 ∷ 20 ∷ []) $ free1 ! $ move ! (17 ∷ 18 ∷ []) $ free1 ! $ free0 ! $ keep ! (0 ∷ 4 ∷ 3 ∷ 1 ∷ 2 ∷ 5 ∷ 6 ∷ 7 ∷ 8 ∷ 9 ∷ 10 ∷ 11 ∷ 12 ∷ 13 ∷ 14 ∷ 15 ∷ 16 ∷ []) $ by ! (exits r2 (machN r2) ysops ysps yscells ysedges ysacross yscmds ysstems (too-deep (xbank .now) iv levels o st (memOf ysops ysps yscells ysedges ysacross yscmds ysstems) r1 (e1 (memOf ysops ysps yscells ysedges ysacross yscmds ysstems) (abs st (memOf ysops ysps yscells ysedges ysacross yscmds ysstems)) iv (record { is = refl; fit = need .1 .1 .fit })) is-call on r2 e2 deep) (refl) (refl))))
+        returns-within ! (Post) refl (look ! 111 refl) $ leave ! (_ ∷ _ ∷ _ ∷ _ ∷ _ ∷ _ ∷ _ ∷ _ ∷ _ ∷ _ ∷ _ ∷ _ ∷ _ ∷ _ ∷ _ ∷ _ ∷ _ ∷ []) (filled _ _ _ ∷ filled _ _ _ ∷ filled _ _ _ ∷ filled _ _ _ ∷ filled _ _ _ ∷ filled _ _ _ ∷ filled _ _ _ ∷ filled _ _ _ ∷ filled _ _ _ ∷ filled _ _ _ ∷ filled _ _ _ ∷ filled _ _ _ ∷ filled _ _ _ ∷ filled _ _ _ ∷ filled _ _ _ ∷ bare _ _ ∷ bare _ _ ∷ bare _ _ ∷ bare _ _ ∷ bare _ _ ∷ filled _ _ _ ∷ filled _ _ _ ∷ filled _ _ _ ∷ bare _ _ ∷ bare _ _ ∷ bare _ _ ∷ bare _ _ ∷ bare _ _ ∷ bare _ _ ∷ bare _ _ ∷ bare _ _ ∷ bare _ _ ∷ bare _ _ ∷ bare _ _ ∷ bare _ _ ∷ bare _ _ ∷ bare _ _ ∷ bare _ _ ∷ bare _ _ ∷ bare _ _ ∷ bare _ _ ∷ bare _ _ ∷ bare _ _ ∷ bare _ _ ∷ bare _ _ ∷ bare _ _ ∷ bare _ _ ∷ bare _ _ ∷ []) $ keep ! (0 ∷ 4 ∷ 3 ∷ 1 ∷ 2 ∷ 5 ∷ 6 ∷ 7 ∷ 8 ∷ 9 ∷ 10 ∷ 11 ∷ 12 ∷ 13 ∷ 14 ∷ 15 ∷ 16 ∷ []) $ by ! (exits r2 (machN r2) ysops ysps yscells ysedges ysacross yscmds ysstems (too-deep (xbank .now) iv levels o st (memOf ysops ysps yscells ysedges ysacross yscmds ysstems) r1 (e1 (memOf ysops ysps yscells ysedges ysacross yscmds ysstems) (abs st (memOf ysops ysps yscells ysedges ysacross yscmds ysstems)) iv (record { is = refl; fit = need .1 .1 .fit })) is-call on r2 e2 deep) (refl) (refl))))
         (λ room.
         -- `body`
         move ! (3 ∷ []) $ use1 W (‵ (ShrSlice (named 0) κbank u8 .own xbank (sliceVal (xbank .ptr) (length (xbank .now)) ∷ [])) ⊛ ‵ (ShrSlice (named 0) κbank u8 .own xbank (sliceVal (xbank .ptr) (length (xbank .now)) ∷ []))) (shr-slice-copy 𝓤 H A W (named 0) κbank u8 .twice xbank (sliceVal (xbank .ptr) (length (xbank .now)) ∷ [])) $ split ! $ move ! (4 ∷ 1 ∷ []) $ join ! $ asks-all ! fm (ShrSlice (named 0) κbank u8) (Is (ShrSlice (named 0) κbank u8)) (shows 𝓤 H A (ShrSlice (named 0) κbank u8)) (Unit {0} × (Unit {0} × Unit {0})) (λ (r : (ShrSlice (named 0) κbank u8) .Denot) (lasts : (Unit {0} × (Unit {0} × Unit {0}))). r .now ≡ bytesAt (found (r1 .index) (xbank .now)) (xbank .now)) (λ (lasts : (Unit {0} × (Unit {0} × Unit {0}))). (fsep ftrue (fsep ftrue ftrue))) (‵ (flft κbank qbank) ⊛ ‵ ftrue) (‵ (flft κbank qbank) ⊛ ‵ (ShrSlice (named 0) κbank u8 .own xbank (sliceVal (xbank .ptr) (length (xbank .now)) ∷ []))) (sliceVal (xbank .ptr) (length (xbank .now)) ∷ vint w64 (r1 .index) ∷ []) (body-as 𝓤 H A mem run′ W C known-body κbank qbank xbank ((r1 .index)) ((LL.owed D.the-type D′.the-laws r1 (w1 ∷ []) is1) .1 .1 .0 .1)) (and-then ! (load ! (from ! (stop !)) (look ! 106 refl)) (and-then ! (load ! (from ! (fld ! refl (stop !))) (look-in ! 84 (sub ! 2 refl (whole !)))) (no-more !))) (λ w2 r2 zs2 e2 is2. land ! (from ! (stop !)) (init ! 66 refl (fat-typed r2 w2 (is2 .0 .0) (is2 .0 .1))) $ rewrite ! 66 (λ (u : Val). ‵ (fat fullShare (sliceTy (tB erased)) l₂₃ 0 u)) (ap only (is2 .0 .0)) refl $ rewrite ! 0 (λ (u : Val). ‵ (ShrSlice (named 0) κbank u8 .own r2 (u ∷ []))) (ap only (is2 .0 .0)) refl $ move ! (1 ∷ []) $ split ! $ move ! (1 ∷ []) $ drop ! $ move ! (2 ∷ []) $ fsplit ! $ drop ! $ fsplit ! $ drop ! $ drop ! $
@@ -249,6 +246,5 @@ module _ {M : Type 1} (𝓤 : URA M) (H : Heap 𝓤) (A : Atoms 𝓤) (W : Given
         -- `run`
         move ! (1 ∷ []) $ use1 W (‵ (ShrSlice (named 0) κbank u8 .own r2 (sliceVal (r2 .ptr) (length (r2 .now)) ∷ [])) ⊛ ‵ (ShrSlice (named 0) κbank u8 .own r2 (sliceVal (r2 .ptr) (length (r2 .now)) ∷ []))) (shr-slice-copy 𝓤 H A W (named 0) κbank u8 .twice r2 (sliceVal (r2 .ptr) (length (r2 .now)) ∷ [])) $ split ! $ move ! (2 ∷ []) $ use1 W (‵ (flft κbank (PosShare·left qbank)) ⊛ ‵ (flft κbank (PosShare·right qbank))) (W .lfts .lft-split κbank qbank) $ split ! $ move ! (0 ∷ 3 ∷ []) $ join ! $ move ! (3 ∷ []) $ use1 W (‵ (ShrSlice (named 0) κbank u8 .own xbank (sliceVal (xbank .ptr) (length (xbank .now)) ∷ [])) ⊛ ‵ (ShrSlice (named 0) κbank u8 .own xbank (sliceVal (xbank .ptr) (length (xbank .now)) ∷ []))) (shr-slice-copy 𝓤 H A W (named 0) κbank u8 .twice xbank (sliceVal (xbank .ptr) (length (xbank .now)) ∷ [])) $ split ! $ move ! (3 ∷ 1 ∷ []) $ join ! $ move ! (4 ∷ 5 ∷ []) $ lend-ref ! tt (Array f64 256) bops oops ysops (λ νops3 δops3. move ! (6 ∷ 7 ∷ []) $ lend-ref ! tt (Array f64 256) bps ops ysps (λ νps3 δps3. move ! (8 ∷ 9 ∷ []) $ lend-ref ! tt (Array f64 19) bcells ocells yscells (λ νcells3 δcells3. move ! (10 ∷ 11 ∷ []) $ lend-ref ! tt (Array f64 1024) bedges oedges ysedges (λ νedges3 δedges3. move ! (12 ∷ 13 ∷ []) $ lend-ref ! tt (Array bool 512) bacross oacross ysacross (λ νacross3 δacross3. move ! (14 ∷ 15 ∷ []) $ lend ! tt u64 mcmds bcmds ocmds yscmds (refl) (λ νcmds3 δcmds3. move ! (16 ∷ 17 ∷ []) $ lend ! tt T.the-row mstems bstems ostems ysstems (refl) (λ νstems3 δstems3. move ! (2 ∷ 0 ∷ []) $ join ! $ move ! (3 ∷ 0 ∷ []) $ join ! $ move ! (4 ∷ 0 ∷ []) $ join ! $ move ! (5 ∷ 0 ∷ []) $ join ! $ move ! (6 ∷ 0 ∷ []) $ join ! $ move ! (7 ∷ 0 ∷ []) $ join ! $ move ! (8 ∷ 0 ∷ []) $ join ! $ move ! (9 ∷ 0 ∷ []) $ join ! $ asks-all ! fm N.the-row (Is N.the-row) (shows 𝓤 H A N.the-row) (Unit {0} × (Unit {0} × (Unit {0} × (Unit {0} × (Unit {0} × (List Float × (List Float × (List Float × (List Float × (List Bool × (List ℕ × (List Stem × Unit {0})))))))))))) (λ (r : N.the-row .Denot) (lasts : (Unit {0} × (Unit {0} × (Unit {0} × (Unit {0} × (Unit {0} × (List Float × (List Float × (List Float × (List Float × (List Bool × (List ℕ × (List Stem × Unit {0}))))))))))))). Meets r (memOf (lasts .1 .1 .1 .1 .1 .0) (lasts .1 .1 .1 .1 .1 .1 .0) (lasts .1 .1 .1 .1 .1 .1 .1 .0) (lasts .1 .1 .1 .1 .1 .1 .1 .1 .0) (lasts .1 .1 .1 .1 .1 .1 .1 .1 .1 .0) (lasts .1 .1 .1 .1 .1 .1 .1 .1 .1 .1 .0) (lasts .1 .1 .1 .1 .1 .1 .1 .1 .1 .1 .1 .0)) (runD (xbank .now) iv (levels - 1) (r2 .now) (r1 .st) (memOf ysops ysps yscells ysedges ysacross yscmds ysstems))) (λ (lasts : (Unit {0} × (Unit {0} × (Unit {0} × (Unit {0} × (Unit {0} × (List Float × (List Float × (List Float × (List Float × (List Bool × (List ℕ × (List Stem × Unit {0}))))))))))))). (fsep ftrue (fsep ftrue (fsep ftrue (fsep ftrue (fsep ftrue (fsep (fres δops3 ((Array f64 256) .coded .code (lasts .1 .1 .1 .1 .1 .0))) (fsep (fres δps3 ((Array f64 256) .coded .code (lasts .1 .1 .1 .1 .1 .1 .0))) (fsep (fres δcells3 ((Array f64 19) .coded .code (lasts .1 .1 .1 .1 .1 .1 .1 .0))) (fsep (fres δedges3 ((Array f64 1024) .coded .code (lasts .1 .1 .1 .1 .1 .1 .1 .1 .0))) (fsep (fres δacross3 ((Array bool 512) .coded .code (lasts .1 .1 .1 .1 .1 .1 .1 .1 .1 .0))) (fsep (fsep (finally u64 δcmds3 (lasts .1 .1 .1 .1 .1 .1 .1 .1 .1 .1 .0)) (feq ℕ (length (lasts .1 .1 .1 .1 .1 .1 .1 .1 .1 .1 .0)) (length yscmds))) (fsep (fsep (finally T.the-row δstems3 (lasts .1 .1 .1 .1 .1 .1 .1 .1 .1 .1 .1 .0)) (feq ℕ (length (lasts .1 .1 .1 .1 .1 .1 .1 .1 .1 .1 .1 .0)) (length ysstems))) ftrue))))))))))))) (‵ (flft κbank (PosShare·left qbank)) ⊛ (‵ (flft κbank (PosShare·right qbank)) ⊛ (‵ (flft (νops3 ∷ []) fullShare) ⊛ (‵ (flft (νps3 ∷ []) fullShare) ⊛ (‵ (flft (νcells3 ∷ []) fullShare) ⊛ (‵ (flft (νedges3 ∷ []) fullShare) ⊛ (‵ (flft (νacross3 ∷ []) fullShare) ⊛ (‵ (flft (νcmds3 ∷ []) fullShare) ⊛ (‵ (flft (νstems3 ∷ []) fullShare) ⊛ ‵ ftrue))))))))) ((‵ (flft κbank (PosShare·left qbank)) ⊛ ‵ (ShrSlice (named 0) κbank u8 .own r2 (sliceVal (r2 .ptr) (length (r2 .now)) ∷ []))) ⊛ ((‵ (flft κbank (PosShare·right qbank)) ⊛ ‵ (ShrSlice (named 0) κbank u8 .own xbank (sliceVal (xbank .ptr) (length (xbank .now)) ∷ []))) ⊛ ((‵ (flft (νops3 ∷ []) fullShare) ⊛ ‵ (OwnR (Array f64 256) bops oops (νops3 ∷ []) δops3 ysops)) ⊛ ((‵ (flft (νps3 ∷ []) fullShare) ⊛ ‵ (OwnR (Array f64 256) bps ops (νps3 ∷ []) δps3 ysps)) ⊛ ((‵ (flft (νcells3 ∷ []) fullShare) ⊛ ‵ (OwnR (Array f64 19) bcells ocells (νcells3 ∷ []) δcells3 yscells)) ⊛ ((‵ (flft (νedges3 ∷ []) fullShare) ⊛ ‵ (OwnR (Array f64 1024) bedges oedges (νedges3 ∷ []) δedges3 ysedges)) ⊛ ((‵ (flft (νacross3 ∷ []) fullShare) ⊛ ‵ (OwnR (Array bool 512) bacross oacross (νacross3 ∷ []) δacross3 ysacross)) ⊛ ((‵ (flft (νcmds3 ∷ []) fullShare) ⊛ ‵ (Own u64 mcmds bcmds ocmds (νcmds3 ∷ []) δcmds3 yscmds)) ⊛ (‵ (flft (νstems3 ∷ []) fullShare) ⊛ ‵ (Own T.the-row mstems bstems ostems (νstems3 ∷ []) δstems3 ysstems)))))))))) (sliceVal (r2 .ptr) (length (r2 .now)) ∷ sliceVal (xbank .ptr) (length (xbank .now)) ∷ vint w64 iv ∷ vint w64 (levels - 1) ∷ machS (r1 .st) ∷ vptr bops oops ∷ vptr bps ops ∷ vptr bcells ocells ∷ vptr bedges oedges ∷ vptr bacross oacross ∷ sliceVal (bcmds, ocmds) mcmds ∷ sliceVal (bstems, ostems) mstems ∷ []) (run-as 𝓤 H A mem run′ W C t below κbank (PosShare·left qbank) r2 κbank (PosShare·right qbank) xbank (νops3 ∷ []) fullShare bops oops δops3 ysops (νps3 ∷ []) fullShare bps ops δps3 ysps (νcells3 ∷ []) fullShare bcells ocells δcells3 yscells (νedges3 ∷ []) fullShare bedges oedges δedges3 ysedges (νacross3 ∷ []) fullShare bacross oacross δacross3 ysacross (νcmds3 ∷ []) fullShare mcmds bcmds ocmds δcmds3 yscmds (νstems3 ∷ []) fullShare mstems bstems ostems δstems3 ysstems (iv) ((levels - 1)) ((r1 .st)) (iv-fits) (less-fits levels levels-fits) ((LL.owed D.the-type D′.the-laws r1 (w1 ∷ []) is1) .0) (fewer levels (need .0), (need .1 .0, ready-call (xbank .now) iv levels o st (memOf ysops ysps yscells ysedges ysacross yscmds ysstems) r1 (e1 (memOf ysops ysps yscells ysedges ysacross yscmds ysstems) (abs st (memOf ysops ysps yscells ysedges ysacross yscmds ysstems)) iv (record { is = refl; fit = need .1 .1 .fit })) is-call on octets (need .1 .1))) (omega (arith, measure, positive levels room))) (and-then ! (load ! (from ! (stop !)) (look ! 58 refl)) (and-then ! (load ! (from ! (stop !)) (look ! 100 refl)) (and-then ! (load ! (from ! (stop !)) (look ! 98 refl)) (and-then ! (load ! (from ! (stop !)) (look ! 56 refl)) (and-then ! (load ! (from ! (fld ! refl (stop !))) (look-in ! 78 (sub ! 0 refl (whole !)))) (and-then ! (load ! (from ! (stop !)) (look ! 54 refl)) (and-then ! (load ! (from ! (stop !)) (look ! 52 refl)) (and-then ! (load ! (from ! (stop !)) (look ! 50 refl)) (and-then ! (load ! (from ! (stop !)) (look ! 48 refl)) (and-then ! (load ! (from ! (stop !)) (look ! 46 refl)) (and-then ! (load ! (from ! (stop !)) (look ! 42 refl)) (and-then ! (load ! (from ! (stop !)) (look ! 38 refl)) (no-more !))))))))))))) (λ w3 r3 zs3 e3 is3. land ! (from ! (stop !)) (init ! 106 refl (typedN 𝓤 H A W r3 _ is3)) $ rewrite ! 106 (λ (u : Val). ‵ (fat fullShare tNt l₀ 0 u)) (ap only (LL.tells N.the-type N′.the-laws r3 (w3 ∷ []) is3)) refl $ drop ! $ split ! $ move ! (1 ∷ []) $ split ! $ move ! (1 ∷ []) $ split ! $ move ! (1 ∷ []) $ split ! $ move ! (1 ∷ []) $ split ! $ move ! (1 ∷ []) $ split ! $ move ! (1 ∷ []) $ split ! $ move ! (1 ∷ []) $ split ! $ move ! (1 ∷ []) $ split ! $ move ! (1 ∷ []) $ drop ! $ move ! (9 ∷ []) $ fsplit ! $ drop ! $ fsplit ! $ drop ! $ fsplit ! $ drop ! $ fsplit ! $ drop ! $ fsplit ! $ drop ! $ fsplit ! $ move ! (1 ∷ []) $ fsplit ! $ move ! (1 ∷ []) $ fsplit ! $ move ! (1 ∷ []) $ fsplit ! $ move ! (1 ∷ []) $ fsplit ! $ move ! (1 ∷ []) $ fsplit ! $ fsplit ! $ move ! (1 ∷ []) $ feqL ! (λ lcmds3. move ! (1 ∷ []) $ fsplit ! $ fsplit ! $ move ! (1 ∷ []) $ feqL ! (λ lstems3. move ! (1 ∷ []) $ drop ! $
         move ! (15 ∷ 14 ∷ []) $ use2 W (‵ (flft κbank qbank)) (W .lfts .lft-join κbank qbank) $ move ! (14 ∷ 21 ∷ 7 ∷ []) $ returned-ref ! tt (Array f64 256) bops oops νops3 δops3 ysops (zs3 .1 .1 .1 .1 .1 .0) (move ! (14 ∷ 20 ∷ 8 ∷ []) $ returned-ref ! tt (Array f64 256) bps ops νps3 δps3 ysps (zs3 .1 .1 .1 .1 .1 .1 .0) (move ! (14 ∷ 19 ∷ 9 ∷ []) $ returned-ref ! tt (Array f64 19) bcells ocells νcells3 δcells3 yscells (zs3 .1 .1 .1 .1 .1 .1 .1 .0) (move ! (14 ∷ 18 ∷ 10 ∷ []) $ returned-ref ! tt (Array f64 1024) bedges oedges νedges3 δedges3 ysedges (zs3 .1 .1 .1 .1 .1 .1 .1 .1 .0) (move ! (14 ∷ 17 ∷ 11 ∷ []) $ returned-ref ! tt (Array bool 512) bacross oacross νacross3 δacross3 ysacross (zs3 .1 .1 .1 .1 .1 .1 .1 .1 .1 .0) (move ! (14 ∷ 16 ∷ 12 ∷ []) $ returned ! tt u64 mcmds bcmds ocmds νcmds3 δcmds3 yscmds (zs3 .1 .1 .1 .1 .1 .1 .1 .1 .1 .1 .0) (refl) lcmds3 fitcmds (move ! (14 ∷ 15 ∷ 13 ∷ []) $ returned ! tt T.the-row mstems bstems ostems νstems3 δstems3 ysstems (zs3 .1 .1 .1 .1 .1 .1 .1 .1 .1 .1 .1 .0) (refl) lstems3 fitstems (owned ! N.the-row (Is N.the-row) (LL.makes N.the-type N′.the-plain 𝓤 H A) r3 _ (mineN r3 w3 is3) $
-        returns-within ! (Post) refl (look ! 112 refl) $ forget ! 112 refl $ forget ! 110 refl $ forget ! 108 refl $ forget ! 106 refl $ forget ! 104 refl $ forget ! 102 refl $ forget ! 100 refl $ forget ! 98 refl $ forget ! 96 refl $ forget ! 94 refl $ forget ! 92 refl $ forget ! 90 refl $ forget ! 88 refl $ forget ! 86 refl $ forget ! 84 refl $ forget ! 72 refl $ forget ! 70 refl $ forget ! 68 refl $ forget ! 66 refl $ forget ! 64 refl $ forget ! 62 refl $ forget ! 60 refl $ forget ! 58 refl $ forget ! 56 refl $ forget ! 54 refl $ forget ! 52 refl $ forget ! 50 refl $ forget ! 48 refl $ forget ! 46 refl $
-        move ! (112 ∷ 113 ∷ []) $ free1 ! $ move ! (110 ∷ 111 ∷ []) $ free1 ! $ move ! (108 ∷ 109 ∷ []) $ free1 ! $ move ! (106 ∷ 107 ∷ []) $ free1 ! $ move ! (104 ∷ 105 ∷ []) $ free1 ! $ move ! (102 ∷ 103 ∷ []) $ free1 ! $ move ! (100 ∷ 101 ∷ []) $ free1 ! $ move ! (98 ∷ 99 ∷ []) $ free1 ! $ move ! (96 ∷ 97 ∷ []) $ free1 ! $ move ! (94 ∷ 95 ∷ []) $ free1 ! $ move ! (92 ∷ 93 ∷ []) $ free1 ! $ move ! (90 ∷ 91 ∷ []) $ free1 ! $ move ! (88 ∷ 89 ∷ []) $ free1 ! $ move ! (86 ∷ 87 ∷ []) $ free1 ! $ move ! (84 ∷ 85 ∷ []) $ free1 ! $ move ! (82 ∷ 83 ∷ []) $ free1 ! $ move ! (80 ∷ 81 ∷ []) $ free1 ! $ move ! (78 ∷ 79 ∷ []) $ free1 ! $ move ! (76 ∷ 77 ∷ []) $ free1 ! $ move ! (74 ∷ 75 ∷ []) $ free1 ! $ move ! (72 ∷ 73 ∷ []) $ free1 ! $ move ! (70 ∷ 71 ∷ []) $ free1 ! $ move ! (68 ∷ 69 ∷ []) $ free1 ! $ move ! (66 ∷ 67 ∷ []) $ free1 ! $ move ! (64 ∷ 65 ∷ []) $ free1 ! $ move ! (62 ∷ 63 ∷ []) $ free1 ! $ move ! (60 ∷ 61 ∷ []) $ free1 ! $ move ! (58 ∷ 59 ∷ []) $ free1 ! $ move ! (56 ∷ 57 ∷ []) $ free1 ! $ move ! (54 ∷ 55 ∷ []) $ free1 ! $ move ! (52 ∷ 53 ∷ []) $ free1 ! $ move ! (50 ∷ 51 ∷ []) $ free1 ! $ move ! (48 ∷ 49 ∷ []) $ free1 ! $ move ! (46 ∷ 47 ∷ []) $ free1 ! $ move ! (44 ∷ 45 ∷ []) $ free1 ! $ move ! (42 ∷ 43 ∷ []) $ free1 ! $ move ! (40 ∷ 41 ∷ []) $ free1 ! $ move ! (38 ∷ 39 ∷ []) $ free1 ! $ move ! (36 ∷ 37 ∷ []) $ free1 ! $ move ! (34 ∷ 35 ∷ []) $ free1 ! $ move ! (32 ∷ 33 ∷ []) $ free1 ! $ move ! (30 ∷ 31 ∷ []) $ free1 ! $ move ! (28 ∷ 29 ∷ []) $ free1 ! $ move ! (26 ∷ 27 ∷ []) $ free1 ! $ move ! (24 ∷ 25 ∷ []) $ free1 ! $ move ! (22 ∷ 23 ∷ []) $ free1 ! $ move ! (20 ∷ 21 ∷ []) $ free1 ! $ move ! (18 ∷ 19 ∷ []) $ free1 ! $ free0 ! $ keep ! (0 ∷ 16 ∷ 15 ∷ 13 ∷ 14 ∷ 11 ∷ 12 ∷ 9 ∷ 10 ∷ 7 ∷ 8 ∷ 5 ∷ 6 ∷ 3 ∷ 4 ∷ 1 ∷ 2 ∷ []) $ by ! (exits r3 (machN r3) (zs3 .1 .1 .1 .1 .1 .0) (zs3 .1 .1 .1 .1 .1 .1 .0) (zs3 .1 .1 .1 .1 .1 .1 .1 .0) (zs3 .1 .1 .1 .1 .1 .1 .1 .1 .0) (zs3 .1 .1 .1 .1 .1 .1 .1 .1 .1 .0) (zs3 .1 .1 .1 .1 .1 .1 .1 .1 .1 .1 .0) (zs3 .1 .1 .1 .1 .1 .1 .1 .1 .1 .1 .1 .0) (called (xbank .now) iv levels o st (memOf ysops ysps yscells ysedges ysacross yscmds ysstems) r1 (e1 (memOf ysops ysps yscells ysedges ysacross yscmds ysstems) (abs st (memOf ysops ysps yscells ysedges ysacross yscmds ysstems)) iv (record { is = refl; fit = need .1 .1 .fit })) is-call on (r2 .now) e2 room r3 (memOf (zs3 .1 .1 .1 .1 .1 .0) (zs3 .1 .1 .1 .1 .1 .1 .0) (zs3 .1 .1 .1 .1 .1 .1 .1 .0) (zs3 .1 .1 .1 .1 .1 .1 .1 .1 .0) (zs3 .1 .1 .1 .1 .1 .1 .1 .1 .1 .0) (zs3 .1 .1 .1 .1 .1 .1 .1 .1 .1 .1 .0) (zs3 .1 .1 .1 .1 .1 .1 .1 .1 .1 .1 .1 .0)) e3) (lcmds3) (lstems3))))))))))))))))))))))))))
+        returns-within ! (Post) refl (look ! 112 refl) $ leave ! (_ ∷ _ ∷ _ ∷ _ ∷ _ ∷ _ ∷ _ ∷ _ ∷ _ ∷ _ ∷ _ ∷ _ ∷ _ ∷ _ ∷ _ ∷ _ ∷ _ ∷ _ ∷ []) (filled _ _ _ ∷ filled _ _ _ ∷ filled _ _ _ ∷ filled _ _ _ ∷ filled _ _ _ ∷ filled _ _ _ ∷ filled _ _ _ ∷ filled _ _ _ ∷ filled _ _ _ ∷ filled _ _ _ ∷ filled _ _ _ ∷ filled _ _ _ ∷ filled _ _ _ ∷ filled _ _ _ ∷ filled _ _ _ ∷ bare _ _ ∷ bare _ _ ∷ bare _ _ ∷ bare _ _ ∷ bare _ _ ∷ filled _ _ _ ∷ filled _ _ _ ∷ filled _ _ _ ∷ filled _ _ _ ∷ filled _ _ _ ∷ filled _ _ _ ∷ filled _ _ _ ∷ filled _ _ _ ∷ filled _ _ _ ∷ filled _ _ _ ∷ filled _ _ _ ∷ filled _ _ _ ∷ filled _ _ _ ∷ filled _ _ _ ∷ bare _ _ ∷ bare _ _ ∷ bare _ _ ∷ bare _ _ ∷ bare _ _ ∷ bare _ _ ∷ bare _ _ ∷ bare _ _ ∷ bare _ _ ∷ bare _ _ ∷ bare _ _ ∷ bare _ _ ∷ bare _ _ ∷ bare _ _ ∷ []) $ keep ! (0 ∷ 16 ∷ 15 ∷ 13 ∷ 14 ∷ 11 ∷ 12 ∷ 9 ∷ 10 ∷ 7 ∷ 8 ∷ 5 ∷ 6 ∷ 3 ∷ 4 ∷ 1 ∷ 2 ∷ []) $ by ! (exits r3 (machN r3) (zs3 .1 .1 .1 .1 .1 .0) (zs3 .1 .1 .1 .1 .1 .1 .0) (zs3 .1 .1 .1 .1 .1 .1 .1 .0) (zs3 .1 .1 .1 .1 .1 .1 .1 .1 .0) (zs3 .1 .1 .1 .1 .1 .1 .1 .1 .1 .0) (zs3 .1 .1 .1 .1 .1 .1 .1 .1 .1 .1 .0) (zs3 .1 .1 .1 .1 .1 .1 .1 .1 .1 .1 .1 .0) (called (xbank .now) iv levels o st (memOf ysops ysps yscells ysedges ysacross yscmds ysstems) r1 (e1 (memOf ysops ysps yscells ysedges ysacross yscmds ysstems) (abs st (memOf ysops ysps yscells ysedges ysacross yscmds ysstems)) iv (record { is = refl; fit = need .1 .1 .fit })) is-call on (r2 .now) e2 room r3 (memOf (zs3 .1 .1 .1 .1 .1 .0) (zs3 .1 .1 .1 .1 .1 .1 .0) (zs3 .1 .1 .1 .1 .1 .1 .1 .0) (zs3 .1 .1 .1 .1 .1 .1 .1 .1 .0) (zs3 .1 .1 .1 .1 .1 .1 .1 .1 .1 .0) (zs3 .1 .1 .1 .1 .1 .1 .1 .1 .1 .1 .0) (zs3 .1 .1 .1 .1 .1 .1 .1 .1 .1 .1 .1 .0)) e3) (lcmds3) (lstems3))))))))))))))))))))))))))
         (λ not-call. forget ! 70 refl $ keep ! (0 ∷ 1 ∷ 2 ∷ 3 ∷ 4 ∷ 5 ∷ 6 ∷ 7 ∷ 8 ∷ 9 ∷ 10 ∷ 11 ∷ 12 ∷ 13 ∷ 14 ∷ 15 ∷ 16 ∷ 17 ∷ 18 ∷ 19 ∷ 20 ∷ 21 ∷ 22 ∷ 23 ∷ 24 ∷ 25 ∷ 26 ∷ 27 ∷ 28 ∷ 29 ∷ 30 ∷ 31 ∷ 32 ∷ 33 ∷ 34 ∷ 35 ∷ 36 ∷ 37 ∷ 38 ∷ 39 ∷ 40 ∷ 41 ∷ 42 ∷ 43 ∷ 44 ∷ 45 ∷ 46 ∷ 47 ∷ 48 ∷ 49 ∷ 50 ∷ 51 ∷ 52 ∷ 53 ∷ 54 ∷ 55 ∷ 56 ∷ 57 ∷ 58 ∷ 59 ∷ 60 ∷ 61 ∷ 62 ∷ 63 ∷ 64 ∷ 65 ∷ 66 ∷ 67 ∷ 68 ∷ 69 ∷ 70 ∷ 71 ∷ 72 ∷ 73 ∷ 74 ∷ 75 ∷ 76 ∷ 77 ∷ 78 ∷ 79 ∷ 80 ∷ 81 ∷ 82 ∷ 83 ∷ 84 ∷ 85 ∷ 86 ∷ 87 ∷ 88 ∷ 89 ∷ 90 ∷ 91 ∷ 92 ∷ 93 ∷ 94 ∷ 95 ∷ 96 ∷ 97 ∷ 98 ∷ 99 ∷ 100 ∷ 101 ∷ 102 ∷ 103 ∷ 104 ∷ 105 ∷ 106 ∷ 107 ∷ 108 ∷ 109 ∷ 110 ∷ 111 ∷ []) $ others not-call l₀ l₁ l₂ l₃ l₄ l₅ l₆ l₇ l₈ l₉ l₁₀ l₁₁ l₁₂ l₁₃ l₁₄ l₁₅ l₁₆ l₁₇ l₁₈ l₁₉ l₂₀ l₂₁ l₂₂ l₂₃ l₂₄ l₂₅ l₂₆ l₂₇ l₂₈ l₂₉ l₃₀ l₃₁ l₃₂ l₃₃ l₃₄ l₃₅ l₃₆ l₃₇ l₃₈ l₃₉ l₄₀ l₄₁ l₄₂ l₄₃ l₄₄ l₄₅ l₄₆ l₄₇))))))))))))))))))))))))))))))))))))))))))))))))))
