@@ -60,7 +60,7 @@ const KINDS: [Kind; 16] = [
     kind("quantize", 11, true, numbers::quantize),
     kind("push_number", 12, true, numbers::push_number),
     kind("choose_widths", 13, true, numbers::choose_widths),
-    kind("run", 14, false, glyphs::run),
+    kind("run", 14, true, glyphs::run),
     kind("convert", 15, false, glyphs::convert),
     kind("finish", 16, false, glyphs::finish),
 ];
