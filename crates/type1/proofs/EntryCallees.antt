@@ -46,6 +46,8 @@ use Rattle.type1.specs.Entry.{zeroSt, startFlow, numberOf, answerOf, Cle
 use Rattle.type1.specs.Interpret.{outcome, refusedWith, Leaves}
 use Rattle.type1.proofs.start_run as start-run-f
 use Rattle.type1.proofs.start_run.Symbol.{name as #type1·start-run}
+use Rattle.type1.proofs.deepest as deepest-f
+use Rattle.type1.proofs.deepest.Symbol.{name as #type1·deepest}
 use Rattle.type1.proofs.number_of as number-of-f
 use Rattle.type1.proofs.number_of.Symbol.{name as #type1·number-of}
 use Rattle.type1.proofs.wipe as wipe-f
@@ -64,6 +66,9 @@ use Rattle.type1.proofs.interpret.Symbol.{name as #type1·interpret}
 module _ {M : Type 1} (𝓤 : URA M) (H : Heap 𝓤) (A : Atoms 𝓤) (mem : Memory → SProp 𝓤) (run′ : Routine → Fun 𝓤) where
   abbrev pub StartRunC : Contract 𝓤
   StartRunC = tripleOf 𝓤 H A start-run-f.signature (start-run-f.spec 𝓤 H A mem run′)
+
+  abbrev pub DeepestC : Contract 𝓤
+  DeepestC = tripleOf 𝓤 H A deepest-f.signature (deepest-f.spec 𝓤 H A mem run′)
 
   abbrev pub NumberOfC : Contract 𝓤
   NumberOfC = tripleOf 𝓤 H A number-of-f.signature (number-of-f.spec 𝓤 H A mem run′)
@@ -92,6 +97,12 @@ module _ {M : Type 1} (𝓤 : URA M) (H : Heap 𝓤) (A : Atoms 𝓤) (mem : Mem
   start-run-as known κcharstring qcharstring xcharstring κbank qbank xbank =
       let y : StartRunC 𝓤 H A mem run′ .Ghost = (((κcharstring, (κbank, tt)), (qcharstring, (qbank, tt)), tt, (xcharstring, (xbank, tt)), (sliceVal (xcharstring .ptr) (length (xcharstring .now)) ∷ [], (sliceVal (xbank .ptr) (length (xbank .now)) ∷ [], tt))), tt) in
       via 𝓤 (StartRunC 𝓤 H A mem run′ .pre y) (qed W (((‵ (flft κcharstring qcharstring) ⊛ ‵ (ShrSlice (named 0) κcharstring u8 .own xcharstring (sliceVal (xcharstring .ptr) (length (xcharstring .now)) ∷ []))) ⊛ (‵ (flft κbank qbank) ⊛ ‵ (ShrSlice (named 0) κbank u8 .own xbank (sliceVal (xbank .ptr) (length (xbank .now)) ∷ [])))) ∷ []) ∵ split ! $ split ! $ move ! (2 ∷ []) $ split ! $ nothing ! $ move ! (2 ∷ 0 ∷ []) $ fjoin ! $ move ! (3 ∷ 0 ∷ []) $ fjoin ! $ nothing ! $ move ! (2 ∷ 0 ∷ []) $ join ! $ move ! (2 ∷ 0 ∷ []) $ join ! $ join ! $ frame ! $ done !) (known y)
+
+  pub deepest-as : Triple 𝓤 (C #type1·deepest) (DeepestC 𝓤 H A mem run′)
+      → ent 𝓤 (mean 𝓤 H A (‵ ftrue)) (C #type1·deepest ([]) (λ w. mean 𝓤 H A (GotAll 𝓤 usize (Unit {0}) (λ (r : usize .Denot) (lasts : (Unit {0})). r ≡ 10) (λ (lasts : (Unit {0})). ftrue) (‵ ftrue) w)))
+  deepest-as known =
+      let y : DeepestC 𝓤 H A mem run′ .Ghost = ((tt, tt, tt, tt, tt), tt) in
+      via 𝓤 (DeepestC 𝓤 H A mem run′ .pre y) (qed W ((‵ ftrue) ∷ []) ∵ nothing ! $ nothing ! $ join ! $ frame ! $ done !) (known y)
 
   pub number-of-as : Triple 𝓤 (C #type1·number-of) (NumberOfC 𝓤 H A mem run′) → (flow : ℕ) → flow < 2 ^ 8
       → ent 𝓤 (mean 𝓤 H A (‵ ftrue)) (C #type1·number-of (vint w8 flow ∷ []) (λ w. mean 𝓤 H A (GotAll 𝓤 u8 (Unit {0} × Unit {0}) (λ (r : u8 .Denot) (lasts : (Unit {0} × Unit {0})). r ≡ numberOf flow) (λ (lasts : (Unit {0} × Unit {0})). (fsep ftrue ftrue)) (‵ ftrue) w)))

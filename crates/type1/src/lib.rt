@@ -1968,6 +1968,15 @@ fn answer(st: St, cells: &[f64; 19]) -> Interpreted
     }
 }
 
+// Levels of subroutines that run: depth 10 does, 11 is refused.
+const MAX_SUBR_DEPTH: usize = 10;
+
+fn deepest() -> usize
+    ensures { λ r. ⌜ r ≡ 10 ⌝ }
+{
+    MAX_SUBR_DEPTH
+}
+
 // The entry's work, on arrays that are zero.
 fn interpret(
     charstring: &[u8],
@@ -1995,7 +2004,7 @@ fn interpret(
         charstring,
         bank,
         len_iv,
-        10,
+        deepest(),
         b.st,
         ops,
         ps,
