@@ -1,6 +1,6 @@
 -- What the entry's walk says of a whole run: nothing here speaks of code. Assumes nothing.
 use mathlib.Core.Path.{_≡_, refl, sym, _∙_, ap, subst}
-use Prim.Native.Nat.{ℕ, zero, _+_, _≤_}
+use Prim.Native.Nat.{ℕ, zero, suc, _+_, _≤_, _<_}
 use native.Mathlib.Omega.{arith}
 use native.Mathlib.Nat.{zero-add}
 use mathlib.Core.Bool.{Bool, true, false, not}
@@ -142,8 +142,12 @@ module _ (r : Ran) (m : Mem) (commands : List ℕ) (stems : List Stem) where
   turned-away (refused k) a h n e g = ap refused (sym (e ∙ ap numberOf (h .0) ∙ its-own k (h .1)))
 
 -- ---- what the walk says
-refused-leaves : (o : Outcome) (n : ℕ) (r : Interpreted) (commands′ : List ℕ) (stems′ : List Stem) (commands : List ℕ) (stems : List Stem) → o ≡ refused n → r ≡ refusedWith n → commands′ ≡ replicate (length commands) 0 → stems′ ≡ replicate (length stems) zeroStem → Leaves r commands′ stems′ commands stems o
-refused-leaves o n r commands′ stems′ commands stems e er ec ez = subst (Leaves r commands′ stems′ commands stems) (sym e) (er, (ec, ez))
+above : (n : ℕ) → T (not (eqb n 0)) → 0 < n
+above zero h = absurd h
+above (suc n) h = omega arith
+
+refused-leaves : (o : Outcome) (n : ℕ) (r : Interpreted) (commands′ : List ℕ) (stems′ : List Stem) (commands : List ℕ) (stems : List Stem) → T (not (eqb n 0)) → o ≡ refused n → r ≡ refusedWith n → commands′ ≡ replicate (length commands) 0 → stems′ ≡ replicate (length stems) zeroStem → Leaves r commands′ stems′ commands stems o
+refused-leaves o n r commands′ stems′ commands stems h e er ec ez = subst (Leaves r commands′ stems′ commands stems) (sym e) (above n h, (er, (ec, ez)))
 
 zero-fit : (n : ℕ) (m : Mem) → n ≤ maxCharstringBytes → length (m .ops) ≡ 256 → length (m .ps) ≡ 256 → length (m .cells) ≡ 19 → length (m .edges) ≡ 1024 → length (m .across) ≡ 512 → Fit (zeroSt n) m
 unfolding drawnIn groupsIn stemCount
@@ -168,7 +172,7 @@ module _ (charstring bank : List ℕ) (lenIV : ℕ) (b : Ran) (e : b ≡ ranOf (
 
   -- a run that does not begin
   pub refused-first : T (not (eqb (b .flow) 0)) → (r : Interpreted) (commands′ : List ℕ) (stems′ : List Stem) → r ≡ refusedWith (b .flow) → commands′ ≡ replicate (length commands) 0 → stems′ ≡ replicate (length stems) zeroStem → Leaves r commands′ stems′ commands stems all
-  refused-first h r commands′ stems′ er ec ez = refused-leaves all (b .flow) r commands′ stems′ commands stems (not-begun charstring bank lenIV b (length stems) (length commands) e h) er ec ez
+  refused-first h r commands′ stems′ er ec ez = refused-leaves all (b .flow) r commands′ stems′ commands stems h (not-begun charstring bank lenIV b (length stems) (length commands) e h) er ec ez
 
   module _ (o p c d : List Float) (a : List Bool) (zero : Cleared o p c d a) (on : T (not (not (eqb (b .flow) 0)))) where
     flow-zero : startFlow charstring bank ≡ 0
@@ -195,7 +199,7 @@ module _ (charstring bank : List ℕ) (lenIV : ℕ) (b : Ran) (e : b ≡ ranOf (
       met = subst (Meets r m) (ap (λ (t : St). runD bank lenIV 10 charstring t (memOf o p c d a commands stems)) state-is ∙ sym (begun charstring bank lenIV (memOf o p c d a commands stems) (zero .cells) flow-zero)) h
 
       pub refused-later : T (not (eqb g 0)) → (q : Interpreted) (commands′ : List ℕ) (stems′ : List Stem) → q ≡ refusedWith g → commands′ ≡ replicate (length commands) 0 → stems′ ≡ replicate (length stems) zeroStem → Leaves q commands′ stems′ commands stems all
-      refused-later k q commands′ stems′ er ec ez = refused-leaves all g q commands′ stems′ commands stems (turned-away r m commands stems all (outermost charstring bank lenIV (length stems) (length commands)) met g eg k) er ec ez
+      refused-later k q commands′ stems′ er ec ez = refused-leaves all g q commands′ stems′ commands stems k (turned-away r m commands stems all (outermost charstring bank lenIV (length stems) (length commands)) met g eg k) er ec ez
 
       pub ran-through : Bytes charstring → Bytes bank → T (not (not (eqb g 0))) → (q : Interpreted) → q ≡ answerOf (r .st) (m .cells) → Leaves q (m .cmds) (m .stems) commands stems all
       ran-through bc bb k q er = subst (λ (u : Interpreted). Leaves u (m .cmds) (m .stems) commands stems all) (sym er)

@@ -43,4 +43,4 @@ abbrev pub Leaves : Interpreted → List ℕ → List Stem → List ℕ → List
 Leaves r commands′ stems′ commands stems (going s) = Left r commands′ stems′ s
 Leaves r commands′ stems′ commands stems (ending s) = Left r commands′ stems′ s
 Leaves r commands′ stems′ commands stems (returning s) = ⊥
-Leaves r commands′ stems′ commands stems (refused n) = (r ≡ refusedWith n) × ((commands′ ≡ replicate (length commands) 0) × (stems′ ≡ replicate (length stems) zeroStem))
+Leaves r commands′ stems′ commands stems (refused n) = (0 < n) × ((r ≡ refusedWith n) × ((commands′ ≡ replicate (length commands) 0) × (stems′ ≡ replicate (length stems) zeroStem)))

@@ -1737,7 +1737,7 @@ fn keep_group(used: usize, n: usize, edges: &[f64; 1024], across: &[bool; 512], 
 }
 
 // Every record becomes the zero record.
-fn wipe(stems: &mut [Stem])
+pub fn wipe(stems: &mut [Stem])
     ensures { λ _. ⌜ now (stems .exit) ≡ replicate (length (now (stems .entry))) Small.zeroStem ⌝ }
 {
     let mut i = 0;

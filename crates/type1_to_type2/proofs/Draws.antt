@@ -1,0 +1,258 @@
+-- Laws: operators that wait, deltas, and the commands that they draw.
+use mathlib.Core.Path.{_≡_, refl, sym, ap, ap₂, _∙_, subst, fun-ext}
+use mathlib.Core.Logic.{_⊎_, inl, inr}
+use Prim.Native.Nat.{ℕ, zero, suc, _+_, _-_, _*_, _^_, _≤_, _<_}
+use native.Mathlib.Nat.{sub-zero, pos-of-ne-zero}
+use native.Mathlib.Omega.{arith}
+use mathlib.Core.Bool.{Bool, true, false, _&&_}
+use mathlib.Core.List.{List, [], _∷_, _++_, append-nil}
+use lib.ListN.{length, take, replicate, length-take}
+use lib.Dec.{T, eqb, leb, leb→le, le→leb, eqb→eq}
+use lib.IntN.{ℤ}
+use lib.Pow.{pow-pos}
+use lib.Ieee.{Float, nan, inf, fin, binary64, sub, add, neg, mul, div, lt, fits, eq}
+use lib.Ieee.Fits.{eq→eqb}
+use borrow.Author.Tests.{eq-eqb, ne-eqb, le-leb, lt-leb}
+use Rattle.binary64.specs.Units.{bool-iff}
+use Rattle.binary64.specs.Value.{mag, pl, mi}
+use Rattle.binary64.specs.Rounding.{away, abs}
+use Rattle.binary64.specs.Tests.{eq→balance, balance→eq}
+use Rattle.geometry.specs.declared.Point.{Point}
+use Rattle.type1.specs.declared.Stem.{Stem}
+use Rattle.type1.specs.State.{Command, move, line, curve, flex, plusZero}
+use Rattle.type1.specs.Run.{pick, pointAt}
+use Rattle.type2.specs.Number.{quantized, units, zp, zm}
+use Rattle.type2.specs.Signed.{one-sided}
+use Rattle.type2.specs.Fixed.{units-quantized}
+use Rattle.type2.specs.Pushes.{rounded-is}
+use Rattle.type2.specs.Instruction.{Instr, instr, isZero, moveInstr}
+use Rattle.type2.specs.Machine.{Kind, lines, curves}
+use Rattle.type1_to_type2.proofs.Writes.{not-before, put-cons}
+use Rattle.type1_to_type2.specs.declared.Writer.{Writer}
+use Rattle.type1_to_type2.specs.Emission.{Cmd, shape, Item, go, items, codeOf, most, deltas, arrives, pointsOf, heightOf, kindOf, written}
+use Rattle.type1_to_type2.specs.Writing.{Written, refused, wrote, put, putNumbers}
+use Rattle.type1_to_type2.specs.Streaming.{resumed, resumedItems, resumedAll, pointOf, closed, joined, streamed, putInstr, shares, PutsAt, Puts, Still, Flushed, Batched, Goes, Draws, Finished}
+
+-- ---- one after the other
+pub in-turn : {g h : (ℕ → Written) → ℕ → Written} {w r s : Writer} {b a z : List ℕ} → Puts g w b r a → Puts h r a s z → Puts (λ f. g (h f)) w b s z
+in-turn {h = h} p q = record { then = λ f. q .then f ∙ p .then (h f); same = q .same ∙ p .same }
+
+-- two numbers and a byte
+pub two-numbers : (c d : ℤ) (k : ℕ) {w r s t : Writer} {b a z y : List ℕ} → Puts (λ f left. putNumbers (c ∷ []) left f) w b r a → Puts (λ f left. putNumbers (d ∷ []) left f) r a s z → Puts (λ f left. put left (k ∷ []) f) s z t y →
+    Puts (λ f left. putNumbers (c ∷ d ∷ []) left (λ l. put l (k ∷ []) f)) w b t y
+unfolding putNumbers
+two-numbers c d k p q o = let x = in-turn p (in-turn q o) in record { then = x .then; same = x .same }
+
+-- what was put, said otherwise
+pub as-put : {g : (ℕ → Written) → ℕ → Written} {w r : Writer} {b a : List ℕ} (h : (ℕ → Written) → ℕ → Written) → Puts g w b r a → ((f : ℕ → Written) (left : ℕ) → g f left ≡ h f left) → Puts h w b r a
+as-put {w = w} {b = b} h p e = record { then = λ f. p .then f ∙ ap (resumed (w .number) (w .next) b) (fun-ext (e f)); same = p .same }
+
+-- ---- an operator that waits
+pub no-waiting : (k : ℕ) → k ≡ 0 → (left : ℕ) (f : ℕ → Written) → f left ≡ closed k left f
+unfolding closed
+no-waiting k e left f = rw (eq-eqb k 0 e)
+
+pub waiting : (k : ℕ) → (k ≡ 0 → ⊥) → (f : ℕ → Written) (left : ℕ) → put left (k ∷ []) f ≡ closed k left f
+unfolding closed
+waiting k e f left = rw (ne-eqb k 0 e)
+
+pub flushed-none : (w : Writer) (b : List ℕ) → w .waits ≡ 0 → (f : ℕ → Written) → resumed (w .number) (w .next) b f ≡ resumed (w .number) (w .next) b (λ left. closed (w .waits) left f)
+flushed-none w b e f = ap (resumed (w .number) (w .next) b) (fun-ext (λ left. no-waiting (w .waits) e left f))
+
+-- ---- operands that share it, or not
+pub is-shared : (w : Writer) (op limit : ℕ) → w .waits ≡ op → w .held ≤ limit → shares op limit w ≡ true
+is-shared w op limit e h = ap₂ _&&_ (eq-eqb (w .waits) op e) (le-leb (w .held) limit h)
+
+pub not-shared : (w : Writer) (op limit : ℕ) → (w .waits ≡ op → ⊥) ⊎ (limit < w .held) → shares op limit w ≡ false
+not-shared w op limit (inl e) = ap (λ (t : Bool). t && leb (w .held) limit) (ne-eqb (w .waits) op e)
+not-shared w op limit (inr h) = ap (λ (t : Bool). eqb (w .waits) op && t) (lt-leb (w .held) limit h) ∙ and-false (eqb (w .waits) op)
+  where
+    and-false : (t : Bool) → (t && false) ≡ false
+    and-false true = refl
+    and-false false = refl
+
+pub shared-none : (w : Writer) (b : List ℕ) (op limit : ℕ) → shares op limit w ≡ true → (f : ℕ → Written) → resumed (w .number) (w .next) b f ≡ resumed (w .number) (w .next) b (λ left. pick (shares op limit w) (f left) (closed (w .waits) left f))
+shared-none w b op limit t f = ap (λ (x : Bool). resumed (w .number) (w .next) b (λ left. pick x (f left) (closed (w .waits) left f))) (sym t)
+
+pub first-closed : (w : Writer) (op limit : ℕ) → shares op limit w ≡ false → (f : ℕ → Written) (left : ℕ) → closed (w .waits) left f ≡ pick (shares op limit w) (f left) (closed (w .waits) left f)
+first-closed w op limit t f left = ap (λ (x : Bool). pick x (f left) (closed (w .waits) left f)) (sym t)
+
+-- ---- the two deltas of a point
+pub delta-put : (w : Writer) (b : List ℕ) (n k : ℕ) (a : List ℕ) (px py dx dy : Float) → dx ≡ quantized (sub binary64 px (w .x)) → dy ≡ quantized (sub binary64 py (w .y)) → w .number ≡ 0 →
+    PutsAt (λ f left. putNumbers (units dx ∷ units dy ∷ []) left f) 0 (w .next) b n k a → (f : ℕ → Written) → resumed n k a f ≡ resumed (w .number) (w .next) b (λ left. putNumbers (deltas (pointOf w) (pointAt px py ∷ [])) left f)
+unfolding deltas
+delta-put w b n k a px py dx dy e d z p f =
+    not-before _ _ _ _ _ z (p .then f ∙ ap₂ (λ (x y : Float). resumed 0 (w .next) b (λ left. putNumbers (units x ∷ units y ∷ []) left f)) e d)
+
+-- ---- points in turn
+pub goes-one : {w r s : Writer} {b a z : List ℕ} {p : Point} {ps : List Point} → Goes (p ∷ []) w b r a → Goes ps r a s z → Goes (p ∷ ps) w b s z
+unfolding deltas arrives putNumbers
+goes-one {w} {r} {s} {b} {a} {z} {p} {ps} x y = record {
+  puts = as-put (λ f left. putNumbers (deltas (pointOf w) (p ∷ ps)) left f) (in-turn (x .puts) (y .puts)) (λ f left. ap (λ (q : Point). putNumbers (deltas (pointOf w) (p ∷ [])) left (λ l. putNumbers (deltas q ps) l f)) (x .at));
+  at = y .at ∙ ap (λ (q : Point). arrives q ps) (x .at);
+  waits = y .waits ∙ x .waits;
+  held = y .held ∙ x .held;
+}
+
+-- ---- a command's items
+pub items-shape : (m : Bool) (ss : List Stem) (at : Point) (e : Command) (cs : List Cmd) → items m ss at (shape e ∷ cs) ≡ go (kindOf e) (deltas at (pointsOf e) ++ heightOf e) ∷ items m ss (arrives at (pointsOf e)) cs
+unfolding items
+items-shape true ss at e cs = refl
+items-shape false ss at e cs = refl
+
+pub draws : {g : (ℕ → Written) → ℕ → Written} {w r : Writer} {b a : List ℕ} (e : Command) → Puts g w b r a → pointOf r ≡ arrives (pointOf w) (pointsOf e) →
+    ((is : List Item) (left : ℕ) → g (streamed is (r .waits) (r .held)) left ≡ streamed (go (kindOf e) (deltas (pointOf w) (pointsOf e) ++ heightOf e) ∷ is) (w .waits) (w .held) left) →
+    (masked : Bool) (ss : List Stem) → Draws masked ss (shape e ∷ []) w b r a
+draws {g} {w} {r} {b} {a} e p q h masked ss = record {
+  then = λ ds.
+      ap (λ (x : Point). resumedItems r a (items masked ss x ds)) q
+      ∙ p .then (streamed (items masked ss (arrives (pointOf w) (pointsOf e)) ds) (r .waits) (r .held))
+      ∙ ap (resumed (w .number) (w .next) b) (fun-ext (h (items masked ss (arrives (pointOf w) (pointsOf e)) ds)))
+      ∙ ap (resumedItems w b) (sym (items-shape masked ss (pointOf w) e ds));
+  same = p .same;
+}
+
+-- ---- lines and curves
+leb-add : (n k c : ℕ) → leb (n + c) (k + c) ≡ leb n k
+leb-add n k c = bool-iff (leb (n + c) (k + c)) (leb n k)
+    (λ t. le→leb n k (let h : n + c ≤ k + c = leb→le (n + c) (k + c) t in let z : n ≤ k = omega arith in z))
+    (λ t. le→leb (n + c) (k + c) (let h : n ≤ k = leb→le n k t in let z : n + c ≤ k + c = omega arith in z))
+
+joins : (j : Kind) (op count limit : ℕ) → codeOf j ≡ op → most j ≡ limit + count → (l : List ℤ) → length l ≡ count → (k n room : ℕ) (f : ℕ → ℕ → ℕ → Written) (t : Bool) → (eqb k op && leb n limit) ≡ t →
+    pick t (putNumbers l room (f op (pick t (n + count) count))) (closed k room (λ left. putNumbers l left (f op (pick t (n + count) count)))) ≡ joined j l k n room f
+unfolding joined
+joins j op count limit c m l e k n room f t h = rw (c, m, e, leb-add n limit count, h) (both t)
+  where
+    both : (t : Bool) → pick t (putNumbers l room (f op (pick t (n + count) count))) (closed k room (λ left. putNumbers l left (f op (pick t (n + count) count)))) ≡ pick t (putNumbers l room (f op (n + count))) (closed k room (λ left. putNumbers l left (f op count)))
+    both true = refl
+    both false = refl
+
+-- one law for both: op is the kind's operator, with the operands of limit + count at the most
+pub batch-draws : (e : Command) (j : Kind) (op count limit : ℕ) → heightOf e ≡ [] → codeOf j ≡ op → most j ≡ limit + count → ((at : Point) → length (deltas at (pointsOf e)) ≡ count) →
+    ((l : List ℤ) (is : List Item) (k n left : ℕ) → joined j l k n left (streamed is) ≡ streamed (go (kindOf e) l ∷ is) k n left) →
+    {w r s : Writer} {b a z : List ℕ} → Batched op count limit w b r a → Goes (pointsOf e) r a s z → (masked : Bool) (ss : List Stem) → Draws masked ss (shape e ∷ []) w b s z
+batch-draws e j op count limit flat c m len st {w} {r} {s} {b} {a} {z} x y =
+    draws e (in-turn (x .puts) (y .puts)) (y .at ∙ ap (λ (q : Point). arrives q (pointsOf e)) (x .at))
+    (λ is left.
+    ap (λ (q : Point). part is left q (s .waits) (s .held)) (x .at)
+    ∙ ap₂ (λ (k n : ℕ). part is left (pointOf w) k n) (y .waits ∙ x .waits) (y .held ∙ x .held)
+    ∙ joins j op count limit c m (deltas (pointOf w) (pointsOf e)) (len (pointOf w)) (w .waits) (w .held) left (streamed is) (shares op limit w) refl
+    ∙ st (deltas (pointOf w) (pointsOf e)) is (w .waits) (w .held) left
+    ∙ ap (λ (l : List ℤ). streamed (go (kindOf e) l ∷ is) (w .waits) (w .held) left) (sym (ap (λ (l : List ℤ). deltas (pointOf w) (pointsOf e) ++ l) flat ∙ append-nil (deltas (pointOf w) (pointsOf e)))))
+  where
+    part : List Item → ℕ → Point → ℕ → ℕ → Written
+    part is left q k n = pick (shares op limit w) (putNumbers (deltas q (pointsOf e)) left (streamed is k n)) (closed (w .waits) left (λ l. putNumbers (deltas q (pointsOf e)) l (streamed is k n)))
+
+pub line-drawn : {w r s : Writer} {b a z : List ℕ} (p : Point) → Batched 5 2 44 w b r a → Goes (p ∷ []) r a s z → (masked : Bool) (ss : List Stem) → Draws masked ss (shape (line p) ∷ []) w b s z
+unfolding deltas streamed
+line-drawn p x y = batch-draws (line p) lines 5 2 44 refl refl refl (λ at. refl) (λ l is k n left. refl) x y
+
+pub curve-drawn : {w r s : Writer} {b a z : List ℕ} (p q t : Point) → Batched 8 6 36 w b r a → Goes (p ∷ q ∷ t ∷ []) r a s z → (masked : Bool) (ss : List Stem) → Draws masked ss (shape (curve p q t) ∷ []) w b s z
+unfolding deltas streamed
+curve-drawn p q t x y = batch-draws (curve p q t) curves 8 6 36 refl refl refl (λ at. refl) (λ l is k n left. refl) x y
+
+-- ---- moves and flexes: the waiting operator first
+pub puts-to : {g : (ℕ → Written) → ℕ → Written} {w r s : Writer} {b a : List ℕ} → Puts g w b r a → s .number ≡ r .number → s .next ≡ r .next → Puts g w b s a
+puts-to {a = a} p e d = record { then = λ f. ap₂ (λ (n k : ℕ). resumed n k a f) e d ∙ p .then f; same = p .same }
+
+closed-draws : {g : (ℕ → Written) → ℕ → Written} {w r s : Writer} {b a z : List ℕ} (e : Command) → Puts (λ f left. closed (w .waits) left f) w b r a → r .waits ≡ 0 → r .held ≡ 0 → Puts g r a s z →
+    pointOf s ≡ arrives (pointOf w) (pointsOf e) → s .waits ≡ r .waits → s .held ≡ r .held →
+    ((is : List Item) (k n left : ℕ) → closed k left (g (streamed is 0 0)) ≡ streamed (go (kindOf e) (deltas (pointOf w) (pointsOf e) ++ heightOf e) ∷ is) k n left) →
+    (masked : Bool) (ss : List Stem) → Draws masked ss (shape e ∷ []) w b s z
+closed-draws {g} {w} {r} {s} e p k0 n0 q at ks ns h =
+    draws e (in-turn p q) at
+    (λ is left. ap₂ (λ (k n : ℕ). closed (w .waits) left (g (streamed is k n))) (ks ∙ k0) (ns ∙ n0) ∙ h is (w .waits) (w .held) left)
+
+-- a delta that is 0 as a number is 0 units
+no-units : (p m W x y : ℕ) → x ≡ p * W → y ≡ m * W → 0 < W → (p ≡ 0) ⊎ (m ≡ 0) → x + 0 ≡ y + 0 → p + m ≡ 0
+no-units zero zero W x y h k w o g = refl
+no-units zero (suc m) W x y h k w o g = absurd (let z : ⊥ = omega arith in z)
+no-units (suc p) zero W x y h k w o g = absurd (let z : ⊥ = omega arith in z)
+no-units (suc p) (suc m) W x y h k w (inl z) g = absurd (let z : ⊥ = omega arith in z)
+no-units (suc p) (suc m) W x y h k w (inr z) g = absurd (let z : ⊥ = omega arith in z)
+
+zero-sum : (p m W x y : ℕ) → x ≡ p * W → y ≡ m * W → p + m ≡ 0 → x + 0 ≡ y + 0
+zero-sum zero zero W x y h k g = omega arith
+zero-sum zero (suc m) W x y h k g = absurd (let z : ⊥ = omega arith in z)
+zero-sum (suc p) m W x y h k g = absurd (let z : ⊥ = omega arith in z)
+
+zero-fits : T (fits binary64 plusZero)
+unfolding fits
+zero-fits = tt
+
+zero-mag : mag binary64 plusZero ≡ 0
+unfolding mag
+zero-mag = refl
+
+zero-quantized : (v : Float) → T (fits binary64 v) → eq (quantized v) plusZero ≡ isZero (units (quantized v))
+zero-quantized nan a = unfold units quantized abs away sub add neg mul div lt eq in refl
+zero-quantized (inf true) a = unfold units quantized abs away sub add neg mul div lt eq in refl
+zero-quantized (inf false) a = unfold units quantized abs away sub add neg mul div lt eq in refl
+zero-quantized (fin s m e) a =
+    let v = fin s m e in
+    let q = quantized v in
+    let u = units v in
+    let i = rounded-is v a tt in
+    bool-iff (eq q plusZero) (isZero u)
+    (λ t. eq→eqb (no-units (zp u) (zm u) (2 ^ 1058) (pl binary64 q) (mi binary64 q) (i .plus) (i .minus) (pow-pos 1058) (one-sided u) (subst (λ (n : ℕ). pl binary64 q + 0 ≡ mi binary64 q + n) zero-mag (eq→balance binary64 q plusZero (i .fit) (i .fine) zero-fits tt t))))
+    (λ t. balance→eq binary64 q plusZero (i .fit) (i .fine) zero-fits tt (subst (λ (n : ℕ). pl binary64 q + 0 ≡ mi binary64 q + n) (sym zero-mag) (zero-sum (zp u) (zm u) (2 ^ 1058) (pl binary64 q) (mi binary64 q) (i .plus) (i .minus) (eqb→eq (zp u + zm u) 0 t))))
+    ∙ ap isZero (sym (units-quantized v a))
+
+zero-units : (v d : Float) → d ≡ quantized v → T (fits binary64 v) → eq d plusZero ≡ isZero (units d)
+zero-units v d e a = rw e (zero-quantized v a)
+
+pub is-hmove : (v d : Float) (a : ℤ) → d ≡ quantized v → T (fits binary64 v) → eq d plusZero ≡ true → moveInstr a (units d) ≡ instr (a ∷ []) (22 ∷ [])
+is-hmove v d a e f t = rw (sym (zero-units v d e f) ∙ t)
+
+pub is-vmove : (u v c d : Float) → c ≡ quantized u → d ≡ quantized v → T (fits binary64 u) → T (fits binary64 v) → eq c plusZero ≡ true → eq d plusZero ≡ false → moveInstr (units c) (units d) ≡ instr (units d ∷ []) (4 ∷ [])
+is-vmove u v c d p q f g t o = rw (sym (zero-units v d q g) ∙ o, sym (zero-units u c p f) ∙ t)
+
+pub is-rmove : (u v c d : Float) → c ≡ quantized u → d ≡ quantized v → T (fits binary64 u) → T (fits binary64 v) → eq c plusZero ≡ false → eq d plusZero ≡ false → moveInstr (units c) (units d) ≡ instr (units c ∷ units d ∷ []) (21 ∷ [])
+is-rmove u v c d p q f g t o = rw (sym (zero-units v d q g) ∙ o, sym (zero-units u c p f) ∙ t)
+
+pub move-drawn : {w r s : Writer} {b a z : List ℕ} (px py dx dy : Float) (i : Instr) → dx ≡ quantized (sub binary64 px (w .x)) → dy ≡ quantized (sub binary64 py (w .y)) → moveInstr (units dx) (units dy) ≡ i →
+    Puts (λ f left. closed (w .waits) left f) w b r a → r .waits ≡ 0 → r .held ≡ 0 → Puts (λ f left. putInstr i left f) r a s z →
+    s .x ≡ add binary64 (w .x) dx → s .y ≡ add binary64 (w .y) dy → s .waits ≡ r .waits → s .held ≡ r .held → (masked : Bool) (ss : List Stem) → Draws masked ss (shape (move (pointAt px py)) ∷ []) w b s z
+unfolding arrives deltas streamed
+move-drawn {w} px py dx dy i e d m p k0 n0 q sx sy ks ns =
+    closed-draws (move (pointAt px py)) p k0 n0 q
+    (ap₂ pointAt (sx ∙ ap (add binary64 (w .x)) e) (sy ∙ ap (add binary64 (w .y)) d)) ks ns
+    (λ is k n left. ap (λ (j : Instr). closed k left (λ l. putInstr j l (streamed is 0 0))) (sym m ∙ ap₂ (λ (x y : Float). moveInstr (units x) (units y)) e d))
+
+pub flex-drawn : {w r s t u v : Writer} {b a z y x o : List ℕ} (p1 p2 p3 p4 p5 p6 : Point) (h : Float) → Flushed w b r a → Goes (p1 ∷ p2 ∷ p3 ∷ p4 ∷ p5 ∷ p6 ∷ []) r a s z →
+    Puts (λ f left. putNumbers (units h ∷ []) left f) s z t y × (Still s t × (written h ≡ units h)) → Puts (λ f left. put left (12 ∷ []) f) t y u x × Still t u → Puts (λ f left. put left (35 ∷ []) f) u x v o × Still u v →
+    (masked : Bool) (ss : List Stem) → Draws masked ss (shape (flex p1 p2 p3 p4 p5 p6 h) ∷ []) w b v o
+unfolding deltas streamed putNumbers
+flex-drawn {w} {r} {s} {t} {u} {v} p1 p2 p3 p4 p5 p6 h fl ds num esc op =
+    closed-draws (flex p1 p2 p3 p4 p5 p6 h) (fl .puts) (fl .waits) (fl .held) (in-turn (ds .puts) (in-turn (num .0) (in-turn (esc .0) (op .0))))
+    (ap₂ pointAt (op .1 .x ∙ esc .1 .x ∙ num .1 .0 .x) (op .1 .y ∙ esc .1 .y ∙ num .1 .0 .y) ∙ ds .at ∙ ap (λ (q : Point). arrives q (p1 ∷ p2 ∷ p3 ∷ p4 ∷ p5 ∷ p6 ∷ [])) (fl .at))
+    (op .1 .waits ∙ esc .1 .waits ∙ num .1 .0 .waits ∙ ds .waits)
+    (op .1 .held ∙ esc .1 .held ∙ num .1 .0 .held ∙ ds .held)
+    (λ is k n left.
+    ap (λ (q : Point). closed k left (λ l. putNumbers (deltas q six) l (λ m. putNumbers (units h ∷ []) m (λ o. put o (12 ∷ []) (λ x. put x (35 ∷ []) (streamed is 0 0)))))) (fl .at)
+    ∙ ap₂ (λ (c : ℤ) (g : ℕ → Written). closed k left (λ l. putNumbers (deltas (pointOf w) six) l (λ m. putNumbers (c ∷ []) m g))) (sym (num .1 .1)) (fun-ext (λ o. put-cons o 12 (35 ∷ []) (streamed is 0 0))))
+  where
+    six : List Point
+    six = p1 ∷ p2 ∷ p3 ∷ p4 ∷ p5 ∷ p6 ∷ []
+
+-- ---- the end
+pub ended : {w r s : Writer} {b a z : List ℕ} → Flushed w b r a → Puts (λ f left. put left (14 ∷ []) f) r a s z → (masked : Bool) (ss : List Stem) → resumed (s .number) (s .next) z (λ left. wrote []) ≡ resumedAll masked ss w b []
+unfolding items streamed
+ended p q true ss = in-turn (p .puts) q .then (λ left. wrote [])
+ended p q false ss = in-turn (p .puts) q .then (λ left. wrote [])
+
+pub finished-refused : (room : ℕ) (s t : Writer) (z o : List ℕ) (x : Written) → resumed (s .number) (s .next) z (λ left. wrote []) ≡ x → (s .number ≡ 0 → ⊥) → length z ≡ room → o ≡ take 0 z ++ replicate (length z - 0) 0 →
+    t .number ≡ s .number → t .next ≡ 0 → Finished room x t o
+unfolding resumed
+finished-refused room s t z o x e h l d n m =
+    subst (λ (y : Written). Finished room y t o) (sym (let g : resumed (s .number) (s .next) z (λ left. wrote []) ≡ refused (s .number) = rw (ne-eqb (s .number) 0 h) in g) ∙ e)
+    (pos-of-ne-zero h, (n, (m, d ∙ ap (λ (k : ℕ). replicate k 0) (sub-zero (length z) ∙ l))))
+
+pub finished-wrote : (room : ℕ) (s : Writer) (z o : List ℕ) (x : Written) → resumed (s .number) (s .next) z (λ left. wrote []) ≡ x → s .number ≡ 0 → s .next ≤ length z → length z ≡ room → o ≡ take (s .next) z ++ replicate (length z - s .next) 0 → Finished room x s o
+unfolding resumed
+finished-wrote room s z o x e h k l d =
+    subst (λ (y : Written). Finished room y s o) (sym (let g : resumed (s .number) (s .next) z (λ left. wrote []) ≡ wrote (take (s .next) z) = rw (eq-eqb (s .number) 0 h, append-nil (take (s .next) z)) in g) ∙ e)
+    (h, (sym n, d ∙ ap₂ (λ (i j : ℕ). take (s .next) z ++ replicate (i - j) 0) l (sym n)))
+  where
+    n : length (take (s .next) z) ≡ s .next
+    n = omega (arith, length-take (s .next) z)

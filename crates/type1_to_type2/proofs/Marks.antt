@@ -1,0 +1,166 @@
+-- Laws: a group's stems marked in its mask, one at a time.
+use mathlib.Core.Path.{_≡_, refl, sym, ap, ap₂, _∙_, subst}
+use Prim.Native.Nat.{ℕ, zero, suc, _+_, _-_, _*_, _≤_, _<_, min}
+use native.Mathlib.Nat.{zero-add}
+use native.Mathlib.Numerals.{add-one}
+use native.Mathlib.Omega.{arith}
+use mathlib.Core.Bool.{Bool, true, false, _&&_, _||_, Bool·beq, or-false}
+use mathlib.Core.List.{List, [], _∷_, _++_, append-nil}
+use borrow.Author.Tests.{eqb-true, eqb-false, ltb-true, ltb-false}
+use lib.Dec.{eqb, ltb}
+use lib.Arith.{lt-of-le-ne}
+use lib.ListN.{length, getD, take, set, replicate, length-take, length-set, length-append, List·getD-append, replicate-append-replicate}
+use lib.Seq.{ext-getD, getD-take, getD-set-same, getD-set-other, getD-append-seam, getD-append-add, take-suc-set, take-all}
+use lib.Ieee.{Float, nan}
+use Rattle.type1.specs.declared.Stem.{Stem}
+use Rattle.type1.specs.State.{sameStem, isIn}
+use Rattle.type1_to_type2.specs.Stems.{maskOf}
+use Rattle.type1_to_type2.specs.Table.{tableStems}
+use Rattle.type1_to_type2.specs.Collecting.{tableStem, sameEdges, Marked}
+use Rattle.type1_to_type2.proofs.Tables.{table-length}
+
+-- ---- one bit after the other
+pub bit-set : (b c : Bool) → b ≡ true → true ≡ (b || c)
+bit-set b c e = sym (ap (λ (x : Bool). x || c) e)
+
+pub bit-clear : (b c d : Bool) → b ≡ false → d ≡ c → d ≡ (b || c)
+bit-clear b c d e f = f ∙ sym (ap (λ (x : Bool). x || c) e)
+
+module _ (from : ℕ) (p w : Float) (t : List Float) (b : List Bool) where
+  abbrev equal : ℕ → Bool
+  equal i = sameEdges p w (getD t (2 * i) nan) (getD t (2 * i + 1) nan)
+
+  pub mark-start : Marked from 0 p w t b b
+  mark-start = record { same = refl; inside = λ i l. absurd (let z : ⊥ = omega arith in z); outside = λ k h. refl }
+
+  pub mark-turn : (i : ℕ) (d : List Bool) (x : Bool) → Marked from i p w t b d → from + i < length b → x ≡ (getD d (from + i) false || equal i) → Marked from (i + 1) p w t b (set d (from + i) x)
+  mark-turn i d x M l e = record {
+    same = length-set d (from + i) x ∙ M .same;
+    inside = λ j k. split j k (eqb j i) refl;
+    outside = λ k h. getD-set-other d (from + i) k x false (h i (omega arith)) ∙ M .outside k (λ j m. h j (omega arith));
+  }
+    where
+      here : getD (set d (from + i) x) (from + i) false ≡ (getD b (from + i) false || equal i)
+      here = getD-set-same d (from + i) x false (subst (λ (n : ℕ). from + i < n) (sym (M .same)) l) ∙ e ∙ ap (λ (y : Bool). y || equal i) (M .outside (from + i) (λ j m q. let z : ⊥ = omega arith in z))
+
+      split : (j : ℕ) → j < i + 1 → (y : Bool) → eqb j i ≡ y → getD (set d (from + i) x) (from + j) false ≡ (getD b (from + j) false || equal j)
+      split j k true q = subst (λ (n : ℕ). getD (set d (from + i) x) (from + n) false ≡ (getD b (from + n) false || equal n)) (sym (eqb-true j i q)) here
+      split j k false q = let ne = eqb-false j i q in getD-set-other d (from + i) (from + j) x false (λ r. ne (let z : j ≡ i = omega arith in z)) ∙ M .inside j (lt-of-le-ne (let z : j ≤ i = omega arith in z) ne)
+
+-- ---- masks
+in-more : (l : List Stem) (t s : Stem) → isIn (l ++ (t ∷ [])) s ≡ (isIn l s || sameStem t s)
+unfolding isIn
+in-more [] t s = or-false (sameStem t s)
+in-more (u ∷ l) t s = ap (λ (b : Bool). sameStem u s || b) (in-more l t s) ∙ assoc (sameStem u s) (isIn l s) (sameStem t s)
+  where
+    assoc : (a b c : Bool) → (a || (b || c)) ≡ ((a || b) || c)
+    assoc true b c = refl
+    assoc false b c = refl
+
+mask-length : (g l : List Stem) → length (maskOf g l) ≡ length l
+unfolding maskOf
+mask-length g [] = refl
+mask-length g (s ∷ l) = ap suc (mask-length g l)
+
+mask-at : (g l : List Stem) (k : ℕ) (d : Stem) → k < length l → getD (maskOf g l) k false ≡ isIn g (getD l k d)
+unfolding maskOf
+mask-at g [] k d h = absurd (let z : ⊥ = omega arith in z)
+mask-at g (s ∷ l) zero d h = refl
+mask-at g (s ∷ l) (suc k) d h = mask-at g l k d (omega arith)
+
+table-at : (h : Bool) (t : List Float) (n k : ℕ) (d : Stem) → k < n → getD (tableStems h n t) k d ≡ tableStem h k t
+unfolding tableStems
+table-at h t zero k d l = absurd (let z : ⊥ = omega arith in z)
+table-at h t (suc n) k d l = split (eqb k n) refl (λ m. table-at h t n k d m)
+  where
+    split : (b : Bool) → eqb k n ≡ b → (k < n → getD (tableStems h n t) k d ≡ tableStem h k t) → getD (tableStems h n t ++ (tableStem h n t ∷ [])) k d ≡ tableStem h k t
+    split true q r = ap (λ (j : ℕ). getD (tableStems h n t ++ (tableStem h n t ∷ [])) j d) (eqb-true k n q ∙ sym (table-length h t n)) ∙ getD-append-seam (tableStems h n t) (tableStem h n t) [] d ∙ ap (λ (j : ℕ). tableStem h j t) (sym (eqb-true k n q))
+    split false q r =
+        let m : k < n = lt-of-le-ne (let z : k ≤ n = omega arith in z) (eqb-false k n q) in
+        List·getD-append (tableStems h n t) (tableStem h n t ∷ []) d k (subst (λ (j : ℕ). k < j) (sym (table-length h t n)) m) ∙ r m
+
+-- every bit is set where its stem is the same
+mark-all : (g l : List Stem) (s : Stem) (b d : List Bool) (n : ℕ) → length l ≡ n → length d ≡ length b → ((k : ℕ) → k < n → getD d k false ≡ (getD b k false || sameStem s (getD l k s))) → take n b ≡ maskOf g l → take n d ≡ maskOf (g ++ (s ∷ [])) l
+mark-all g l s b d n len same at e =
+    let size : length (take n b) ≡ n = ap length e ∙ mask-length g l ∙ len in
+    let size' : length (take n d) ≡ n = length-take n d ∙ ap (min n) same ∙ sym (length-take n b) ∙ size in
+    ext-getD false (take n d) (maskOf (g ++ (s ∷ [])) l) (size' ∙ sym len ∙ sym (mask-length (g ++ (s ∷ [])) l)) (λ k h.
+    let i : k < n = subst (λ (j : ℕ). k < j) size' h in
+    let i' : k < length l = subst (λ (j : ℕ). k < j) (sym len) i in
+    getD-take n d k false i ∙ at k i
+    ∙ ap (λ (x : Bool). x || sameStem s (getD l k s)) (sym (getD-take n b k false i) ∙ ap (λ (q : List Bool). getD q k false) e ∙ mask-at g l k s i')
+    ∙ sym (mask-at (g ++ (s ∷ [])) l k s i' ∙ in-more g s (getD l k s)))
+
+module _ (na nu : ℕ) (a u : List Float) where
+  abbrev both : List Stem
+  both = tableStems true na a ++ tableStems false nu u
+
+  pub both-length : length both ≡ na + nu
+  both-length = length-append (tableStems true na a) (tableStems false nu u) ∙ ap₂ _+_ (table-length true a na) (table-length false u nu)
+
+  both-front : (k : ℕ) (s : Stem) → k < na → getD both k s ≡ tableStem true k a
+  both-front k s l = List·getD-append (tableStems true na a) (tableStems false nu u) s k (subst (λ (j : ℕ). k < j) (sym (table-length true a na)) l) ∙ table-at true a na k s l
+
+  both-back : (k : ℕ) (s : Stem) → na ≤ k → k < na + nu → getD both k s ≡ tableStem false (k - na) u
+  both-back k s l m =
+      ap (λ (j : ℕ). getD both j s) (let z : k ≡ na + (k - na) = omega arith in z ∙ ap (λ (j : ℕ). j + (k - na)) (sym (table-length true a na)))
+      ∙ getD-append-add (tableStems true na a) (tableStems false nu u) (k - na) s ∙ table-at false u nu (k - na) s (omega arith)
+
+  -- the mask has a bit for each
+  mask-room : (g : List Stem) (b : List Bool) → take (na + nu) b ≡ maskOf g both → na + nu ≤ length b
+  mask-room g b e = let z = sym (length-take (na + nu) b) ∙ ap length e ∙ mask-length g both ∙ both-length in omega arith
+
+  module _ (b d : List Bool) (g : List Stem) (e : take (na + nu) b ≡ maskOf g both) where
+    split-across : (s : Stem) → s .horizontal ≡ true → Marked 0 na (s .pos) (s .width) a b d → (k : ℕ) → k < na + nu → (x : Bool) → ltb k na ≡ x → getD d k false ≡ (getD b k false || sameStem s (getD both k s))
+    split-across s h M k l true r =
+        let m = ltb-true k na r in
+        ap (λ (j : ℕ). getD d j false) (sym (zero-add k)) ∙ M .inside k m ∙ ap₂ (λ (j : ℕ) (y : Bool). getD b j false || (Bool·beq y true && sameEdges (s .pos) (s .width) (getD a (2 * k) nan) (getD a (2 * k + 1) nan))) (zero-add k) (sym h) ∙ ap (λ (x : Stem). getD b k false || sameStem s x) (sym (both-front k s m))
+    split-across s h M k l false r =
+        let m = ltb-false k na r in
+        M .outside k (λ i j y. let z : ⊥ = omega arith in z)
+        ∙ sym (ap (λ (x : Stem). getD b k false || sameStem s x) (both-back k s m l) ∙ ap (λ (y : Bool). getD b k false || (Bool·beq y false && sameEdges (s .pos) (s .width) (getD u (2 * (k - na)) nan) (getD u (2 * (k - na) + 1) nan))) h ∙ or-false (getD b k false))
+
+    split-upright : (s : Stem) → s .horizontal ≡ false → Marked na nu (s .pos) (s .width) u b d → (k : ℕ) → k < na + nu → (x : Bool) → ltb k na ≡ x → getD d k false ≡ (getD b k false || sameStem s (getD both k s))
+    split-upright s h M k l true r =
+        let m = ltb-true k na r in
+        M .outside k (λ i j y. let z : ⊥ = omega arith in z)
+        ∙ sym (ap (λ (x : Stem). getD b k false || sameStem s x) (both-front k s m) ∙ ap (λ (y : Bool). getD b k false || (Bool·beq y true && sameEdges (s .pos) (s .width) (getD a (2 * k) nan) (getD a (2 * k + 1) nan))) h ∙ or-false (getD b k false))
+    split-upright s h M k l false r =
+        let m = ltb-false k na r in
+        let i : na + (k - na) ≡ k = omega arith in
+        ap (λ (j : ℕ). getD d j false) (sym i) ∙ M .inside (k - na) (omega arith) ∙ ap₂ (λ (j : ℕ) (y : Bool). getD b j false || (Bool·beq y false && sameEdges (s .pos) (s .width) (getD u (2 * (k - na)) nan) (getD u (2 * (k - na) + 1) nan))) i (sym h) ∙ ap (λ (x : Stem). getD b k false || sameStem s x) (sym (both-back k s m l))
+
+    module _ (l : List Stem) (s : Stem) (q : l ≡ s ∷ []) where
+      pub mark-across : s .horizontal ≡ true → (0 + na ≤ length b → Marked 0 na (s .pos) (s .width) a b d) → take (na + nu) d ≡ maskOf (g ++ l) both
+      mark-across h f =
+          let room = mask-room g b e in
+          let M = f (omega arith) in
+          mark-all g both s b d (na + nu) both-length (M .same) (λ k i. split-across s h M k i (ltb k na) refl) e ∙ ap (λ (x : List Stem). maskOf (g ++ x) both) (sym q)
+
+      pub mark-upright : s .horizontal ≡ false → (na + nu ≤ length b → Marked na nu (s .pos) (s .width) u b d) → take (na + nu) d ≡ maskOf (g ++ l) both
+      mark-upright h f =
+          let M = f (mask-room g b e) in
+          mark-all g both s b d (na + nu) both-length (M .same) (λ k i. split-upright s h M k i (ltb k na) refl) e ∙ ap (λ (x : List Stem). maskOf (g ++ x) both) (sym q)
+
+  pub mark-none : (b : List Bool) (g l : List Stem) → take (na + nu) b ≡ maskOf g both → l ≡ [] → take (na + nu) b ≡ maskOf (g ++ l) both
+  mark-none b g l e q = e ∙ ap (λ (x : List Stem). maskOf x both) (sym (append-nil g) ∙ ap (λ (x : List Stem). g ++ x) (sym q))
+
+-- ---- a clear mask
+pub clear-turn : (i : ℕ) (b : List Bool) → i < length b → take i b ≡ replicate i false → take (i + 1) (set b i false) ≡ replicate (i + 1) false
+clear-turn i b l e = ap (λ (n : ℕ). take n (set b i false)) (add-one i) ∙ take-suc-set b i false l ∙ ap (λ (q : List Bool). q ++ (false ∷ [])) e ∙ replicate-append-replicate i 1 false
+
+pub clear-end : (i : ℕ) (b : List Bool) → i ≡ 96 → length b ≡ 96 → take i b ≡ replicate i false → b ≡ replicate 96 false
+clear-end i b k len e = sym (take-all i b (omega arith)) ∙ e ∙ ap (λ (n : ℕ). replicate n false) k
+
+none-marked : (l : List Stem) → maskOf [] l ≡ replicate (length l) false
+unfolding maskOf isIn
+none-marked [] = refl
+none-marked (s ∷ l) = ap (λ (q : List Bool). false ∷ q) (none-marked l)
+
+take-replicate : (n m : ℕ) → n ≤ m → take n (replicate m false) ≡ replicate n false
+take-replicate zero m l = refl
+take-replicate (suc n) zero l = absurd (let z : ⊥ = omega arith in z)
+take-replicate (suc n) (suc m) l = ap (λ (q : List Bool). false ∷ q) (take-replicate n m (omega arith))
+
+pub clear-mask : (l : List Stem) (n : ℕ) → length l ≡ n → n ≤ 96 → take n (replicate 96 false) ≡ maskOf [] l
+clear-mask l n e h = take-replicate n 96 h ∙ sym (none-marked l ∙ ap (λ (k : ℕ). replicate k false) e)

@@ -1,0 +1,166 @@
+-- Laws: what the parts of `convert_run` answer is the conversion of what the run has left. Assumes nothing.
+use mathlib.Core.Path.{_≡_, refl, sym, _∙_, ap, ap₂, subst}
+use Prim.Native.Nat.{ℕ, zero, suc, _+_, _<_, _≤_}
+use native.Mathlib.Omega.{arith}
+use mathlib.Core.Bool.{Bool, true, false, not, _&&_}
+use mathlib.Core.List.{List, [], _∷_, _++_}
+use lib.ListN.{length, replicate}
+use lib.Dec.{T, eqb, eqb·suc-zero, ltb, ltb→lt, nltb→le}
+use lib.Ieee.{Float}
+use lib.Ieee.Scale.{finite}
+use Rattle.geometry.specs.declared.Matrix.{Matrix}
+use Rattle.type1.specs.declared.Stem.{Stem}
+use Rattle.type1.specs.declared.Interpreted.{Interpreted}
+use Rattle.type1.specs.State.{Command, Group, State}
+use Rattle.type1.specs.Run as Run
+use Rattle.type1.specs.Run.{Outcome, pick}
+use Rattle.type1.specs.Interpret.{outcome, Left, refusedWith, Leaves}
+use Rattle.type1.specs.Sound.{All, OfCommand}
+use Rattle.type1.specs.Small.{zeroStem}
+use Rattle.type1.specs.Memory.{Good, commandIn, drawnIn, groupsIn}
+use Rattle.type1_to_type2.specs.declared.Checked.{Checked}
+use Rattle.type1_to_type2.specs.declared.Collected.{Collected}
+use Rattle.type1_to_type2.specs.declared.Plan.{Plan}
+use Rattle.type1_to_type2.specs.declared.Writer.{Writer}
+use Rattle.type1_to_type2.specs.declared.Type2Glyph.{Type2Glyph}
+use Rattle.type1_to_type2.specs.Folding.{finiteMatrix, foldedWidth, foldedList, foldedGroups, finiteList, finiteStems, finiteGroups, foldsFinite}
+use Rattle.type1_to_type2.specs.Stems.{Declared, declared, allStems}
+use Rattle.type1_to_type2.specs.Emission.{Cmd, items, commands, program}
+use Rattle.type1_to_type2.specs.Writing as Writing
+use Rattle.type1_to_type2.specs.Writing.{Written, write}
+use Rattle.type1_to_type2.specs.Convert as Convert
+use Rattle.type1_to_type2.specs.Convert.{Conversion, instructions, writes, folded, ended, convert, answer, output}
+use Rattle.type1_to_type2.specs.Collecting.{Collects, Counted, noneCollected}
+use Rattle.type1_to_type2.specs.Streaming.{resumedAll}
+use Rattle.type1_to_type2.specs.Passes.{both, Gathers, stemsTo, cmdsFrom, Stored}
+use Rattle.type1_to_type2.specs.Entry.{Checks, noneOf, tables, Planned, opens, Opens, leftState, fromRun, Answers, Converts, firstNumber, groupCount}
+use Rattle.type1_to_type2.proofs.Ordering.{collects-first, collects-group}
+use Rattle.type1_to_type2.proofs.EntryLaws.{groups-finite, commands-are, stems-are, count-is}
+
+and-right : (a b c : Bool) → (a && (b && c)) ≡ true → c ≡ true
+and-right true true c e = e
+and-right true false true e = refl
+and-right true false false e = e
+and-right false b true e = refl
+and-right false b false e = e
+
+nothing-left : (masked : Bool) (ss : List Stem) (w : Writer) (out : List ℕ) → resumedAll false [] w out [] ≡ resumedAll masked ss w out []
+unfolding items
+nothing-left true ss w out = refl
+nothing-left false ss w out = refl
+
+pub few-none : (k : Checked) (c : Collected) → c ≡ noneOf k → Counted c
+few-none k c e = subst Counted (sym e) (record { across = omega arith; upright = omega arith })
+
+-- by the number so far, and by whether all is finite
+chosen : (b f : Bool) (n p : ℕ) (x y : Written) (w : Float) (k : ℕ) → eqb n 0 ≡ b → p ≡ pick b (pick f 0 14) n → (b ≡ true → f ≡ true → x ≡ y)
+    → writes w k (pick (eqb p 0) x (Writing.refused p)) ≡ pick b (pick f (writes w k y) (Convert.refused 14)) (Convert.refused n)
+chosen true true n p x y w k e q h = ap (λ (j : ℕ). writes w k (pick (eqb j 0) x (Writing.refused j))) q ∙ ap (writes w k) (h refl refl)
+chosen true false n p x y w k e q h = ap (λ (j : ℕ). writes w k (pick (eqb j 0) x (Writing.refused j))) q
+chosen false f n p x y w k e q h = ap (λ (j : ℕ). writes w k (pick (eqb j 0) x (Writing.refused j))) q ∙ ap (λ (b : Bool). writes w k (pick b x (Writing.refused n))) e
+
+module _ (number : ℕ) (m : Matrix) (r : Interpreted) (c : List ℕ) (z : List Stem) (room : ℕ) where
+  abbrev gs : List Group
+  gs = foldedGroups m (groupsIn (r .entries) c z)
+
+  is-run : fromRun number m room r c z ≡ pick (eqb number 0) (pick (finite (foldedWidth m (r .width)) && (finiteList (foldedList m (drawnIn (r .entries) c)) && finiteGroups gs)) (writes (foldedWidth m (r .width)) (r .ran) (write (program (declared gs) (commands 0 gs (foldedList m (drawnIn (r .entries) c)))) room)) (Convert.refused 14)) (Convert.refused number)
+  unfolding fromRun folded foldsFinite instructions
+  is-run = refl
+
+  pub run-answers : (k : Checked) (c₀ cc : Collected) (ta tu ta₁ tu₁ : List Float) (p : Plan) (w v : Writer) (out₁ out₂ out₃ : List ℕ) (g : Type2Glyph) (z′ : List Stem)
+      → length ta ≡ 192 → length tu ≡ 192 → Checks m (r .entries) c k → c₀ ≡ noneOf k → Gathers (stemsTo m c z (r .entries)) c₀ ta tu cc ta₁ tu₁ → Planned number k cc m (r .width) p → Opens p ta₁ tu₁ room w out₁ → z′ ≡ z
+      → resumedAll (p .masked) (both (p .across) (p .upright) ta₁ tu₁) v out₂ [] ≡ resumedAll (p .masked) (both (p .across) (p .upright) ta₁ tu₁) w out₁ (cmdsFrom m c z′ 0 (r .entries)) → length out₂ ≡ room
+      → Answers (writes (p .width) (r .ran) (resumedAll false [] v out₂ [])) (length out₂) g out₃ → Answers (fromRun number m room r c z) room g out₃
+  run-answers k c₀ cc ta tu ta₁ tu₁ p w v out₁ out₂ out₃ g z′ la lu K e₀ G P B ez e l A =
+      let C : Collects (stemsTo m c z (r .entries)) cc ta₁ tu₁ = G .0 [] (subst (λ (x : Collected). Collects [] x ta tu) (sym e₀) (collects-group noneCollected (k .groups) ta tu [] (collects-first ta tu la lu))) in
+      let C′ : Collects (allStems gs) cc ta₁ tu₁ = subst (λ (x : List Stem). Collects x cc ta₁ tu₁) (stems-are m c z (r .entries)) C in
+      let fw = finite (foldedWidth m (r .width)) in
+      let ds = foldedList m (drawnIn (r .entries) c) in
+      let F = fw && (finiteList ds && finiteGroups gs) in
+      let same : (fw && (k .finite && cc .finite)) ≡ F = ap₂ (λ (x y : Bool). fw && (x && y)) (K .points) (C′ .fine ∙ groups-finite gs) in
+      let counted : cc .groups ≡ length gs = G .1 .0 ∙ ap (λ (x : Collected). x .groups) e₀ ∙ K .groups ∙ count-is m c z (r .entries) in
+      let left = nothing-left (p .masked) (both (p .across) (p .upright) ta₁ tu₁) v out₂ ∙ e ∙ ap (λ (x : List Stem). resumedAll (p .masked) (both (p .across) (p .upright) ta₁ tu₁) w out₁ (cmdsFrom m c x 0 (r .entries))) ez ∙ B .more (cmdsFrom m c z 0 (r .entries)) ∙ opens-is p ta₁ tu₁ room (cmdsFrom m c z 0 (r .entries)) in
+      let x : writes (p .width) (r .ran) (resumedAll false [] v out₂ []) ≡ fromRun number m room r c z =
+      ap₂ (λ (a : Float) (b : Written). writes a (r .ran) b) (P .width-is) left
+      ∙ chosen (eqb number 0) F number (p .number) (write (program (tables p ta₁ tu₁) (cmdsFrom m c z 0 (r .entries))) room) (write (program (declared gs) (commands 0 gs ds)) room) (foldedWidth m (r .width)) (r .ran) refl
+      (P .number-is ∙ ap (λ (b : Bool). pick (eqb number 0) (pick b 0 14) number) same)
+      (λ _ f. ap₂ (λ (d : Declared) (cs : List Cmd). write (program d cs) room) (sym (P .stems gs ta₁ tu₁ C′ counted (and-right fw (k .finite) (cc .finite) (same ∙ f)))) (commands-are m c z (r .entries)))
+      ∙ sym is-run in
+      record { glyph = A .glyph ∙ ap answer x; bytes = A .bytes ∙ ap₂ output l x }
+    where
+      opens-is : (p : Plan) (ta tu : List Float) (room : ℕ) (cs : List Cmd) → opens p ta tu room cs ≡ pick (eqb (p .number) 0) (write (program (tables p ta tu) cs) room) (Writing.refused (p .number))
+      opens-is p ta tu room cs = unfold opens in refl
+
+-- ---- the entry
+
+-- what a run leaves in the stores is as the parts ask
+all-front : (l k : List Command) → All (OfCommand Good) (l ++ k) → All (OfCommand Good) l × All (OfCommand Good) k
+unfolding All
+all-front [] k a = (tt, a)
+all-front (x ∷ l) k a = let r = all-front l k (a .1) in ((a .0, r .0), r .1)
+
+finite-at : (n e : ℕ) (c : List ℕ) → e < n → All (OfCommand Good) (drawnIn n c) → All (OfCommand Good) (commandIn c e)
+unfolding drawnIn
+finite-at zero e c h a = absurd (let z : ⊥ = omega (arith, h) in z)
+finite-at (suc n) e c h a = go (ltb e n) refl (all-front (drawnIn n c) (commandIn c n) a) (finite-at n e c)
+  where
+    go : (b : Bool) → ltb e n ≡ b → All (OfCommand Good) (drawnIn n c) × All (OfCommand Good) (commandIn c n) → (e < n → All (OfCommand Good) (drawnIn n c) → All (OfCommand Good) (commandIn c e)) → All (OfCommand Good) (commandIn c e)
+    go true q r f = f (ltb→lt e n (subst T (sym q) tt)) (r .0)
+    go false q r f = subst (λ (k : ℕ). All (OfCommand Good) (commandIn c k)) (let z : n ≡ e = omega (arith, h, nltb→le e n (subst (λ (b : Bool). T (not b)) (sym q) tt)) in z) (r .1)
+
+left-is : (r : Interpreted) (c : List ℕ) (z : List Stem) (s : State) → Left r c z s → Stored (r .entries) c z
+left-is r c z s L = record {
+  words = L .words-within;
+  groups = λ e h k. let a = L .below e h k in let b = L .records-within in omega (arith, a, b);
+  finite = λ e h. finite-at (r .entries) e c h (subst (All (OfCommand Good)) (sym (L .drawn)) (L .sound .drawn));
+}
+
+none-stored : (r : Interpreted) (c : List ℕ) (z : List Stem) (n : ℕ) → r ≡ refusedWith n → Stored (r .entries) c z
+none-stored r c z n e = subst (λ (x : Interpreted). Stored (x .entries) c z) (sym e) (record { words = omega arith; groups = λ i h. absurd (let y : ⊥ = omega (arith, h) in y); finite = λ i h. absurd (let y : ⊥ = omega (arith, h) in y) })
+
+pub left-stored : (r : Interpreted) (c : List ℕ) (z : List Stem) (c₀ : List ℕ) (z₀ : List Stem) (o : Outcome) → Leaves r c z c₀ z₀ o → Stored (r .entries) c z
+left-stored r c z c₀ z₀ (Run.going s) L = left-is r c z s L
+left-stored r c z c₀ z₀ (Run.ending s) L = left-is r c z s L
+left-stored r c z c₀ z₀ (Run.returning s) L = absurd L
+left-stored r c z c₀ z₀ (Run.refused n) L = none-stored r c z n (L .1 .0)
+
+-- folding asks for the width, the bytes run, the groups and the drawn list alone
+same-fold : (m : Matrix) (room : ℕ) (s t : State) → s .width ≡ t .width → s .ran ≡ t .ran → s .groups ≡ t .groups → s .drawn ≡ t .drawn → folded m room s ≡ folded m room t
+unfolding folded foldsFinite instructions
+same-fold m room s t a b g d = λ i.
+    pick (finite (foldedWidth m (a i)) && (finiteList (foldedList m (d i)) && finiteGroups (foldedGroups m (g i))))
+    (writes (foldedWidth m (a i)) (b i) (write (program (declared (foldedGroups m (g i))) (commands 0 (foldedGroups m (g i)) (foldedList m (d i)))) room)) (Convert.refused 14)
+
+left-fold : (m : Matrix) (room : ℕ) (r : Interpreted) (c : List ℕ) (z : List Stem) (s : State) → Left r c z s → folded m room (leftState r c z) ≡ folded m room s
+left-fold m room r c z s L = same-fold m room (leftState r c z) s (L .width) (L .ran) (L .groups) (L .drawn)
+
+module _ (m : Matrix) (room : ℕ) (r : Interpreted) (c : List ℕ) (z : List Stem) where
+  from-is : (n : ℕ) → fromRun n m room r c z ≡ pick (eqb n 0) (folded m room (leftState r c z)) (Convert.refused n)
+  from-is n = unfold fromRun in refl
+
+  ran-on : (s : State) → Left r c z s → (b : Bool) → fromRun (pick b (r .number) 1) m room r c z ≡ pick b (folded m room s) (Convert.refused 1)
+  ran-on s L true = ap (λ (n : ℕ). fromRun n m room r c z) (L .number) ∙ from-is 0 ∙ left-fold m room r c z s L
+  ran-on s L false = from-is 1
+
+  away : (n : ℕ) → 0 < n → r ≡ refusedWith n → (b : Bool) → fromRun (pick b (r .number) 1) m room r c z ≡ pick b (Convert.refused n) (Convert.refused 1)
+  away n h e true = ap (λ (x : Interpreted). fromRun (x .number) m room r c z) e ∙ from-is n ∙ nonzero n h
+    where
+      nonzero : (n : ℕ) → 0 < n → pick (eqb n 0) (folded m room (leftState r c z)) (Convert.refused n) ≡ Convert.refused n
+      nonzero zero h = absurd (let y : ⊥ = omega (arith, h) in y)
+      nonzero (suc n) h = ap (λ (b : Bool). pick b (folded m room (leftState r c z)) (Convert.refused (suc n))) (eqb·suc-zero n)
+  away n h e false = from-is 1
+
+  from-outcome : (o : Outcome) (c₀ : List ℕ) (z₀ : List Stem) → Leaves r c z c₀ z₀ o → (b : Bool) → fromRun (pick b (r .number) 1) m room r c z ≡ pick b (ended m room o) (Convert.refused 1)
+  from-outcome (Run.going s) c₀ z₀ L b = ran-on s L b
+  from-outcome (Run.ending s) c₀ z₀ L b = ran-on s L b
+  from-outcome (Run.returning s) c₀ z₀ L b = absurd L
+  from-outcome (Run.refused n) c₀ z₀ L b = away n (L .0) (L .1 .0) b
+
+pub entry-answers : (charstring bank : List ℕ) (lenIV : ℕ) (m : Matrix) (stems : List Stem) (words : List ℕ) (room : ℕ) (r : Interpreted) (c : List ℕ) (z : List Stem) → Leaves r c z words stems (outcome charstring bank lenIV (length stems) (length words))
+    → (n : ℕ) → n ≡ firstNumber m (r .number) → (g : Type2Glyph) (z₃ : List Stem) (c₃ out : List ℕ) → Answers (fromRun n m room r c z) room g out → (z₄ : List Stem) (c₅ : List ℕ) → z₄ ≡ replicate (length stems) zeroStem → c₅ ≡ replicate (length words) 0
+    → Converts (convert charstring bank lenIV m (length stems) (length words) room) stems words room g z₄ c₅ out
+unfolding convert
+entry-answers charstring bank lenIV m stems words room r c z L n e g z₃ c₃ out A z₄ c₅ ez ec =
+    let o = outcome charstring bank lenIV (length stems) (length words) in
+    let x : fromRun n m room r c z ≡ pick (finiteMatrix m) (ended m room o) (Convert.refused 1) = ap (λ (k : ℕ). fromRun k m room r c z) e ∙ from-outcome m room r c z o words stems L (finiteMatrix m) in
+    record { glyph = A .glyph ∙ ap answer x; bytes = A .bytes ∙ ap (output room) x; records = ez; words = ec }

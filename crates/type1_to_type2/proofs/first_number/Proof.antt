@@ -1,0 +1,25 @@
+use mathlib.Core.Path.{refl}
+use Rattle.type1_to_type2.proofs.Checking.{matrix-fine, matrix-not}
+use borrow.Author.Needs.{needs}
+use Rattle.type1_to_type2.proofs.first_number.Statement.{statement}
+use Rattle.type1_to_type2.proofs.first_number.Tie as tie
+use Rattle.type1_to_type2.proofs.first_number.Reads as reads
+use Rattle.type1_to_type2.proofs.first_number.Lts as lts
+use Rattle.type1_to_type2.proofs.finite_matrix.Reads as finite-matrix-reads
+
+-- src/lib.rt:809:8
+finite-matrix-requires : tie.Need-finite-matrix-requires
+finite-matrix-requires c κs = search needs
+
+-- src/lib.rt:806:1
+returns : tie.Need-returns
+returns c =
+    matrix-fine _ _ _ (c .before .finite-matrix .ensures) (c .if1 .taken)
+
+-- src/lib.rt:806:1
+returns-2 : tie.Need-returns-2
+returns-2 c =
+    matrix-not _ _ _ (c .before .finite-matrix .ensures) (c .if1 .left)
+
+pub first-number-spec : {M : Type 1} → statement M
+first-number-spec = tie.close (tie.spec finite-matrix-requires returns returns-2)

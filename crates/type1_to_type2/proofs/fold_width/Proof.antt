@@ -1,0 +1,18 @@
+use Rattle.type1_to_type2.specs.Folding.{foldedWidth}
+use Rattle.geometry.specs.declared.Point.{Point}
+use lib.Ieee.{ofBits}
+use mathlib.Core.Path.{ap}
+use borrow.Author.Needs.{needs}
+use Rattle.type1_to_type2.proofs.fold_width.Statement.{statement}
+use Rattle.type1_to_type2.proofs.fold_width.Tie as tie
+
+transform-delta-requires : tie.Need-transform-delta-requires
+transform-delta-requires c κs = search needs
+
+returns : tie.Need-returns
+unfolding foldedWidth ofBits
+returns c =
+    ap (λ (p : Point). p .x) (c .transform-delta .ensures)
+
+pub fold-width-spec : {M : Type 1} → statement M
+fold-width-spec = tie.close (tie.spec transform-delta-requires returns)

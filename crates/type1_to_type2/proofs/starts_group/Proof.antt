@@ -1,0 +1,32 @@
+use denote.Ref.{now}
+use Rattle.type1_to_type2.proofs.Checking.{is-start, no-start}
+use borrow.Author.Needs.{needs}
+use Rattle.type1_to_type2.proofs.starts_group.Statement.{statement}
+use Rattle.type1_to_type2.proofs.starts_group.Tie as tie
+use Rattle.type1_to_type2.proofs.starts_group.Reads as reads
+use Rattle.type1_to_type2.proofs.starts_group.Lts as lts
+
+-- src/lib.rt:717:17
+mul-if1 : tie.Need-mul-if1
+mul-if1 c = search needs
+
+-- src/lib.rt:717:8
+mul-if1-2 : tie.Need-mul-if1-2
+mul-if1-2 c = search needs
+
+-- src/lib.rt:717:8
+shared-slice-read-if1 : tie.Need-shared-slice-read-if1
+shared-slice-read-if1 c = search needs
+
+-- src/lib.rt:713:1
+returns : tie.Need-returns
+returns c =
+    is-start (now (c .before .before .args .commands)) (c .before .before .args .e) (c .if1 .taken)
+
+-- src/lib.rt:713:1
+returns-2 : tie.Need-returns-2
+returns-2 c =
+    no-start (now (c .before .before .args .commands)) (c .before .before .args .e) (c .if1 .left)
+
+pub starts-group-spec : {M : Type 1} → statement M
+starts-group-spec = tie.close (tie.spec mul-if1 mul-if1-2 shared-slice-read-if1 returns returns-2)

@@ -1,0 +1,121 @@
+-- `type1_to_type2::write_stems` meets its contract.
+use native.Mathlib.Omega.{arith}
+use Prim.Native.Nat.{ℕ, _-_, _≤_}
+use mathlib.Core.Path.{_≡_, refl, _∙_}
+use mathlib.Core.Bool.{Bool}
+use lib.ListN.{length, drop}
+use lib.Ieee.{ofBits}
+use Rattle.type1_to_type2.specs.Streaming.{resumed, stemsWritten, Still}
+use Rattle.type1_to_type2.specs.Writing.{Written}
+use Rattle.type1_to_type2.specs.Table.{tableStems}
+use Rattle.type1_to_type2.proofs.StemTables.{stem-again, stems-full, stems-last}
+use Rattle.type1_to_type2.proofs.write_stems.Statement.{statement}
+use Rattle.type1_to_type2.proofs.write_stems.Tie as tie
+
+abbrev Inv-loop : tie.InvT-loop
+Inv-loop op n table out₀ s₀ i₀ out s i =
+    ((h : Bool) (f : ℕ → Written) → resumed (s .w .number) (s .w .next) out (λ room. stemsWritten op (drop i (tableStems h n table)) (s .left) (s .from) room f) ≡ resumed (s₀ .w .number) (s₀ .w .next) out₀ (λ room. stemsWritten op (tableStems h n table) (s₀ .left) (s₀ .from) room f))
+    × (Still (s₀ .w) (s .w) × ((length out ≡ length out₀) × (s .left ≤ 23)))
+
+abbrev μ-loop : tie.MeasureT-loop
+μ-loop op n table out₀ s₀ i₀ out s i = n - i
+
+loop-holds : tie.Need-loop-holds Inv-loop μ-loop
+loop-holds c =
+    (λ h f. refl, (record { x = refl; y = refl; waits = refl; held = refl }, (refl, omega arith)))
+
+mul-write-stem : tie.Need-mul-write-stem Inv-loop μ-loop
+mul-write-stem c =
+    omega arith
+
+mul-write-stem-2 : tie.Need-mul-write-stem-2 Inv-loop μ-loop
+mul-write-stem-2 c =
+    omega arith
+
+element-copy-out-write-stem : tie.Need-element-copy-out-write-stem Inv-loop μ-loop
+element-copy-out-write-stem c =
+    omega arith
+
+mul-write-stem-3 : tie.Need-mul-write-stem-3 Inv-loop μ-loop
+mul-write-stem-3 c =
+    omega arith
+
+add-write-stem : tie.Need-add-write-stem Inv-loop μ-loop
+add-write-stem c =
+    omega arith
+
+mul-write-stem-4 : tie.Need-mul-write-stem-4 Inv-loop μ-loop
+mul-write-stem-4 c =
+    omega arith
+
+element-copy-out-write-stem-2 : tie.Need-element-copy-out-write-stem-2 Inv-loop μ-loop
+element-copy-out-write-stem-2 c =
+    omega arith
+
+write-stem-requires : tie.Need-write-stem-requires Inv-loop μ-loop
+write-stem-requires c κs =
+    c .before .before .before .before .loop .inv .1 .1 .1
+
+add-i : tie.Need-add-i Inv-loop μ-loop
+add-i c =
+    omega arith
+
+loop-less : tie.Need-loop-less Inv-loop μ-loop
+loop-less c =
+    omega arith
+
+loop-again : tie.Need-loop-again Inv-loop μ-loop
+loop-again c =
+    let p = c .before .before .write-stem .ensures in let inv = c .before .before .before .before .before .before .before .loop .inv in let s = p .still in let q = inv .1 .0 in (
+      stem-again (c .before .before .before .before .before .before .before .before .before .args .op) (c .before .before .before .before .before .before .before .before .before .args .n) (c .before .before .before .before .before .before .before .loop .i) (c .before .before .before .before .before .before .before .before .before .args .table .now) _ (c .before .before .before .before .before .before .loop-test .taken) p (inv .0),
+      (record { x = s .x ∙ q .x; y = s .y ∙ q .y; waits = s .waits ∙ q .waits; held = s .held ∙ q .held }, (p .same ∙ inv .1 .1 .0, p .few)),
+    )
+
+same-length : tie.Need-same-length Inv-loop μ-loop
+same-length c =
+    c .before .before .before .before .loop .inv .1 .1 .0
+
+returns : tie.Need-returns Inv-loop μ-loop
+unfolding ofBits
+returns c =
+    let inv = c .before .before .before .before .loop .inv in (λ h. record { then = λ f. stems-full (c .before .before .before .before .loop .s) _ (c .before .before .before .before .before .before .args .op) (c .before .before .before .before .before .before .args .n) (c .before .before .before .before .loop .i) (c .before .before .before .before .before .before .args .table .now) (c .before .before .before .loop-test .left) (c .if1 .taken) h f ∙ inv .0 h f; same = inv .1 .1 .0 }, inv .1 .0)
+
+put-byte-requires : tie.Need-put-byte-requires Inv-loop μ-loop
+put-byte-requires c κs =
+    tt
+
+same-length-2 : tie.Need-same-length-2 Inv-loop μ-loop
+same-length-2 c =
+    c .before .before .put-byte .ensures .0 .same ∙ c .before .before .before .before .before .before .before .before .loop .inv .1 .1 .0
+
+returns-2 : tie.Need-returns-2 Inv-loop μ-loop
+unfolding ofBits
+returns-2 c =
+    let inv = c .before .before .before .before .before .before .before .before .loop .inv in let p = c .before .before .put-byte .ensures in let s = p .1 .0 in let q = inv .1 .0 in (
+      λ h. record { then = λ f. stems-last (c .before .before .before .before .before .before .before .before .loop .s) (c .before .before .before .before .before .before .before .before .before .before .args .op) (c .before .before .before .before .before .before .before .before .before .before .args .n) (c .before .before .before .before .before .before .before .before .loop .i) (c .before .before .before .before .before .before .before .before .before .before .args .table .now) (c .before .before .before .before .before .before .before .loop-test .left) (c .before .before .before .before .if1 .left) (p .0) h f ∙ inv .0 h f; same = p .0 .same ∙ inv .1 .1 .0 },
+      record { x = s .x ∙ q .x; y = s .y ∙ q .y; waits = s .waits ∙ q .waits; held = s .held ∙ q .held },
+    )
+
+pub write-stems-spec : {M : Type 1} → statement M
+write-stems-spec =
+    tie.close
+    (tie.spec
+    Inv-loop
+    μ-loop
+    loop-holds
+    mul-write-stem
+    mul-write-stem-2
+    element-copy-out-write-stem
+    mul-write-stem-3
+    add-write-stem
+    mul-write-stem-4
+    element-copy-out-write-stem-2
+    write-stem-requires
+    add-i
+    loop-less
+    loop-again
+    same-length
+    returns
+    put-byte-requires
+    same-length-2
+    returns-2)

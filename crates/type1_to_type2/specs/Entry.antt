@@ -1,0 +1,93 @@
+-- Definitions: what the entry's parts answer.
+use Prim.Native.Nat.{ℕ, zero, suc, _+_, _≤_}
+use mathlib.Core.Path.{_≡_}
+use mathlib.Core.Bool.{Bool, true, false, _&&_}
+use mathlib.Core.List.{List, [], _∷_}
+use lib.Dec.{eqb}
+use lib.ListN.{length, replicate}
+use lib.Ieee.{Float}
+use lib.Ieee.Scale.{finite}
+use Rattle.geometry.specs.declared.Matrix.{Matrix}
+use Rattle.type1.specs.declared.Stem.{Stem}
+use Rattle.type1.specs.declared.Interpreted.{Interpreted}
+use Rattle.type1.specs.State.{Group, State, plusZero, origin, start}
+use Rattle.type1.specs.Run.{pick}
+use Rattle.type1.specs.Small.{zeroStem}
+use Rattle.type1.specs.Memory.{word, drawnIn, groupsIn}
+use Rattle.type1_to_type2.specs.declared.Checked.{Checked}
+use Rattle.type1_to_type2.specs.declared.Collected.{Collected}
+use Rattle.type1_to_type2.specs.declared.Plan.{Plan}
+use Rattle.type1_to_type2.specs.declared.Writer.{Writer}
+use Rattle.type1_to_type2.specs.declared.Type2Glyph.{Type2Glyph}
+use Rattle.type1_to_type2.specs.Folding.{finiteMatrix, foldedList, foldedWidth, finiteList}
+use Rattle.type1_to_type2.specs.Stems.{Declared, declared, allStems}
+use Rattle.type1_to_type2.specs.Emission.{Cmd, program}
+use Rattle.type1_to_type2.specs.Writing.{Written, refused, write}
+use Rattle.type1_to_type2.specs.Convert as Convert
+use Rattle.type1_to_type2.specs.Convert.{Conversion, writes, folded, answer, output}
+use Rattle.type1_to_type2.specs.Table.{tableStems}
+use Rattle.type1_to_type2.specs.Collecting.{Collects}
+use Rattle.type1_to_type2.specs.Streaming.{resumedAll}
+use Rattle.type1_to_type2.specs.Passes.{both}
+
+-- how many of the first n entries start a group
+unfoldable pub groupCount : ℕ → List ℕ → ℕ
+groupCount zero c = 0
+groupCount (suc n) c = groupCount n c + pick (eqb (word c n 0) 5) 1 0
+
+-- the first n entries: whether their folded points are finite, and how many start a group
+pub record Checks (m : Matrix) (n : ℕ) (c : List ℕ) (k : Checked) : Type 0 where
+  pub points : k .finite ≡ finiteList (foldedList m (drawnIn n c))
+  pub groups : k .groups ≡ groupCount n c
+
+-- nothing collected yet, of so many groups
+abbrev pub noneOf : Checked → Collected
+noneOf k = record { finite = true; across = 0; upright = 0; groups = k .groups }
+
+-- the stems that two tables hold, as they are declared
+abbrev pub tables : Plan → List Float → List Float → Declared
+tables p ta tu = record { across = tableStems true (p .across) ta; upright = tableStems false (p .upright) tu; masked = p .masked }
+
+-- what is to be written: the number, 14 where a folded value is not finite, and the stems that are declared
+pub record Planned (number : ℕ) (k : Checked) (c : Collected) (m : Matrix) (width : Float) (p : Plan) : Type 0 where
+  pub number-is : p .number ≡ pick (eqb number 0) (pick (finite (foldedWidth m width) && (k .finite && c .finite)) 0 14) number
+  pub width-is : p .width ≡ foldedWidth m width
+  pub few : p .across + p .upright ≤ 96
+  pub stems : (gs : List Group) (ta tu : List Float) → Collects (allStems gs) c ta tu → c .groups ≡ length gs → c .finite ≡ true → declared gs ≡ tables p ta tu
+
+-- what is written of commands cs, into so much room
+unfoldable pub opens : Plan → List Float → List Float → ℕ → List Cmd → Written
+opens p ta tu room cs = pick (eqb (p .number) 0) (write (program (tables p ta tu) cs) room) (refused (p .number))
+
+pub record Opens (p : Plan) (ta tu : List Float) (room : ℕ) (w : Writer) (out : List ℕ) : Type 0 where
+  pub more : (cs : List Cmd) → resumedAll (p .masked) (both (p .across) (p .upright) ta tu) w out cs ≡ opens p ta tu room cs
+
+-- the run's state, as far as the stores and the answer tell it
+abbrev pub leftState : Interpreted → List ℕ → List Stem → State
+leftState r c z = record { operands = []; postscript = []; point = origin; bearing = origin; width = r .width; opened = false; flexing = start .flexing; hints = []; changed = false; groups = groupsIn (r .entries) c z; drawn = drawnIn (r .entries) c; divided = false; ran = r .ran }
+
+-- 1 where an entry of the matrix is not finite, else the run's number
+abbrev pub firstNumber : Matrix → ℕ → ℕ
+firstNumber m n = pick (finiteMatrix m) n 1
+
+-- from what a run has left, with the number so far
+unfoldable pub fromRun : ℕ → Matrix → ℕ → Interpreted → List ℕ → List Stem → Conversion
+fromRun number m room r c z = pick (eqb number 0) (folded m room (leftState r c z)) (Convert.refused number)
+
+-- an answer and an output that are a conversion's
+pub record Answers (x : Conversion) (room : ℕ) (g : Type2Glyph) (out : List ℕ) : Type 0 where
+  pub glyph : g ≡ answer x
+  pub bytes : out ≡ output room x
+
+-- the entry's arrays have their lengths
+pub record Blank (across upright : List Float) (mask : List Bool) : Type 0 where
+  pub across-len : length across ≡ 192
+  pub upright-len : length upright ≡ 192
+  pub mask-len : length mask ≡ 96
+
+-- what an entry that converts leaves: the answer and the output are a conversion's, every record and every word of the stores is zero
+pub record Converts (x : Conversion) (stems : List Stem) (commands : List ℕ) (room : ℕ) (g : Type2Glyph) (stems′ : List Stem) (commands′ out : List ℕ) : Type 0 where
+  pub glyph : g ≡ answer x
+  pub bytes : out ≡ output room x
+  pub records : stems′ ≡ replicate (length stems) zeroStem
+  pub words : commands′ ≡ replicate (length commands) 0

@@ -1,0 +1,11 @@
+pub mod Folding
+pub mod Stems
+pub mod Emission
+pub mod Writing
+pub mod Convert
+pub mod Finish
+pub mod Table
+pub mod Collecting
+pub mod Streaming
+pub mod Passes
+pub mod Entry

@@ -1,0 +1,56 @@
+-- Definitions: what the functions that hold the stem store leave.
+use Prim.Native.Nat.{ℕ, zero, suc, _+_, _*_, _≤_, _<_}
+use mathlib.Core.Path.{_≡_}
+use mathlib.Core.Bool.{Bool, true, false}
+use mathlib.Core.List.{List, [], _∷_, _++_}
+use lib.Dec.{eqb}
+use lib.ListN.{length, take, drop}
+use lib.Ieee.{Float}
+use Rattle.geometry.specs.declared.Matrix.{Matrix}
+use Rattle.type1.specs.declared.Stem.{Stem}
+use Rattle.type1.specs.Run.{pick}
+use Rattle.type1.specs.Sound.{All, OfCommand}
+use Rattle.type1.specs.Memory.{Good, word, commandIn}
+use Rattle.type1_to_type2.specs.declared.Collected.{Collected}
+use Rattle.type1_to_type2.specs.declared.Writer.{Writer}
+use Rattle.type1_to_type2.specs.Folding.{isIdentity, foldedStems}
+use Rattle.type1_to_type2.specs.Stems.{maskOf}
+use Rattle.type1_to_type2.specs.Emission.{Cmd}
+use Rattle.type1_to_type2.specs.Table.{tableStems}
+use Rattle.type1_to_type2.specs.Collecting.{Collects, Counted, firstOf, countOf}
+use Rattle.type1_to_type2.specs.Streaming.{resumedAll, cmdsIn}
+
+-- so many records, from one on
+abbrev pub records : ℕ → ℕ → List Stem → List Stem
+records first n z = take n (drop first z)
+
+-- folded stems g were collected after those that had been
+abbrev pub Gathers : List Stem → Collected → List Float → List Float → Collected → List Float → List Float → Type 0
+Gathers g c ta tu r ta′ tu′ = ((l : List Stem) → Collects l c ta tu → Collects (l ++ g) r ta′ tu′) × ((r .groups ≡ c .groups) × Counted r)
+
+-- folded stems g were marked beside those that had been, in the mask of so many stems of both tables
+abbrev pub both : ℕ → ℕ → List Float → List Float → List Stem
+both na nu ta tu = tableStems true na ta ++ tableStems false nu tu
+
+abbrev pub Marks : List Stem → ℕ → ℕ → List Float → List Float → List Bool → List Bool → Type 0
+Marks g na nu ta tu mask mask′ = (length mask′ ≡ length mask) × ((l : List Stem) → take (na + nu) mask ≡ maskOf l (both na nu ta tu) → take (na + nu) mask′ ≡ maskOf (l ++ g) (both na nu ta tu))
+
+-- the folded stems of the group that starts at entry e, none where no group does
+unfoldable pub groupAt : Matrix → List ℕ → List Stem → ℕ → List Stem
+groupAt m c z e = foldedStems m (records (firstOf c e) (countOf c e) z)
+
+-- the folded stems of the first e entries' groups
+unfoldable pub stemsTo : Matrix → List ℕ → List Stem → ℕ → List Stem
+stemsTo m c z zero = []
+stemsTo m c z (suc e) = stemsTo m c z e ++ groupAt m c z e
+
+-- n entries from e on, as commands
+unfoldable pub cmdsFrom : Matrix → List ℕ → List Stem → ℕ → ℕ → List Cmd
+cmdsFrom m c z e zero = []
+cmdsFrom m c z e (suc n) = cmdsIn m c e (groupAt m c z e) ++ cmdsFrom m c z (suc e) n
+
+-- the stores hold so many entries: each group's records are there, and every coordinate is a finite double
+pub record Stored (entries : ℕ) (c : List ℕ) (z : List Stem) : Type 0 where
+  pub words : 14 * entries ≤ length c
+  pub groups : (e : ℕ) → e < entries → word c e 0 ≡ 5 → word c e 1 + word c e 2 ≤ length z
+  pub finite : (e : ℕ) → e < entries → All (OfCommand Good) (commandIn c e)
