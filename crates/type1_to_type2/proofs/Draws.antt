@@ -31,7 +31,7 @@ use Rattle.type1_to_type2.proofs.Writes.{not-before, put-cons}
 use Rattle.type1_to_type2.specs.declared.Writer.{Writer}
 use Rattle.type1_to_type2.specs.Emission.{Cmd, shape, Item, go, items, codeOf, most, deltas, arrives, pointsOf, heightOf, kindOf, written}
 use Rattle.type1_to_type2.specs.Writing.{Written, refused, wrote, put, putNumbers}
-use Rattle.type1_to_type2.specs.Streaming.{resumed, resumedItems, resumedAll, pointOf, closed, joined, streamed, putInstr, shares, PutsAt, Puts, Still, Flushed, Batched, Goes, Draws, Finished}
+use Rattle.type1_to_type2.specs.Streaming.{resumed, resumedItems, resumedAll, pointOf, closed, joined, streamed, putInstr, shares, PutsAt, Puts, Still, Flushed, Batched, Goes, Draws, Ends}
 
 -- ---- one after the other
 pub in-turn : {g h : (ℕ → Written) → ℕ → Written} {w r s : Writer} {b a z : List ℕ} → Puts g w b r a → Puts h r a s z → Puts (λ f. g (h f)) w b s z
@@ -242,16 +242,16 @@ ended p q true ss = in-turn (p .puts) q .then (λ left. wrote [])
 ended p q false ss = in-turn (p .puts) q .then (λ left. wrote [])
 
 pub finished-refused : (room : ℕ) (s t : Writer) (z o : List ℕ) (x : Written) → resumed (s .number) (s .next) z (λ left. wrote []) ≡ x → (s .number ≡ 0 → ⊥) → length z ≡ room → o ≡ take 0 z ++ replicate (length z - 0) 0 →
-    t .number ≡ s .number → t .next ≡ 0 → Finished room x t o
+    t .number ≡ s .number → t .next ≡ 0 → Ends room x t o
 unfolding resumed
 finished-refused room s t z o x e h l d n m =
-    subst (λ (y : Written). Finished room y t o) (sym (let g : resumed (s .number) (s .next) z (λ left. wrote []) ≡ refused (s .number) = rw (ne-eqb (s .number) 0 h) in g) ∙ e)
+    subst (λ (y : Written). Ends room y t o) (sym (let g : resumed (s .number) (s .next) z (λ left. wrote []) ≡ refused (s .number) = rw (ne-eqb (s .number) 0 h) in g) ∙ e)
     (pos-of-ne-zero h, (n, (m, d ∙ ap (λ (k : ℕ). replicate k 0) (sub-zero (length z) ∙ l))))
 
-pub finished-wrote : (room : ℕ) (s : Writer) (z o : List ℕ) (x : Written) → resumed (s .number) (s .next) z (λ left. wrote []) ≡ x → s .number ≡ 0 → s .next ≤ length z → length z ≡ room → o ≡ take (s .next) z ++ replicate (length z - s .next) 0 → Finished room x s o
+pub finished-wrote : (room : ℕ) (s : Writer) (z o : List ℕ) (x : Written) → resumed (s .number) (s .next) z (λ left. wrote []) ≡ x → s .number ≡ 0 → s .next ≤ length z → length z ≡ room → o ≡ take (s .next) z ++ replicate (length z - s .next) 0 → Ends room x s o
 unfolding resumed
 finished-wrote room s z o x e h k l d =
-    subst (λ (y : Written). Finished room y s o) (sym (let g : resumed (s .number) (s .next) z (λ left. wrote []) ≡ wrote (take (s .next) z) = rw (eq-eqb (s .number) 0 h, append-nil (take (s .next) z)) in g) ∙ e)
+    subst (λ (y : Written). Ends room y s o) (sym (let g : resumed (s .number) (s .next) z (λ left. wrote []) ≡ wrote (take (s .next) z) = rw (eq-eqb (s .number) 0 h, append-nil (take (s .next) z)) in g) ∙ e)
     (h, (sym n, d ∙ ap₂ (λ (i j : ℕ). take (s .next) z ++ replicate (i - j) 0) l (sym n)))
   where
     n : length (take (s .next) z) ≡ s .next

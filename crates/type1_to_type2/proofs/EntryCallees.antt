@@ -142,9 +142,9 @@ module _ {M : Type 1} (𝓤 : URA M) (H : Heap 𝓤) (A : Atoms 𝓤) (mem : Mem
   ConvertCharstringTransformedC = tripleOf 𝓤 H A convert-charstring-transformed-f.signature (convert-charstring-transformed-f.spec 𝓤 H A mem run′)
 
 module _ {M : Type 1} (𝓤 : URA M) (H : Heap 𝓤) (A : Atoms 𝓤) (mem : Memory → SProp 𝓤) (run′ : Routine → Fun 𝓤) (W : Given 𝓤 H A) (C : Calls 𝓤 H) where
-  pub is-identity-as : Triple 𝓤 (C #type1-to-type2·is-identity) (IsIdentityC 𝓤 H A mem run′) →  (m : Matrix) → Is Z.the-row m (machZ m ∷ [])
+  pub is-identity-as : Triple 𝓤 (C #type1-to-type2·is-identity) (IsIdentityC 𝓤 H A mem run′) → (m : Matrix) → Is Z.the-row m (machZ m ∷ [])
       → ent 𝓤 (mean 𝓤 H A (‵ ftrue)) (C #type1-to-type2·is-identity (machZ m ∷ []) (λ w. mean 𝓤 H A (GotAll 𝓤 bool (Unit {0} × Unit {0}) (λ (r : bool .Denot) (lasts : (Unit {0} × Unit {0})). r ≡ isIdentity m) (λ (lasts : (Unit {0} × Unit {0})). (fsep ftrue ftrue)) (‵ ftrue) w)))
-  is-identity-as known  m m-fits =
+  is-identity-as known m m-fits =
       let y : IsIdentityC 𝓤 H A mem run′ .Ghost = ((tt, tt, tt, (m, tt), (machZ m ∷ [], tt)), tt) in
       via 𝓤 (IsIdentityC 𝓤 H A mem run′ .pre y) (qed W ((‵ ftrue) ∷ []) ∵ nothing ! $ owned ! Z.the-row (Is Z.the-row) (LL.makes Z.the-type Z′.the-plain 𝓤 H A) m _ m-fits $ fjoin ! $ nothing ! $ join ! $ frame ! $ done !) (known y)
 
@@ -154,9 +154,9 @@ module _ {M : Type 1} (𝓤 : URA M) (H : Heap 𝓤) (A : Atoms 𝓤) (mem : Mem
       let y : CheckEntriesC 𝓤 H A mem run′ .Ghost = (((κcommands, tt), (qcommands, tt), tt, (xcommands, (entries, (m, (identity, tt)))), (sliceVal (xcommands .ptr) (length (xcommands .now)) ∷ [], (vint w64 entries ∷ [], (machZ m ∷ [], (vbool identity ∷ [], tt))))), tt) in
       via 𝓤 (CheckEntriesC 𝓤 H A mem run′ .pre y) (qed W ((‵ (flft κcommands qcommands) ⊛ ‵ (ShrSlice (named 0) κcommands u64 .own xcommands (sliceVal (xcommands .ptr) (length (xcommands .now)) ∷ []))) ∷ []) ∵ says ! need $ split ! $ nothing ! $ owned ! bool (Is bool) (bool-makes 𝓤 H A W) identity _ refl $ fjoin ! $ owned ! Z.the-row (Is Z.the-row) (LL.makes Z.the-type Z′.the-plain 𝓤 H A) m _ m-fits $ fjoin ! $ owned ! usize (Is usize) (uint-makes 𝓤 H A W w64) entries _ (refl, entries-fits) $ fjoin ! $ move ! (2 ∷ 0 ∷ []) $ fjoin ! $ nothing ! $ move ! (2 ∷ 0 ∷ []) $ join ! $ frame ! $ done !) (known y)
 
-  pub none-collected-as : Triple 𝓤 (C #type1-to-type2·none-collected) (NoneCollectedC 𝓤 H A mem run′) →  (k : Checked) → Is Y.the-row k (machY k ∷ [])
+  pub none-collected-as : Triple 𝓤 (C #type1-to-type2·none-collected) (NoneCollectedC 𝓤 H A mem run′) → (k : Checked) → Is Y.the-row k (machY k ∷ [])
       → ent 𝓤 (mean 𝓤 H A (‵ ftrue)) (C #type1-to-type2·none-collected (machY k ∷ []) (λ w. mean 𝓤 H A (GotAll 𝓤 K.the-row (Unit {0} × Unit {0}) (λ (r : K.the-row .Denot) (lasts : (Unit {0} × Unit {0})). r ≡ noneOf k) (λ (lasts : (Unit {0} × Unit {0})). (fsep ftrue ftrue)) (‵ ftrue) w)))
-  none-collected-as known  k k-fits =
+  none-collected-as known k k-fits =
       let y : NoneCollectedC 𝓤 H A mem run′ .Ghost = ((tt, tt, tt, (k, tt), (machY k ∷ [], tt)), tt) in
       via 𝓤 (NoneCollectedC 𝓤 H A mem run′ .pre y) (qed W ((‵ ftrue) ∷ []) ∵ nothing ! $ owned ! Y.the-row (Is Y.the-row) (LL.makes Y.the-type Y′.the-plain 𝓤 H A) k _ k-fits $ fjoin ! $ nothing ! $ join ! $ frame ! $ done !) (known y)
 
@@ -166,9 +166,9 @@ module _ {M : Type 1} (𝓤 : URA M) (H : Heap 𝓤) (A : Atoms 𝓤) (mem : Mem
       let y : CollectAllC 𝓤 H A mem run′ .Ghost = (((κstems, (κcommands, (κacross, (κupright, tt)))), (qstems, (qcommands, (qacross, (qupright, tt)))), tt, (at-list T.the-row mstems bstems ostems γstems ysstems, (xcommands, (entries, (m, (identity, (c, (at-one (Array f64 192) bacross oacross γacross ysacross, (at-one (Array f64 192) bupright oupright γupright ysupright, tt)))))))), (sliceVal (bstems, ostems) mstems ∷ [], (sliceVal (xcommands .ptr) (length (xcommands .now)) ∷ [], (vint w64 entries ∷ [], (machZ m ∷ [], (vbool identity ∷ [], (machK c ∷ [], (vptr bacross oacross ∷ [], (vptr bupright oupright ∷ [], tt))))))))), tt) in
       via 𝓤 (CollectAllC 𝓤 H A mem run′ .pre y) (qed W (((‵ (flft κstems qstems) ⊛ ‵ (Own T.the-row mstems bstems ostems κstems γstems ysstems)) ⊛ ((‵ (flft κcommands qcommands) ⊛ ‵ (ShrSlice (named 0) κcommands u64 .own xcommands (sliceVal (xcommands .ptr) (length (xcommands .now)) ∷ []))) ⊛ ((‵ (flft κacross qacross) ⊛ ‵ (OwnR (Array f64 192) bacross oacross κacross γacross ysacross)) ⊛ (‵ (flft κupright qupright) ⊛ ‵ (OwnR (Array f64 192) bupright oupright κupright γupright ysupright))))) ∷ []) ∵ says ! need $ split ! $ move ! (1 ∷ []) $ split ! $ move ! (1 ∷ []) $ split ! $ move ! (3 ∷ []) $ split ! $ move ! (4 ∷ []) $ split ! $ move ! (4 ∷ []) $ split ! $ move ! (6 ∷ []) $ split ! $ nothing ! $ move ! (2 ∷ 0 ∷ []) $ fjoin ! $ move ! (3 ∷ 0 ∷ []) $ fjoin ! $ owned ! K.the-row (Is K.the-row) (LL.makes K.the-type K′.the-plain 𝓤 H A) c _ c-fits $ fjoin ! $ owned ! bool (Is bool) (bool-makes 𝓤 H A W) identity _ refl $ fjoin ! $ owned ! Z.the-row (Is Z.the-row) (LL.makes Z.the-type Z′.the-plain 𝓤 H A) m _ m-fits $ fjoin ! $ owned ! usize (Is usize) (uint-makes 𝓤 H A W w64) entries _ (refl, entries-fits) $ fjoin ! $ move ! (4 ∷ 0 ∷ []) $ fjoin ! $ move ! (5 ∷ 0 ∷ []) $ fjoin ! $ nothing ! $ move ! (2 ∷ 0 ∷ []) $ join ! $ move ! (2 ∷ 0 ∷ []) $ join ! $ move ! (2 ∷ 0 ∷ []) $ join ! $ move ! (2 ∷ 0 ∷ []) $ join ! $ frame ! $ done !) (known y)
 
-  pub make-plan-as : Triple 𝓤 (C #type1-to-type2·make-plan) (MakePlanC 𝓤 H A mem run′) →  (number : ℕ) (k : Checked) (c : Collected) (m : Matrix) (ri : Interpreted) → number < 2 ^ 64 → Is Y.the-row k (machY k ∷ []) → Is K.the-row c (machK c ∷ []) → Is Z.the-row m (machZ m ∷ []) → Is I.the-row ri (machI ri ∷ []) → Counted c
+  pub make-plan-as : Triple 𝓤 (C #type1-to-type2·make-plan) (MakePlanC 𝓤 H A mem run′) → (number : ℕ) (k : Checked) (c : Collected) (m : Matrix) (ri : Interpreted) → number < 2 ^ 64 → Is Y.the-row k (machY k ∷ []) → Is K.the-row c (machK c ∷ []) → Is Z.the-row m (machZ m ∷ []) → Is I.the-row ri (machI ri ∷ []) → Counted c
       → ent 𝓤 (mean 𝓤 H A (‵ ftrue)) (C #type1-to-type2·make-plan (vint w64 number ∷ machY k ∷ machK c ∷ machZ m ∷ machI ri ∷ []) (λ w. mean 𝓤 H A (GotAll 𝓤 Q.the-row (Unit {0} × (Unit {0} × (Unit {0} × (Unit {0} × (Unit {0} × Unit {0}))))) (λ (r : Q.the-row .Denot) (lasts : (Unit {0} × (Unit {0} × (Unit {0} × (Unit {0} × (Unit {0} × Unit {0})))))). Planned number k c m (ri .width) r) (λ (lasts : (Unit {0} × (Unit {0} × (Unit {0} × (Unit {0} × (Unit {0} × Unit {0})))))). (fsep ftrue (fsep ftrue (fsep ftrue (fsep ftrue (fsep ftrue ftrue)))))) (‵ ftrue) w)))
-  make-plan-as known  number k c m ri number-fits k-fits c-fits m-fits ri-fits need =
+  make-plan-as known number k c m ri number-fits k-fits c-fits m-fits ri-fits need =
       let y : MakePlanC 𝓤 H A mem run′ .Ghost = ((tt, tt, tt, (number, (k, (c, (m, (ri, tt))))), (vint w64 number ∷ [], (machY k ∷ [], (machK c ∷ [], (machZ m ∷ [], (machI ri ∷ [], tt)))))), tt) in
       via 𝓤 (MakePlanC 𝓤 H A mem run′ .pre y) (qed W ((‵ ftrue) ∷ []) ∵ says ! need $ nothing ! $ owned ! I.the-row (Is I.the-row) (LL.makes I.the-type I′.the-plain 𝓤 H A) ri _ ri-fits $ fjoin ! $ owned ! Z.the-row (Is Z.the-row) (LL.makes Z.the-type Z′.the-plain 𝓤 H A) m _ m-fits $ fjoin ! $ owned ! K.the-row (Is K.the-row) (LL.makes K.the-type K′.the-plain 𝓤 H A) c _ c-fits $ fjoin ! $ owned ! Y.the-row (Is Y.the-row) (LL.makes Y.the-type Y′.the-plain 𝓤 H A) k _ k-fits $ fjoin ! $ owned ! u64 (Is u64) (uint-makes 𝓤 H A W w64) number _ (refl, number-fits) $ fjoin ! $ nothing ! $ move ! (2 ∷ []) $ drop ! $ frame ! $ done !) (known y)
 
@@ -190,21 +190,21 @@ module _ {M : Type 1} (𝓤 : URA M) (H : Heap 𝓤) (A : Atoms 𝓤) (mem : Mem
       let y : EndProgramC 𝓤 H A mem run′ .Ghost = (((κout, tt), (qout, tt), tt, (p, (ri, (wr, (at-list u8 mout bout oout γout ysout, tt)))), (machQ p ∷ [], (machI ri ∷ [], (machR wr ∷ [], (sliceVal (bout, oout) mout ∷ [], tt))))), tt) in
       via 𝓤 (EndProgramC 𝓤 H A mem run′ .pre y) (qed W ((‵ (flft κout qout) ⊛ ‵ (Own u8 mout bout oout κout γout ysout)) ∷ []) ∵ split ! $ nothing ! $ move ! (2 ∷ 0 ∷ []) $ fjoin ! $ owned ! R.the-row (Is R.the-row) (LL.makes R.the-type R′.the-plain 𝓤 H A) wr _ wr-fits $ fjoin ! $ owned ! I.the-row (Is I.the-row) (LL.makes I.the-type I′.the-plain 𝓤 H A) ri _ ri-fits $ fjoin ! $ owned ! Q.the-row (Is Q.the-row) (LL.makes Q.the-type Q′.the-plain 𝓤 H A) p _ p-fits $ fjoin ! $ nothing ! $ move ! (2 ∷ 0 ∷ []) $ join ! $ join ! $ frame ! $ done !) (known y)
 
-  pub first-number-as : Triple 𝓤 (C #type1-to-type2·first-number) (FirstNumberC 𝓤 H A mem run′) →  (m : Matrix) (number : ℕ) → Is Z.the-row m (machZ m ∷ []) → number < 2 ^ 64
+  pub first-number-as : Triple 𝓤 (C #type1-to-type2·first-number) (FirstNumberC 𝓤 H A mem run′) → (m : Matrix) (number : ℕ) → Is Z.the-row m (machZ m ∷ []) → number < 2 ^ 64
       → ent 𝓤 (mean 𝓤 H A (‵ ftrue)) (C #type1-to-type2·first-number (machZ m ∷ vint w64 number ∷ []) (λ w. mean 𝓤 H A (GotAll 𝓤 u64 (Unit {0} × (Unit {0} × Unit {0})) (λ (r : u64 .Denot) (lasts : (Unit {0} × (Unit {0} × Unit {0}))). r ≡ firstNumber m number) (λ (lasts : (Unit {0} × (Unit {0} × Unit {0}))). (fsep ftrue (fsep ftrue ftrue))) (‵ ftrue) w)))
-  first-number-as known  m number m-fits number-fits =
+  first-number-as known m number m-fits number-fits =
       let y : FirstNumberC 𝓤 H A mem run′ .Ghost = ((tt, tt, tt, (m, (number, tt)), (machZ m ∷ [], (vint w64 number ∷ [], tt))), tt) in
       via 𝓤 (FirstNumberC 𝓤 H A mem run′ .pre y) (qed W ((‵ ftrue) ∷ []) ∵ nothing ! $ owned ! u64 (Is u64) (uint-makes 𝓤 H A W w64) number _ (refl, number-fits) $ fjoin ! $ owned ! Z.the-row (Is Z.the-row) (LL.makes Z.the-type Z′.the-plain 𝓤 H A) m _ m-fits $ fjoin ! $ nothing ! $ join ! $ frame ! $ done !) (known y)
 
-  pub wipe-words-as : Triple 𝓤 (C #type1-to-type2·wipe-words) (WipeWordsC 𝓤 H A mem run′) → (κcommands : Lft) (qcommands : Share) (mcommands bcommands ocommands : ℕ) (γcommands : GName) (yscommands : List ℕ) 
+  pub wipe-words-as : Triple 𝓤 (C #type1-to-type2·wipe-words) (WipeWordsC 𝓤 H A mem run′) → (κcommands : Lft) (qcommands : Share) (mcommands bcommands ocommands : ℕ) (γcommands : GName) (yscommands : List ℕ)
       → ent 𝓤 (mean 𝓤 H A (‵ (flft κcommands qcommands) ⊛ ‵ (Own u64 mcommands bcommands ocommands κcommands γcommands yscommands))) (C #type1-to-type2·wipe-words (sliceVal (bcommands, ocommands) mcommands ∷ []) (λ w. mean 𝓤 H A (GotAll 𝓤 Nothing (List ℕ × Unit {0}) (λ (r : Nothing .Denot) (lasts : (List ℕ × Unit {0})). lasts .0 ≡ replicate (length yscommands) 0) (λ (lasts : (List ℕ × Unit {0})). (fsep (fsep (finally u64 γcommands (lasts .0)) (feq ℕ (length (lasts .0)) (length yscommands))) ftrue)) (‵ (flft κcommands qcommands) ⊛ ‵ ftrue) w)))
-  wipe-words-as known κcommands qcommands mcommands bcommands ocommands γcommands yscommands   =
+  wipe-words-as known κcommands qcommands mcommands bcommands ocommands γcommands yscommands =
       let y : WipeWordsC 𝓤 H A mem run′ .Ghost = (((κcommands, tt), (qcommands, tt), tt, (at-list u64 mcommands bcommands ocommands γcommands yscommands, tt), (sliceVal (bcommands, ocommands) mcommands ∷ [], tt)), tt) in
       via 𝓤 (WipeWordsC 𝓤 H A mem run′ .pre y) (qed W ((‵ (flft κcommands qcommands) ⊛ ‵ (Own u64 mcommands bcommands ocommands κcommands γcommands yscommands)) ∷ []) ∵ split ! $ nothing ! $ move ! (2 ∷ 0 ∷ []) $ fjoin ! $ nothing ! $ move ! (2 ∷ 0 ∷ []) $ join ! $ join ! $ frame ! $ done !) (known y)
 
-  pub wipe-as : Triple 𝓤 (C #type1·wipe) (WipeC 𝓤 H A mem run′) → (κstems : Lft) (qstems : Share) (mstems bstems ostems : ℕ) (γstems : GName) (ysstems : List Stem) 
+  pub wipe-as : Triple 𝓤 (C #type1·wipe) (WipeC 𝓤 H A mem run′) → (κstems : Lft) (qstems : Share) (mstems bstems ostems : ℕ) (γstems : GName) (ysstems : List Stem)
       → ent 𝓤 (mean 𝓤 H A (‵ (flft κstems qstems) ⊛ ‵ (Own T.the-row mstems bstems ostems κstems γstems ysstems))) (C #type1·wipe (sliceVal (bstems, ostems) mstems ∷ []) (λ w. mean 𝓤 H A (GotAll 𝓤 Nothing (List Stem × Unit {0}) (λ (r : Nothing .Denot) (lasts : (List Stem × Unit {0})). lasts .0 ≡ replicate (length ysstems) zeroStem) (λ (lasts : (List Stem × Unit {0})). (fsep (fsep (finally T.the-row γstems (lasts .0)) (feq ℕ (length (lasts .0)) (length ysstems))) ftrue)) (‵ (flft κstems qstems) ⊛ ‵ ftrue) w)))
-  wipe-as known κstems qstems mstems bstems ostems γstems ysstems   =
+  wipe-as known κstems qstems mstems bstems ostems γstems ysstems =
       let y : WipeC 𝓤 H A mem run′ .Ghost = (((κstems, tt), (qstems, tt), tt, (at-list T.the-row mstems bstems ostems γstems ysstems, tt), (sliceVal (bstems, ostems) mstems ∷ [], tt)), tt) in
       via 𝓤 (WipeC 𝓤 H A mem run′ .pre y) (qed W ((‵ (flft κstems qstems) ⊛ ‵ (Own T.the-row mstems bstems ostems κstems γstems ysstems)) ∷ []) ∵ split ! $ nothing ! $ move ! (2 ∷ 0 ∷ []) $ fjoin ! $ nothing ! $ move ! (2 ∷ 0 ∷ []) $ join ! $ join ! $ frame ! $ done !) (known y)
 
@@ -222,7 +222,7 @@ module _ {M : Type 1} (𝓤 : URA M) (H : Heap 𝓤) (A : Atoms 𝓤) (mem : Mem
 
   pub Matrix·identity-as : Triple 𝓤 (C #geometry·Matrix·identity) (IdentityC 𝓤 H A mem run′)
       → ent 𝓤 (mean 𝓤 H A (‵ ftrue)) (C #geometry·Matrix·identity ([]) (λ w. mean 𝓤 H A (GotAll 𝓤 Z.the-row (Unit {0}) (λ (r : Z.the-row .Denot) (lasts : (Unit {0})). r ≡ identity) (λ (lasts : (Unit {0})). ftrue) (‵ ftrue) w)))
-  Matrix·identity-as known    =
+  Matrix·identity-as known =
       let y : IdentityC 𝓤 H A mem run′ .Ghost = ((tt, tt, tt, tt, tt), tt) in
       via 𝓤 (IdentityC 𝓤 H A mem run′ .pre y) (qed W ((‵ ftrue) ∷ []) ∵ nothing ! $ nothing ! $ join ! $ frame ! $ done !) (known y)
 

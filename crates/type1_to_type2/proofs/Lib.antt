@@ -18,3 +18,4 @@ pub mod EntryLaws
 pub mod Checking
 pub mod RunLaws
 pub mod EntryCallees
+pub mod Finishing

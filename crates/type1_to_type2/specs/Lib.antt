@@ -9,3 +9,5 @@ pub mod Collecting
 pub mod Streaming
 pub mod Passes
 pub mod Entry
+pub mod FinishAnswer
+pub mod FinishLaws

@@ -155,9 +155,9 @@ pub record Stemmed (op : ℕ) (pos width : Float) (s : StemWriter) (before : Lis
   pub same : length after ≡ length before
 
 -- what a written program leaves: the answer's number and length, and the output's every byte, of so many
-abbrev pub Finished : ℕ → Written → Writer → List ℕ → Type 0
-Finished room (refused k) r out = (0 < k) × ((r .number ≡ k) × ((r .next ≡ 0) × (out ≡ replicate room 0)))
-Finished room (wrote b) r out = (r .number ≡ 0) × ((r .next ≡ length b) × (out ≡ b ++ replicate (room - length b) 0))
+abbrev pub Ends : ℕ → Written → Writer → List ℕ → Type 0
+Ends room (refused k) r out = (0 < k) × ((r .number ≡ k) × ((r .next ≡ 0) × (out ≡ replicate room 0)))
+Ends room (wrote b) r out = (r .number ≡ 0) × ((r .next ≡ length b) × (out ≡ b ++ replicate (room - length b) 0))
 
 -- entry e is written, with g the stems of the group that it starts, if it starts one
 abbrev pub Writes : Bool → Matrix → List ℕ → ℕ → ℕ → List Bool → Writer → List ℕ → Writer → List ℕ → Type 0

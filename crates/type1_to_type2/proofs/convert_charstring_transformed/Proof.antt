@@ -187,45 +187,44 @@ module _ {M : Type 1} (𝓤 : URA M) (H : Heap 𝓤) (A : Atoms 𝓤) (W : Given
     pub walk : ent 𝓤 (onEntry 𝓤 H A f.signature (κcharstring, (κbank, (κstems, (κcommands, (κout, tt))))) (qcharstring, (qbank, (qstems, (qcommands, (qout, tt))))) a vals) (WpFn 𝓤 H C Λ code.function args Post)
     walk =
         qed W ((‵ (flft κcharstring qcharstring) ⊛ (‵ (flft κbank qbank) ⊛ (‵ (flft κstems qstems) ⊛ (‵ (flft κcommands qcommands) ⊛ (‵ (flft κout qout) ⊛ ‵ ftrue))))) ∷ ‵ (owns (ShrSlice (named 0) κcharstring u8 ∷ ShrSlice (named 1) κbank u8 ∷ usize ∷ Z.the-row ∷ MutSlice (named 2) κstems T.the-row ∷ MutSlice (named 3) κcommands u64 ∷ MutSlice (named 4) κout u8 ∷ []) a vals) ∷ []) ∵ enter ! C Λ code.function args _ $
-        alloc1 ! (λ l₀. alloc1 ! (λ l₁. alloc1 ! (λ l₂. alloc1 ! (λ l₃. alloc1 ! (λ l₄. alloc1 ! (λ l₅. alloc1 ! (λ l₆. alloc1 ! (λ l₇. alloc1 ! (λ l₈. alloc1 ! (λ l₉. alloc1 ! (λ l₁₀. alloc1 ! (λ l₁₁. alloc1 ! (λ l₁₂. alloc1 ! (λ l₁₃. alloc1 ! (λ l₁₄. alloc1 ! (λ l₁₅. alloc1 ! (λ l₁₆. alloc1 ! (λ l₁₇. alloc1 ! (λ l₁₈. alloc1 ! (λ l₁₉. alloc1 ! (λ l₂₀. alloc1 ! (λ l₂₁. alloc1 ! (λ l₂₂. alloc1 ! (λ l₂₃. alloc1 ! (λ l₂₄. alloc1 ! (λ l₂₅. alloc1 ! (λ l₂₆. alloc1 ! (λ l₂₇. alloc1 ! (λ l₂₈. alloc1 ! (λ l₂₉. alloc1 ! (λ l₃₀. alloc1 ! (λ l₃₁. alloc0 ! $ params1 ! $ 
-        pass1 ! (init ! 60 refl (tt, (tt, (record { fits = fitcharstring .0 }, tt)))) $ pass1 ! (init ! 58 refl (tt, (tt, (record { fits = fitbank .0 }, tt)))) $ pass1 ! (init ! 56 refl (tt, record { fits = iv-fits })) $ pass1 ! (init ! 54 refl (typedZ 𝓤 H A W m _ m-fits)) $ pass1 ! (init ! 52 refl (tt, (tt, (record { fits = fitstems .0 }, tt)))) $ pass1 ! (init ! 50 refl (tt, (tt, (record { fits = fitcommands .0 }, tt)))) $ pass1 ! (init ! 48 refl (tt, (tt, (record { fits = fitout .0 }, tt)))) $ pass0 ! $ move ! (65 ∷ []) $ fsplit ! $ move ! (1 ∷ []) $ fsplit ! $ move ! (1 ∷ []) $ fsplit ! $ drop ! $ fsplit ! $ drop ! $ fsplit ! $ move ! (1 ∷ []) $ fsplit ! $ move ! (1 ∷ []) $ fsplit ! $ move ! (1 ∷ []) $ drop ! $ move ! (69 ∷ []) $ split ! $ move ! (1 ∷ []) $ split ! $ move ! (1 ∷ []) $ split ! $ move ! (1 ∷ []) $ split ! $ move ! (1 ∷ []) $ split ! $ move ! (1 ∷ []) $ drop ! $ move ! (9 ∷ 4 ∷ 8 ∷ 3 ∷ 7 ∷ 2 ∷ 6 ∷ 1 ∷ 5 ∷ 0 ∷ []) $ 
-        assigns ! (rep ! 192 (float-lit ! tt)) (from ! (stop !)) (init ! 56 refl (array-lawful 𝓤 H A W f64 (float-lawful 𝓤 H A W binary64) 192 .typed (replicate 192 nought) (arrayVal (replicate 192 (vfloat binary64 nought)) ∷ []) (repeat-is f64 nought (vfloat binary64 nought) nought-is 192) .0)) $ owned ! (Array f64 192) (Is (Array f64 192)) (array-makes 𝓤 H A W f64 (float-makes 𝓤 H A W binary64) 192) (replicate 192 nought) _ (repeat-is f64 nought (vfloat binary64 nought) nought-is 192) $ move ! (57 ∷ 0 ∷ []) $ lend-local ! tt (Array f64 192) refl (replicate 192 nought) (λ νacross δacross. 
-        assigns ! (rep ! 192 (float-lit ! tt)) (from ! (stop !)) (init ! 57 refl (array-lawful 𝓤 H A W f64 (float-lawful 𝓤 H A W binary64) 192 .typed (replicate 192 nought) (arrayVal (replicate 192 (vfloat binary64 nought)) ∷ []) (repeat-is f64 nought (vfloat binary64 nought) nought-is 192) .0)) $ owned ! (Array f64 192) (Is (Array f64 192)) (array-makes 𝓤 H A W f64 (float-makes 𝓤 H A W binary64) 192) (replicate 192 nought) _ (repeat-is f64 nought (vfloat binary64 nought) nought-is 192) $ move ! (58 ∷ 0 ∷ []) $ lend-local ! tt (Array f64 192) refl (replicate 192 nought) (λ νupright δupright. 
-        assigns ! (rep ! 96 (false-lit !)) (from ! (stop !)) (init ! 58 refl (array-lawful 𝓤 H A W bool (bool-lawful 𝓤 H A W) 96 .typed (replicate 96 false) (arrayVal (replicate 96 (vbool false)) ∷ []) (repeat-is bool false (vbool false) refl 96) .0)) $ owned ! (Array bool 96) (Is (Array bool 96)) (array-makes 𝓤 H A W bool (bool-makes 𝓤 H A W) 96) (replicate 96 false) _ (repeat-is bool false (vbool false) refl 96) $ move ! (59 ∷ 0 ∷ []) $ lend-local ! tt (Array bool 96) refl (replicate 96 false) (λ νmask δmask. 
-        assigns ! (addr ! (from ! (fld ! refl (hop ! (look-in ! 66 (sub ! 0 refl (whole !))) (stop !))))) (from ! (stop !)) (init ! 53 refl (tt, tt)) $ 
-        assigns ! (agg ! (and-then ! (load ! (from ! (stop !)) (look ! 53 refl)) (and-then ! (load ! (from ! (fld ! refl (stop !))) (look-in ! 66 (sub ! 1 refl (whole !)))) (no-more !)))) (from ! (stop !)) (init ! 51 refl (tt, (tt, (record { fits = fitcommands .0 }, tt)))) $ 
-        assigns ! (addr ! (from ! (fld ! refl (hop ! (look-in ! 68 (sub ! 0 refl (whole !))) (stop !))))) (from ! (stop !)) (init ! 49 refl (tt, tt)) $ 
-        assigns ! (agg ! (and-then ! (load ! (from ! (stop !)) (look ! 49 refl)) (and-then ! (load ! (from ! (fld ! refl (stop !))) (look-in ! 68 (sub ! 1 refl (whole !)))) (no-more !)))) (from ! (stop !)) (init ! 47 refl (tt, (tt, (record { fits = fitstems .0 }, tt)))) $ 
+        alloc1 ! (λ l₀. alloc1 ! (λ l₁. alloc1 ! (λ l₂. alloc1 ! (λ l₃. alloc1 ! (λ l₄. alloc1 ! (λ l₅. alloc1 ! (λ l₆. alloc1 ! (λ l₇. alloc1 ! (λ l₈. alloc1 ! (λ l₉. alloc1 ! (λ l₁₀. alloc1 ! (λ l₁₁. alloc1 ! (λ l₁₂. alloc1 ! (λ l₁₃. alloc1 ! (λ l₁₄. alloc1 ! (λ l₁₅. alloc1 ! (λ l₁₆. alloc1 ! (λ l₁₇. alloc1 ! (λ l₁₈. alloc1 ! (λ l₁₉. alloc1 ! (λ l₂₀. alloc1 ! (λ l₂₁. alloc1 ! (λ l₂₂. alloc1 ! (λ l₂₃. alloc1 ! (λ l₂₄. alloc1 ! (λ l₂₅. alloc1 ! (λ l₂₆. alloc1 ! (λ l₂₇. alloc1 ! (λ l₂₈. alloc1 ! (λ l₂₉. alloc1 ! (λ l₃₀. alloc1 ! (λ l₃₁. alloc0 ! $ params1 ! $
+        pass1 ! (init ! 60 refl (tt, (tt, (record { fits = fitcharstring .0 }, tt)))) $ pass1 ! (init ! 58 refl (tt, (tt, (record { fits = fitbank .0 }, tt)))) $ pass1 ! (init ! 56 refl (tt, record { fits = iv-fits })) $ pass1 ! (init ! 54 refl (typedZ 𝓤 H A W m _ m-fits)) $ pass1 ! (init ! 52 refl (tt, (tt, (record { fits = fitstems .0 }, tt)))) $ pass1 ! (init ! 50 refl (tt, (tt, (record { fits = fitcommands .0 }, tt)))) $ pass1 ! (init ! 48 refl (tt, (tt, (record { fits = fitout .0 }, tt)))) $ pass0 ! $ move ! (65 ∷ []) $ fsplit ! $ move ! (1 ∷ []) $ fsplit ! $ move ! (1 ∷ []) $ fsplit ! $ drop ! $ fsplit ! $ drop ! $ fsplit ! $ move ! (1 ∷ []) $ fsplit ! $ move ! (1 ∷ []) $ fsplit ! $ move ! (1 ∷ []) $ drop ! $ move ! (69 ∷ []) $ split ! $ move ! (1 ∷ []) $ split ! $ move ! (1 ∷ []) $ split ! $ move ! (1 ∷ []) $ split ! $ move ! (1 ∷ []) $ split ! $ move ! (1 ∷ []) $ drop ! $ move ! (9 ∷ 4 ∷ 8 ∷ 3 ∷ 7 ∷ 2 ∷ 6 ∷ 1 ∷ 5 ∷ 0 ∷ []) $
+        assigns ! (rep ! 192 (float-lit ! tt)) (from ! (stop !)) (init ! 56 refl (array-lawful 𝓤 H A W f64 (float-lawful 𝓤 H A W binary64) 192 .typed (replicate 192 nought) (arrayVal (replicate 192 (vfloat binary64 nought)) ∷ []) (repeat-is f64 nought (vfloat binary64 nought) nought-is 192) .0)) $ owned ! (Array f64 192) (Is (Array f64 192)) (array-makes 𝓤 H A W f64 (float-makes 𝓤 H A W binary64) 192) (replicate 192 nought) _ (repeat-is f64 nought (vfloat binary64 nought) nought-is 192) $ move ! (57 ∷ 0 ∷ []) $ lend-local ! tt (Array f64 192) refl (replicate 192 nought) (λ νacross δacross.
+        assigns ! (rep ! 192 (float-lit ! tt)) (from ! (stop !)) (init ! 57 refl (array-lawful 𝓤 H A W f64 (float-lawful 𝓤 H A W binary64) 192 .typed (replicate 192 nought) (arrayVal (replicate 192 (vfloat binary64 nought)) ∷ []) (repeat-is f64 nought (vfloat binary64 nought) nought-is 192) .0)) $ owned ! (Array f64 192) (Is (Array f64 192)) (array-makes 𝓤 H A W f64 (float-makes 𝓤 H A W binary64) 192) (replicate 192 nought) _ (repeat-is f64 nought (vfloat binary64 nought) nought-is 192) $ move ! (58 ∷ 0 ∷ []) $ lend-local ! tt (Array f64 192) refl (replicate 192 nought) (λ νupright δupright.
+        assigns ! (rep ! 96 (false-lit !)) (from ! (stop !)) (init ! 58 refl (array-lawful 𝓤 H A W bool (bool-lawful 𝓤 H A W) 96 .typed (replicate 96 false) (arrayVal (replicate 96 (vbool false)) ∷ []) (repeat-is bool false (vbool false) refl 96) .0)) $ owned ! (Array bool 96) (Is (Array bool 96)) (array-makes 𝓤 H A W bool (bool-makes 𝓤 H A W) 96) (replicate 96 false) _ (repeat-is bool false (vbool false) refl 96) $ move ! (59 ∷ 0 ∷ []) $ lend-local ! tt (Array bool 96) refl (replicate 96 false) (λ νmask δmask.
+        assigns ! (addr ! (from ! (fld ! refl (hop ! (look-in ! 66 (sub ! 0 refl (whole !))) (stop !))))) (from ! (stop !)) (init ! 53 refl (tt, tt)) $
+        assigns ! (agg ! (and-then ! (load ! (from ! (stop !)) (look ! 53 refl)) (and-then ! (load ! (from ! (fld ! refl (stop !))) (look-in ! 66 (sub ! 1 refl (whole !)))) (no-more !)))) (from ! (stop !)) (init ! 51 refl (tt, (tt, (record { fits = fitcommands .0 }, tt)))) $
+        assigns ! (addr ! (from ! (fld ! refl (hop ! (look-in ! 68 (sub ! 0 refl (whole !))) (stop !))))) (from ! (stop !)) (init ! 49 refl (tt, tt)) $
+        assigns ! (agg ! (and-then ! (load ! (from ! (stop !)) (look ! 49 refl)) (and-then ! (load ! (from ! (fld ! refl (stop !))) (look-in ! 68 (sub ! 1 refl (whole !)))) (no-more !)))) (from ! (stop !)) (init ! 47 refl (tt, (tt, (record { fits = fitstems .0 }, tt)))) $
         -- `run_charstring`
-        move ! (9 ∷ []) $ use1 W (‵ (ShrSlice (named 0) κcharstring u8 .own xcharstring (sliceVal (xcharstring .ptr) (length (xcharstring .now)) ∷ [])) ⊛ ‵ (ShrSlice (named 0) κcharstring u8 .own xcharstring (sliceVal (xcharstring .ptr) (length (xcharstring .now)) ∷ []))) (shr-slice-copy 𝓤 H A W (named 0) κcharstring u8 .twice xcharstring (sliceVal (xcharstring .ptr) (length (xcharstring .now)) ∷ [])) $ split ! $ move ! (11 ∷ 1 ∷ []) $ join ! $ move ! (11 ∷ []) $ use1 W (‵ (ShrSlice (named 0) κbank u8 .own xbank (sliceVal (xbank .ptr) (length (xbank .now)) ∷ [])) ⊛ ‵ (ShrSlice (named 0) κbank u8 .own xbank (sliceVal (xbank .ptr) (length (xbank .now)) ∷ []))) (shr-slice-copy 𝓤 H A W (named 0) κbank u8 .twice xbank (sliceVal (xbank .ptr) (length (xbank .now)) ∷ [])) $ split ! $ move ! (13 ∷ 1 ∷ []) $ join ! $ move ! (15 ∷ 16 ∷ []) $ lend ! tt u64 mcommands bcommands ocommands yscommands (refl) (λ νcommands1 δcommands1. move ! (15 ∷ 16 ∷ []) $ lend ! tt T.the-row mstems bstems ostems ysstems (refl) (λ νstems1 δstems1. move ! (2 ∷ 0 ∷ []) $ join ! $ move ! (3 ∷ 0 ∷ []) $ join ! $ move ! (4 ∷ 0 ∷ []) $ join ! $ asks-all ! fm I.the-row (Is I.the-row) (shows 𝓤 H A I.the-row) (Unit {0} × (Unit {0} × (Unit {0} × (List ℕ × (List Stem × Unit {0}))))) (λ (r : I.the-row .Denot) (lasts : (Unit {0} × (Unit {0} × (Unit {0} × (List ℕ × (List Stem × Unit {0})))))). Leaves r (lasts .1 .1 .1 .0) (lasts .1 .1 .1 .1 .0) yscommands ysstems (outcome (xcharstring .now) (xbank .now) iv (length ysstems) (length yscommands))) (λ (lasts : (Unit {0} × (Unit {0} × (Unit {0} × (List ℕ × (List Stem × Unit {0})))))). (fsep ftrue (fsep ftrue (fsep ftrue (fsep (fsep (finally u64 δcommands1 (lasts .1 .1 .1 .0)) (feq ℕ (length (lasts .1 .1 .1 .0)) (length yscommands))) (fsep (fsep (finally T.the-row δstems1 (lasts .1 .1 .1 .1 .0)) (feq ℕ (length (lasts .1 .1 .1 .1 .0)) (length ysstems))) ftrue)))))) (‵ (flft κcharstring qcharstring) ⊛ (‵ (flft κbank qbank) ⊛ (‵ (flft (νcommands1 ∷ []) fullShare) ⊛ (‵ (flft (νstems1 ∷ []) fullShare) ⊛ ‵ ftrue)))) ((‵ (flft κcharstring qcharstring) ⊛ ‵ (ShrSlice (named 0) κcharstring u8 .own xcharstring (sliceVal (xcharstring .ptr) (length (xcharstring .now)) ∷ []))) ⊛ ((‵ (flft κbank qbank) ⊛ ‵ (ShrSlice (named 0) κbank u8 .own xbank (sliceVal (xbank .ptr) (length (xbank .now)) ∷ []))) ⊛ ((‵ (flft (νcommands1 ∷ []) fullShare) ⊛ ‵ (Own u64 mcommands bcommands ocommands (νcommands1 ∷ []) δcommands1 yscommands)) ⊛ (‵ (flft (νstems1 ∷ []) fullShare) ⊛ ‵ (Own T.the-row mstems bstems ostems (νstems1 ∷ []) δstems1 ysstems))))) (sliceVal (xcharstring .ptr) (length (xcharstring .now)) ∷ sliceVal (xbank .ptr) (length (xbank .now)) ∷ vint w64 iv ∷ sliceVal (bcommands, ocommands) mcommands ∷ sliceVal (bstems, ostems) mstems ∷ []) (run-charstring-as 𝓤 H A mem run′ W C known-run-charstring κcharstring qcharstring xcharstring κbank qbank xbank (νcommands1 ∷ []) fullShare mcommands bcommands ocommands δcommands1 yscommands (νstems1 ∷ []) fullShare mstems bstems ostems δstems1 ysstems (iv) (iv-fits) ) (and-then ! (load ! (from ! (stop !)) (look ! 73 refl)) (and-then ! (load ! (from ! (stop !)) (look ! 71 refl)) (and-then ! (load ! (from ! (stop !)) (look ! 69 refl)) (and-then ! (load ! (from ! (stop !)) (look ! 48 refl)) (and-then ! (load ! (from ! (stop !)) (look ! 44 refl)) (no-more !)))))) (λ w1 r1 zs1 e1 is1. land ! (from ! (stop !)) (init ! 58 refl (typedI 𝓤 H A W r1 _ is1)) $ rewrite ! 58 (λ (u : Val). ‵ (fat fullShare tIt l₁₁ 0 u)) (ap only (LL.tells I.the-type I′.the-laws r1 (w1 ∷ []) is1)) refl $ drop ! $ split ! $ move ! (1 ∷ []) $ split ! $ move ! (1 ∷ []) $ split ! $ move ! (1 ∷ []) $ split ! $ move ! (1 ∷ []) $ drop ! $ move ! (4 ∷ []) $ fsplit ! $ drop ! $ fsplit ! $ drop ! $ fsplit ! $ drop ! $ fsplit ! $ fsplit ! $ move ! (1 ∷ []) $ feqL ! (λ lcommands1. move ! (1 ∷ []) $ fsplit ! $ fsplit ! $ move ! (1 ∷ []) $ feqL ! (λ lstems1. move ! (1 ∷ []) $ drop ! $ 
+        move ! (9 ∷ []) $ use1 W (‵ (ShrSlice (named 0) κcharstring u8 .own xcharstring (sliceVal (xcharstring .ptr) (length (xcharstring .now)) ∷ [])) ⊛ ‵ (ShrSlice (named 0) κcharstring u8 .own xcharstring (sliceVal (xcharstring .ptr) (length (xcharstring .now)) ∷ []))) (shr-slice-copy 𝓤 H A W (named 0) κcharstring u8 .twice xcharstring (sliceVal (xcharstring .ptr) (length (xcharstring .now)) ∷ [])) $ split ! $ move ! (11 ∷ 1 ∷ []) $ join ! $ move ! (11 ∷ []) $ use1 W (‵ (ShrSlice (named 0) κbank u8 .own xbank (sliceVal (xbank .ptr) (length (xbank .now)) ∷ [])) ⊛ ‵ (ShrSlice (named 0) κbank u8 .own xbank (sliceVal (xbank .ptr) (length (xbank .now)) ∷ []))) (shr-slice-copy 𝓤 H A W (named 0) κbank u8 .twice xbank (sliceVal (xbank .ptr) (length (xbank .now)) ∷ [])) $ split ! $ move ! (13 ∷ 1 ∷ []) $ join ! $ move ! (15 ∷ 16 ∷ []) $ lend ! tt u64 mcommands bcommands ocommands yscommands (refl) (λ νcommands1 δcommands1. move ! (15 ∷ 16 ∷ []) $ lend ! tt T.the-row mstems bstems ostems ysstems (refl) (λ νstems1 δstems1. move ! (2 ∷ 0 ∷ []) $ join ! $ move ! (3 ∷ 0 ∷ []) $ join ! $ move ! (4 ∷ 0 ∷ []) $ join ! $ asks-all ! fm I.the-row (Is I.the-row) (shows 𝓤 H A I.the-row) (Unit {0} × (Unit {0} × (Unit {0} × (List ℕ × (List Stem × Unit {0}))))) (λ (r : I.the-row .Denot) (lasts : (Unit {0} × (Unit {0} × (Unit {0} × (List ℕ × (List Stem × Unit {0})))))). Leaves r (lasts .1 .1 .1 .0) (lasts .1 .1 .1 .1 .0) yscommands ysstems (outcome (xcharstring .now) (xbank .now) iv (length ysstems) (length yscommands))) (λ (lasts : (Unit {0} × (Unit {0} × (Unit {0} × (List ℕ × (List Stem × Unit {0})))))). (fsep ftrue (fsep ftrue (fsep ftrue (fsep (fsep (finally u64 δcommands1 (lasts .1 .1 .1 .0)) (feq ℕ (length (lasts .1 .1 .1 .0)) (length yscommands))) (fsep (fsep (finally T.the-row δstems1 (lasts .1 .1 .1 .1 .0)) (feq ℕ (length (lasts .1 .1 .1 .1 .0)) (length ysstems))) ftrue)))))) (‵ (flft κcharstring qcharstring) ⊛ (‵ (flft κbank qbank) ⊛ (‵ (flft (νcommands1 ∷ []) fullShare) ⊛ (‵ (flft (νstems1 ∷ []) fullShare) ⊛ ‵ ftrue)))) ((‵ (flft κcharstring qcharstring) ⊛ ‵ (ShrSlice (named 0) κcharstring u8 .own xcharstring (sliceVal (xcharstring .ptr) (length (xcharstring .now)) ∷ []))) ⊛ ((‵ (flft κbank qbank) ⊛ ‵ (ShrSlice (named 0) κbank u8 .own xbank (sliceVal (xbank .ptr) (length (xbank .now)) ∷ []))) ⊛ ((‵ (flft (νcommands1 ∷ []) fullShare) ⊛ ‵ (Own u64 mcommands bcommands ocommands (νcommands1 ∷ []) δcommands1 yscommands)) ⊛ (‵ (flft (νstems1 ∷ []) fullShare) ⊛ ‵ (Own T.the-row mstems bstems ostems (νstems1 ∷ []) δstems1 ysstems))))) (sliceVal (xcharstring .ptr) (length (xcharstring .now)) ∷ sliceVal (xbank .ptr) (length (xbank .now)) ∷ vint w64 iv ∷ sliceVal (bcommands, ocommands) mcommands ∷ sliceVal (bstems, ostems) mstems ∷ []) (run-charstring-as 𝓤 H A mem run′ W C known-run-charstring κcharstring qcharstring xcharstring κbank qbank xbank (νcommands1 ∷ []) fullShare mcommands bcommands ocommands δcommands1 yscommands (νstems1 ∷ []) fullShare mstems bstems ostems δstems1 ysstems (iv) (iv-fits)) (and-then ! (load ! (from ! (stop !)) (look ! 73 refl)) (and-then ! (load ! (from ! (stop !)) (look ! 71 refl)) (and-then ! (load ! (from ! (stop !)) (look ! 69 refl)) (and-then ! (load ! (from ! (stop !)) (look ! 48 refl)) (and-then ! (load ! (from ! (stop !)) (look ! 44 refl)) (no-more !)))))) (λ w1 r1 zs1 e1 is1. land ! (from ! (stop !)) (init ! 58 refl (typedI 𝓤 H A W r1 _ is1)) $ rewrite ! 58 (λ (u : Val). ‵ (fat fullShare tIt l₁₁ 0 u)) (ap only (LL.tells I.the-type I′.the-laws r1 (w1 ∷ []) is1)) refl $ drop ! $ split ! $ move ! (1 ∷ []) $ split ! $ move ! (1 ∷ []) $ split ! $ move ! (1 ∷ []) $ split ! $ move ! (1 ∷ []) $ drop ! $ move ! (4 ∷ []) $ fsplit ! $ drop ! $ fsplit ! $ drop ! $ fsplit ! $ drop ! $ fsplit ! $ fsplit ! $ move ! (1 ∷ []) $ feqL ! (λ lcommands1. move ! (1 ∷ []) $ fsplit ! $ fsplit ! $ move ! (1 ∷ []) $ feqL ! (λ lstems1. move ! (1 ∷ []) $ drop ! $
         move ! (3 ∷ 7 ∷ 1 ∷ []) $ returned ! tt u64 mcommands bcommands ocommands νcommands1 δcommands1 yscommands (zs1 .1 .1 .1 .0) (refl) lcommands1 fitcommands (move ! (3 ∷ 6 ∷ 2 ∷ []) $ returned ! tt T.the-row mstems bstems ostems νstems1 δstems1 ysstems (zs1 .1 .1 .1 .1 .0) (refl) lstems1 fitstems (
         -- `first_number`
-        nothing ! $ asks-all ! fm u64 (Is u64) (shows 𝓤 H A u64) (Unit {0} × (Unit {0} × Unit {0})) (λ (r : u64 .Denot) (lasts : (Unit {0} × (Unit {0} × Unit {0}))). r ≡ firstNumber m (r1 .number)) (λ (lasts : (Unit {0} × (Unit {0} × Unit {0}))). (fsep ftrue (fsep ftrue ftrue))) (‵ ftrue) (‵ ftrue) (machZ m ∷ vint w64 (r1 .number) ∷ []) (first-number-as 𝓤 H A mem run′ W C known-first-number  (m) ((r1 .number)) (m-fits) ((LL.owed I.the-type I′.the-laws r1 (w1 ∷ []) is1) .0 .1) ) (and-then ! (load ! (from ! (stop !)) (look ! 71 refl)) (and-then ! (load ! (from ! (fld ! refl (stop !))) (look-in ! 60 (sub ! 0 refl (whole !)))) (no-more !))) (λ w2 r2 zs2 e2 is2. land ! (from ! (stop !)) (init ! 60 refl (uint-lawful 𝓤 H A W w64 .typed r2 _ is2 .0)) $ rewrite ! 60 (λ (u : Val). ‵ (fat fullShare word l₁₂ 0 u)) (ap only (is2 .0)) refl $ drop ! $ drop ! $ fsplit ! $ drop ! $ fsplit ! $ drop ! $ drop ! $ 
-        
-        assigns ! (addr ! (from ! (fld ! refl (hop ! (look-in ! 68 (sub ! 0 refl (whole !))) (stop !))))) (from ! (stop !)) (init ! 45 refl (tt, tt)) $ 
-        assigns ! (agg ! (and-then ! (load ! (from ! (stop !)) (look ! 45 refl)) (and-then ! (load ! (from ! (fld ! refl (stop !))) (look-in ! 68 (sub ! 1 refl (whole !)))) (no-more !)))) (from ! (stop !)) (init ! 43 refl (tt, (tt, (record { fits = fitstems .0 }, tt)))) $ 
-        assigns ! (addr ! (from ! (fld ! refl (hop ! (look-in ! 66 (sub ! 0 refl (whole !))) (stop !))))) (from ! (stop !)) (init ! 41 refl (tt, tt)) $ 
-        assigns ! (agg ! (and-then ! (load ! (from ! (stop !)) (look ! 41 refl)) (and-then ! (load ! (from ! (fld ! refl (stop !))) (look-in ! 66 (sub ! 1 refl (whole !)))) (no-more !)))) (from ! (stop !)) (init ! 39 refl (tt, (tt, (record { fits = fitcommands .0 }, tt)))) $ 
-        assigns ! (addr ! (from ! (stop !))) (from ! (stop !)) (init ! 37 refl (tt, tt)) $ 
-        assigns ! (addr ! (from ! (stop !))) (from ! (stop !)) (init ! 35 refl (tt, tt)) $ 
-        assigns ! (addr ! (from ! (stop !))) (from ! (stop !)) (init ! 33 refl (tt, tt)) $ 
-        assigns ! (addr ! (from ! (fld ! refl (hop ! (look-in ! 64 (sub ! 0 refl (whole !))) (stop !))))) (from ! (stop !)) (init ! 31 refl (tt, tt)) $ 
-        assigns ! (agg ! (and-then ! (load ! (from ! (stop !)) (look ! 31 refl)) (and-then ! (load ! (from ! (fld ! refl (stop !))) (look-in ! 64 (sub ! 1 refl (whole !)))) (no-more !)))) (from ! (stop !)) (init ! 29 refl (tt, (tt, (record { fits = fitout .0 }, tt)))) $ 
+        nothing ! $ asks-all ! fm u64 (Is u64) (shows 𝓤 H A u64) (Unit {0} × (Unit {0} × Unit {0})) (λ (r : u64 .Denot) (lasts : (Unit {0} × (Unit {0} × Unit {0}))). r ≡ firstNumber m (r1 .number)) (λ (lasts : (Unit {0} × (Unit {0} × Unit {0}))). (fsep ftrue (fsep ftrue ftrue))) (‵ ftrue) (‵ ftrue) (machZ m ∷ vint w64 (r1 .number) ∷ []) (first-number-as 𝓤 H A mem run′ W C known-first-number (m) ((r1 .number)) (m-fits) ((LL.owed I.the-type I′.the-laws r1 (w1 ∷ []) is1) .0 .1)) (and-then ! (load ! (from ! (stop !)) (look ! 71 refl)) (and-then ! (load ! (from ! (fld ! refl (stop !))) (look-in ! 60 (sub ! 0 refl (whole !)))) (no-more !))) (λ w2 r2 zs2 e2 is2. land ! (from ! (stop !)) (init ! 60 refl (uint-lawful 𝓤 H A W w64 .typed r2 _ is2 .0)) $ rewrite ! 60 (λ (u : Val). ‵ (fat fullShare word l₁₂ 0 u)) (ap only (is2 .0)) refl $ drop ! $ drop ! $ fsplit ! $ drop ! $ fsplit ! $ drop ! $ drop ! $
+        assigns ! (addr ! (from ! (fld ! refl (hop ! (look-in ! 68 (sub ! 0 refl (whole !))) (stop !))))) (from ! (stop !)) (init ! 45 refl (tt, tt)) $
+        assigns ! (agg ! (and-then ! (load ! (from ! (stop !)) (look ! 45 refl)) (and-then ! (load ! (from ! (fld ! refl (stop !))) (look-in ! 68 (sub ! 1 refl (whole !)))) (no-more !)))) (from ! (stop !)) (init ! 43 refl (tt, (tt, (record { fits = fitstems .0 }, tt)))) $
+        assigns ! (addr ! (from ! (fld ! refl (hop ! (look-in ! 66 (sub ! 0 refl (whole !))) (stop !))))) (from ! (stop !)) (init ! 41 refl (tt, tt)) $
+        assigns ! (agg ! (and-then ! (load ! (from ! (stop !)) (look ! 41 refl)) (and-then ! (load ! (from ! (fld ! refl (stop !))) (look-in ! 66 (sub ! 1 refl (whole !)))) (no-more !)))) (from ! (stop !)) (init ! 39 refl (tt, (tt, (record { fits = fitcommands .0 }, tt)))) $
+        assigns ! (addr ! (from ! (stop !))) (from ! (stop !)) (init ! 37 refl (tt, tt)) $
+        assigns ! (addr ! (from ! (stop !))) (from ! (stop !)) (init ! 35 refl (tt, tt)) $
+        assigns ! (addr ! (from ! (stop !))) (from ! (stop !)) (init ! 33 refl (tt, tt)) $
+        assigns ! (addr ! (from ! (fld ! refl (hop ! (look-in ! 64 (sub ! 0 refl (whole !))) (stop !))))) (from ! (stop !)) (init ! 31 refl (tt, tt)) $
+        assigns ! (agg ! (and-then ! (load ! (from ! (stop !)) (look ! 31 refl)) (and-then ! (load ! (from ! (fld ! refl (stop !))) (look-in ! 64 (sub ! 1 refl (whole !)))) (no-more !)))) (from ! (stop !)) (init ! 29 refl (tt, (tt, (record { fits = fitout .0 }, tt)))) $
         -- `convert_run`
-        lend ! tt T.the-row mstems bstems ostems (zs1 .1 .1 .1 .1 .0) (lstems1) (λ νstems3 δstems3. move ! (2 ∷ 3 ∷ []) $ lend ! tt u64 mcommands bcommands ocommands (zs1 .1 .1 .1 .0) (lcommands1) (λ νcommands3 δcommands3. move ! (14 ∷ 15 ∷ []) $ lend-ref ! tt (Array f64 192) l₈ 0 (replicate 192 nought) (λ νacross3 δacross3. move ! (13 ∷ 14 ∷ []) $ lend-ref ! tt (Array f64 192) l₉ 0 (replicate 192 nought) (λ νupright3 δupright3. move ! (12 ∷ 13 ∷ []) $ lend-ref ! tt (Array bool 96) l₁₀ 0 (replicate 96 false) (λ νmask3 δmask3. move ! (17 ∷ 18 ∷ []) $ lend ! tt u8 mout bout oout ysout (refl) (λ νout3 δout3. move ! (2 ∷ 0 ∷ []) $ join ! $ move ! (3 ∷ 0 ∷ []) $ join ! $ move ! (4 ∷ 0 ∷ []) $ join ! $ move ! (5 ∷ 0 ∷ []) $ join ! $ move ! (6 ∷ 0 ∷ []) $ join ! $ asks-all ! fm G.the-row (Is G.the-row) (shows 𝓤 H A G.the-row) (Unit {0} × (Unit {0} × (Unit {0} × (List Stem × (List ℕ × (List Float × (List Float × (List Bool × (List ℕ × Unit {0}))))))))) (λ (r : G.the-row .Denot) (lasts : (Unit {0} × (Unit {0} × (Unit {0} × (List Stem × (List ℕ × (List Float × (List Float × (List Bool × (List ℕ × Unit {0})))))))))). (lasts .1 .1 .1 .0 ≡ (zs1 .1 .1 .1 .1 .0)) × ((lasts .1 .1 .1 .1 .0 ≡ (zs1 .1 .1 .1 .0)) × Answers (fromRun r2 m (length ysout) r1 (zs1 .1 .1 .1 .0) (zs1 .1 .1 .1 .1 .0)) (length ysout) r (lasts .1 .1 .1 .1 .1 .1 .1 .1 .0))) (λ (lasts : (Unit {0} × (Unit {0} × (Unit {0} × (List Stem × (List ℕ × (List Float × (List Float × (List Bool × (List ℕ × Unit {0})))))))))). (fsep ftrue (fsep ftrue (fsep ftrue (fsep (fsep (finally T.the-row δstems3 (lasts .1 .1 .1 .0)) (feq ℕ (length (lasts .1 .1 .1 .0)) (length (zs1 .1 .1 .1 .1 .0)))) (fsep (fsep (finally u64 δcommands3 (lasts .1 .1 .1 .1 .0)) (feq ℕ (length (lasts .1 .1 .1 .1 .0)) (length (zs1 .1 .1 .1 .0)))) (fsep (fres δacross3 ((Array f64 192) .coded .code (lasts .1 .1 .1 .1 .1 .0))) (fsep (fres δupright3 ((Array f64 192) .coded .code (lasts .1 .1 .1 .1 .1 .1 .0))) (fsep (fres δmask3 ((Array bool 96) .coded .code (lasts .1 .1 .1 .1 .1 .1 .1 .0))) (fsep (fsep (finally u8 δout3 (lasts .1 .1 .1 .1 .1 .1 .1 .1 .0)) (feq ℕ (length (lasts .1 .1 .1 .1 .1 .1 .1 .1 .0)) (length ysout))) ftrue)))))))))) (‵ (flft (νstems3 ∷ []) fullShare) ⊛ (‵ (flft (νcommands3 ∷ []) fullShare) ⊛ (‵ (flft (νacross3 ∷ []) fullShare) ⊛ (‵ (flft (νupright3 ∷ []) fullShare) ⊛ (‵ (flft (νmask3 ∷ []) fullShare) ⊛ (‵ (flft (νout3 ∷ []) fullShare) ⊛ ‵ ftrue)))))) ((‵ (flft (νstems3 ∷ []) fullShare) ⊛ ‵ (Own T.the-row mstems bstems ostems (νstems3 ∷ []) δstems3 (zs1 .1 .1 .1 .1 .0))) ⊛ ((‵ (flft (νcommands3 ∷ []) fullShare) ⊛ ‵ (Own u64 mcommands bcommands ocommands (νcommands3 ∷ []) δcommands3 (zs1 .1 .1 .1 .0))) ⊛ ((‵ (flft (νacross3 ∷ []) fullShare) ⊛ ‵ (OwnR (Array f64 192) l₈ 0 (νacross3 ∷ []) δacross3 (replicate 192 nought))) ⊛ ((‵ (flft (νupright3 ∷ []) fullShare) ⊛ ‵ (OwnR (Array f64 192) l₉ 0 (νupright3 ∷ []) δupright3 (replicate 192 nought))) ⊛ ((‵ (flft (νmask3 ∷ []) fullShare) ⊛ ‵ (OwnR (Array bool 96) l₁₀ 0 (νmask3 ∷ []) δmask3 (replicate 96 false))) ⊛ (‵ (flft (νout3 ∷ []) fullShare) ⊛ ‵ (Own u8 mout bout oout (νout3 ∷ []) δout3 ysout))))))) (machI r1 ∷ vint w64 r2 ∷ machZ m ∷ sliceVal (bstems, ostems) mstems ∷ sliceVal (bcommands, ocommands) mcommands ∷ vptr l₈ 0 ∷ vptr l₉ 0 ∷ vptr l₁₀ 0 ∷ sliceVal (bout, oout) mout ∷ []) (convert-run-as 𝓤 H A mem run′ W C known-convert-run (νstems3 ∷ []) fullShare mstems bstems ostems δstems3 (zs1 .1 .1 .1 .1 .0) (νcommands3 ∷ []) fullShare mcommands bcommands ocommands δcommands3 (zs1 .1 .1 .1 .0) (νacross3 ∷ []) fullShare l₈ 0 δacross3 (replicate 192 nought) (νupright3 ∷ []) fullShare l₉ 0 δupright3 (replicate 192 nought) (νmask3 ∷ []) fullShare l₁₀ 0 δmask3 (replicate 96 false) (νout3 ∷ []) fullShare mout bout oout δout3 ysout (r1) (r2) (m) (mineI r1 w1 is1) (is2 .1) (m-fits) (left-stored r1 (zs1 .1 .1 .1 .0) (zs1 .1 .1 .1 .1 .0) yscommands ysstems (outcome (xcharstring .now) (xbank .now) iv (length ysstems) (length yscommands)) e1, blank)) (and-then ! (load ! (from ! (stop !)) (look ! 54 refl)) (and-then ! (load ! (from ! (stop !)) (look ! 52 refl)) (and-then ! (load ! (from ! (stop !)) (look ! 65 refl)) (and-then ! (load ! (from ! (stop !)) (look ! 38 refl)) (and-then ! (load ! (from ! (stop !)) (look ! 34 refl)) (and-then ! (load ! (from ! (stop !)) (look ! 32 refl)) (and-then ! (load ! (from ! (stop !)) (look ! 30 refl)) (and-then ! (load ! (from ! (stop !)) (look ! 28 refl)) (and-then ! (load ! (from ! (stop !)) (look ! 24 refl)) (no-more !)))))))))) (λ w3 r3 zs3 e3 is3. land ! (from ! (stop !)) (init ! 52 refl (typedG 𝓤 H A W r3 _ is3)) $ rewrite ! 52 (λ (u : Val). ‵ (fat fullShare tGt l₁₃ 0 u)) (ap only (LL.tells G.the-type G′.the-laws r3 (w3 ∷ []) is3)) refl $ drop ! $ split ! $ move ! (1 ∷ []) $ split ! $ move ! (1 ∷ []) $ split ! $ move ! (1 ∷ []) $ split ! $ move ! (1 ∷ []) $ split ! $ move ! (1 ∷ []) $ split ! $ move ! (1 ∷ []) $ drop ! $ move ! (6 ∷ []) $ fsplit ! $ drop ! $ fsplit ! $ drop ! $ fsplit ! $ drop ! $ fsplit ! $ fsplit ! $ move ! (1 ∷ []) $ feqL ! (λ lstems3. move ! (1 ∷ []) $ fsplit ! $ fsplit ! $ move ! (1 ∷ []) $ feqL ! (λ lcommands3. move ! (1 ∷ []) $ fsplit ! $ move ! (1 ∷ []) $ fsplit ! $ move ! (1 ∷ []) $ fsplit ! $ move ! (1 ∷ []) $ fsplit ! $ fsplit ! $ move ! (1 ∷ []) $ feqL ! (λ lout3. move ! (1 ∷ []) $ drop ! $ 
+        lend ! tt T.the-row mstems bstems ostems (zs1 .1 .1 .1 .1 .0) (lstems1) (λ νstems3 δstems3. move ! (2 ∷ 3 ∷ []) $ lend ! tt u64 mcommands bcommands ocommands (zs1 .1 .1 .1 .0) (lcommands1) (λ νcommands3 δcommands3. move ! (14 ∷ 15 ∷ []) $ lend-ref ! tt (Array f64 192) l₈ 0 (replicate 192 nought) (λ νacross3 δacross3. move ! (13 ∷ 14 ∷ []) $ lend-ref ! tt (Array f64 192) l₉ 0 (replicate 192 nought) (λ νupright3 δupright3. move ! (12 ∷ 13 ∷ []) $ lend-ref ! tt (Array bool 96) l₁₀ 0 (replicate 96 false) (λ νmask3 δmask3. move ! (17 ∷ 18 ∷ []) $ lend ! tt u8 mout bout oout ysout (refl) (λ νout3 δout3. move ! (2 ∷ 0 ∷ []) $ join ! $ move ! (3 ∷ 0 ∷ []) $ join ! $ move ! (4 ∷ 0 ∷ []) $ join ! $ move ! (5 ∷ 0 ∷ []) $ join ! $ move ! (6 ∷ 0 ∷ []) $ join ! $ asks-all ! fm G.the-row (Is G.the-row) (shows 𝓤 H A G.the-row) (Unit {0} × (Unit {0} × (Unit {0} × (List Stem × (List ℕ × (List Float × (List Float × (List Bool × (List ℕ × Unit {0}))))))))) (λ (r : G.the-row .Denot) (lasts : (Unit {0} × (Unit {0} × (Unit {0} × (List Stem × (List ℕ × (List Float × (List Float × (List Bool × (List ℕ × Unit {0})))))))))). (lasts .1 .1 .1 .0 ≡ (zs1 .1 .1 .1 .1 .0)) × ((lasts .1 .1 .1 .1 .0 ≡ (zs1 .1 .1 .1 .0)) × Answers (fromRun r2 m (length ysout) r1 (zs1 .1 .1 .1 .0) (zs1 .1 .1 .1 .1 .0)) (length ysout) r (lasts .1 .1 .1 .1 .1 .1 .1 .1 .0))) (λ (lasts : (Unit {0} × (Unit {0} × (Unit {0} × (List Stem × (List ℕ × (List Float × (List Float × (List Bool × (List ℕ × Unit {0})))))))))). (fsep ftrue (fsep ftrue (fsep ftrue (fsep (fsep (finally T.the-row δstems3 (lasts .1 .1 .1 .0)) (feq ℕ (length (lasts .1 .1 .1 .0)) (length (zs1 .1 .1 .1 .1 .0)))) (fsep (fsep (finally u64 δcommands3 (lasts .1 .1 .1 .1 .0)) (feq ℕ (length (lasts .1 .1 .1 .1 .0)) (length (zs1 .1 .1 .1 .0)))) (fsep (fres δacross3 ((Array f64 192) .coded .code (lasts .1 .1 .1 .1 .1 .0))) (fsep (fres δupright3 ((Array f64 192) .coded .code (lasts .1 .1 .1 .1 .1 .1 .0))) (fsep (fres δmask3 ((Array bool 96) .coded .code (lasts .1 .1 .1 .1 .1 .1 .1 .0))) (fsep (fsep (finally u8 δout3 (lasts .1 .1 .1 .1 .1 .1 .1 .1 .0)) (feq ℕ (length (lasts .1 .1 .1 .1 .1 .1 .1 .1 .0)) (length ysout))) ftrue)))))))))) (‵ (flft (νstems3 ∷ []) fullShare) ⊛ (‵ (flft (νcommands3 ∷ []) fullShare) ⊛ (‵ (flft (νacross3 ∷ []) fullShare) ⊛ (‵ (flft (νupright3 ∷ []) fullShare) ⊛ (‵ (flft (νmask3 ∷ []) fullShare) ⊛ (‵ (flft (νout3 ∷ []) fullShare) ⊛ ‵ ftrue)))))) ((‵ (flft (νstems3 ∷ []) fullShare) ⊛ ‵ (Own T.the-row mstems bstems ostems (νstems3 ∷ []) δstems3 (zs1 .1 .1 .1 .1 .0))) ⊛ ((‵ (flft (νcommands3 ∷ []) fullShare) ⊛ ‵ (Own u64 mcommands bcommands ocommands (νcommands3 ∷ []) δcommands3 (zs1 .1 .1 .1 .0))) ⊛ ((‵ (flft (νacross3 ∷ []) fullShare) ⊛ ‵ (OwnR (Array f64 192) l₈ 0 (νacross3 ∷ []) δacross3 (replicate 192 nought))) ⊛ ((‵ (flft (νupright3 ∷ []) fullShare) ⊛ ‵ (OwnR (Array f64 192) l₉ 0 (νupright3 ∷ []) δupright3 (replicate 192 nought))) ⊛ ((‵ (flft (νmask3 ∷ []) fullShare) ⊛ ‵ (OwnR (Array bool 96) l₁₀ 0 (νmask3 ∷ []) δmask3 (replicate 96 false))) ⊛ (‵ (flft (νout3 ∷ []) fullShare) ⊛ ‵ (Own u8 mout bout oout (νout3 ∷ []) δout3 ysout))))))) (machI r1 ∷ vint w64 r2 ∷ machZ m ∷ sliceVal (bstems, ostems) mstems ∷ sliceVal (bcommands, ocommands) mcommands ∷ vptr l₈ 0 ∷ vptr l₉ 0 ∷ vptr l₁₀ 0 ∷ sliceVal (bout, oout) mout ∷ []) (convert-run-as 𝓤 H A mem run′ W C known-convert-run (νstems3 ∷ []) fullShare mstems bstems ostems δstems3 (zs1 .1 .1 .1 .1 .0) (νcommands3 ∷ []) fullShare mcommands bcommands ocommands δcommands3 (zs1 .1 .1 .1 .0) (νacross3 ∷ []) fullShare l₈ 0 δacross3 (replicate 192 nought) (νupright3 ∷ []) fullShare l₉ 0 δupright3 (replicate 192 nought) (νmask3 ∷ []) fullShare l₁₀ 0 δmask3 (replicate 96 false) (νout3 ∷ []) fullShare mout bout oout δout3 ysout (r1) (r2) (m) (mineI r1 w1 is1) (is2 .1) (m-fits) (left-stored r1 (zs1 .1 .1 .1 .0) (zs1 .1 .1 .1 .1 .0) yscommands ysstems (outcome (xcharstring .now) (xbank .now) iv (length ysstems) (length yscommands)) e1, blank)) (and-then ! (load ! (from ! (stop !)) (look ! 54 refl)) (and-then ! (load ! (from ! (stop !)) (look ! 52 refl)) (and-then ! (load ! (from ! (stop !)) (look ! 65 refl)) (and-then ! (load ! (from ! (stop !)) (look ! 38 refl)) (and-then ! (load ! (from ! (stop !)) (look ! 34 refl)) (and-then ! (load ! (from ! (stop !)) (look ! 32 refl)) (and-then ! (load ! (from ! (stop !)) (look ! 30 refl)) (and-then ! (load ! (from ! (stop !)) (look ! 28 refl)) (and-then ! (load ! (from ! (stop !)) (look ! 24 refl)) (no-more !)))))))))) (λ w3 r3 zs3 e3 is3. land ! (from ! (stop !)) (init ! 52 refl (typedG 𝓤 H A W r3 _ is3)) $ rewrite ! 52 (λ (u : Val). ‵ (fat fullShare tGt l₁₃ 0 u)) (ap only (LL.tells G.the-type G′.the-laws r3 (w3 ∷ []) is3)) refl $ drop ! $ split ! $ move ! (1 ∷ []) $ split ! $ move ! (1 ∷ []) $ split ! $ move ! (1 ∷ []) $ split ! $ move ! (1 ∷ []) $ split ! $ move ! (1 ∷ []) $ split ! $ move ! (1 ∷ []) $ drop ! $ move ! (6 ∷ []) $ fsplit ! $ drop ! $ fsplit ! $ drop ! $ fsplit ! $ drop ! $ fsplit ! $ fsplit ! $ move ! (1 ∷ []) $ feqL ! (λ lstems3. move ! (1 ∷ []) $ fsplit ! $ fsplit ! $ move ! (1 ∷ []) $ feqL ! (λ lcommands3. move ! (1 ∷ []) $ fsplit ! $ move ! (1 ∷ []) $ fsplit ! $ move ! (1 ∷ []) $ fsplit ! $ move ! (1 ∷ []) $ fsplit ! $ fsplit ! $ move ! (1 ∷ []) $ feqL ! (λ lout3. move ! (1 ∷ []) $ drop ! $
         move ! (11 ∷ 17 ∷ 5 ∷ []) $ returned ! tt T.the-row mstems bstems ostems νstems3 δstems3 (zs1 .1 .1 .1 .1 .0) (zs3 .1 .1 .1 .0) (lstems1) lstems3 fitstems (move ! (11 ∷ 16 ∷ 6 ∷ []) $ returned ! tt u64 mcommands bcommands ocommands νcommands3 δcommands3 (zs1 .1 .1 .1 .0) (zs3 .1 .1 .1 .1 .0) (lcommands1) lcommands3 fitcommands (move ! (11 ∷ 15 ∷ 7 ∷ []) $ returned-ref ! tt (Array f64 192) l₈ 0 νacross3 δacross3 (replicate 192 nought) (zs3 .1 .1 .1 .1 .1 .0) (move ! (11 ∷ 14 ∷ 8 ∷ []) $ returned-ref ! tt (Array f64 192) l₉ 0 νupright3 δupright3 (replicate 192 nought) (zs3 .1 .1 .1 .1 .1 .1 .0) (move ! (11 ∷ 13 ∷ 9 ∷ []) $ returned-ref ! tt (Array bool 96) l₁₀ 0 νmask3 δmask3 (replicate 96 false) (zs3 .1 .1 .1 .1 .1 .1 .1 .0) (move ! (11 ∷ 12 ∷ 10 ∷ []) $ returned ! tt u8 mout bout oout νout3 δout3 ysout (zs3 .1 .1 .1 .1 .1 .1 .1 .1 .0) (refl) lout3 fitout (
-        assigns ! (addr ! (from ! (fld ! refl (hop ! (look-in ! 68 (sub ! 0 refl (whole !))) (stop !))))) (from ! (stop !)) (init ! 25 refl (tt, tt)) $ 
-        assigns ! (agg ! (and-then ! (load ! (from ! (stop !)) (look ! 25 refl)) (and-then ! (load ! (from ! (fld ! refl (stop !))) (look-in ! 68 (sub ! 1 refl (whole !)))) (no-more !)))) (from ! (stop !)) (init ! 23 refl (tt, (tt, (record { fits = fitstems .0 }, tt)))) $ 
+        assigns ! (addr ! (from ! (fld ! refl (hop ! (look-in ! 68 (sub ! 0 refl (whole !))) (stop !))))) (from ! (stop !)) (init ! 25 refl (tt, tt)) $
+        assigns ! (agg ! (and-then ! (load ! (from ! (stop !)) (look ! 25 refl)) (and-then ! (load ! (from ! (fld ! refl (stop !))) (look-in ! 68 (sub ! 1 refl (whole !)))) (no-more !)))) (from ! (stop !)) (init ! 23 refl (tt, (tt, (record { fits = fitstems .0 }, tt)))) $
         -- `wipe`
-        move ! (10 ∷ 11 ∷ []) $ lend ! tt T.the-row mstems bstems ostems (zs3 .1 .1 .1 .0) (lstems3 ∙ lstems1) (λ νstems4 δstems4. asks-all ! fm Nothing (Is Nothing) (shows 𝓤 H A Nothing) (List Stem × Unit {0}) (λ (r : Nothing .Denot) (lasts : (List Stem × Unit {0})). lasts .0 ≡ replicate (length (zs3 .1 .1 .1 .0)) zeroStem) (λ (lasts : (List Stem × Unit {0})). (fsep (fsep (finally T.the-row δstems4 (lasts .0)) (feq ℕ (length (lasts .0)) (length (zs3 .1 .1 .1 .0)))) ftrue)) (‵ (flft (νstems4 ∷ []) fullShare) ⊛ ‵ ftrue) (‵ (flft (νstems4 ∷ []) fullShare) ⊛ ‵ (Own T.the-row mstems bstems ostems (νstems4 ∷ []) δstems4 (zs3 .1 .1 .1 .0))) (sliceVal (bstems, ostems) mstems ∷ []) (wipe-as 𝓤 H A mem run′ W C known-wipe (νstems4 ∷ []) fullShare mstems bstems ostems δstems4 (zs3 .1 .1 .1 .0)   ) (and-then ! (load ! (from ! (stop !)) (look ! 23 refl)) (no-more !)) (λ w4 r4 zs4 e4 is4. land ! (from ! (stop !)) (init ! 29 refl (nothing-lawful 𝓤 H A W .typed r4 _ is4 .0)) $ drop ! $ split ! $ move ! (1 ∷ []) $ drop ! $ move ! (1 ∷ []) $ fsplit ! $ fsplit ! $ move ! (1 ∷ []) $ feqL ! (λ lstems4. move ! (1 ∷ []) $ drop ! $ 
+        move ! (10 ∷ 11 ∷ []) $ lend ! tt T.the-row mstems bstems ostems (zs3 .1 .1 .1 .0) (lstems3 ∙ lstems1) (λ νstems4 δstems4. asks-all ! fm Nothing (Is Nothing) (shows 𝓤 H A Nothing) (List Stem × Unit {0}) (λ (r : Nothing .Denot) (lasts : (List Stem × Unit {0})). lasts .0 ≡ replicate (length (zs3 .1 .1 .1 .0)) zeroStem) (λ (lasts : (List Stem × Unit {0})). (fsep (fsep (finally T.the-row δstems4 (lasts .0)) (feq ℕ (length (lasts .0)) (length (zs3 .1 .1 .1 .0)))) ftrue)) (‵ (flft (νstems4 ∷ []) fullShare) ⊛ ‵ ftrue) (‵ (flft (νstems4 ∷ []) fullShare) ⊛ ‵ (Own T.the-row mstems bstems ostems (νstems4 ∷ []) δstems4 (zs3 .1 .1 .1 .0))) (sliceVal (bstems, ostems) mstems ∷ []) (wipe-as 𝓤 H A mem run′ W C known-wipe (νstems4 ∷ []) fullShare mstems bstems ostems δstems4 (zs3 .1 .1 .1 .0)) (and-then ! (load ! (from ! (stop !)) (look ! 23 refl)) (no-more !)) (λ w4 r4 zs4 e4 is4. land ! (from ! (stop !)) (init ! 29 refl (nothing-lawful 𝓤 H A W .typed r4 _ is4 .0)) $ drop ! $ split ! $ move ! (1 ∷ []) $ drop ! $ move ! (1 ∷ []) $ fsplit ! $ fsplit ! $ move ! (1 ∷ []) $ feqL ! (λ lstems4. move ! (1 ∷ []) $ drop ! $
         move ! (1 ∷ 2 ∷ 0 ∷ []) $ returned ! tt T.the-row mstems bstems ostems νstems4 δstems4 (zs3 .1 .1 .1 .0) (zs4 .0) (lstems3 ∙ lstems1) lstems4 fitstems (
-        assigns ! (addr ! (from ! (fld ! refl (hop ! (look-in ! 66 (sub ! 0 refl (whole !))) (stop !))))) (from ! (stop !)) (init ! 21 refl (tt, tt)) $ 
-        assigns ! (agg ! (and-then ! (load ! (from ! (stop !)) (look ! 21 refl)) (and-then ! (load ! (from ! (fld ! refl (stop !))) (look-in ! 66 (sub ! 1 refl (whole !)))) (no-more !)))) (from ! (stop !)) (init ! 19 refl (tt, (tt, (record { fits = fitcommands .0 }, tt)))) $ 
+        assigns ! (addr ! (from ! (fld ! refl (hop ! (look-in ! 66 (sub ! 0 refl (whole !))) (stop !))))) (from ! (stop !)) (init ! 21 refl (tt, tt)) $
+        assigns ! (agg ! (and-then ! (load ! (from ! (stop !)) (look ! 21 refl)) (and-then ! (load ! (from ! (fld ! refl (stop !))) (look-in ! 66 (sub ! 1 refl (whole !)))) (no-more !)))) (from ! (stop !)) (init ! 19 refl (tt, (tt, (record { fits = fitcommands .0 }, tt)))) $
         -- `wipe_words`
-        move ! (10 ∷ 11 ∷ []) $ lend ! tt u64 mcommands bcommands ocommands (zs3 .1 .1 .1 .1 .0) (lcommands3 ∙ lcommands1) (λ νcommands5 δcommands5. asks-all ! fm Nothing (Is Nothing) (shows 𝓤 H A Nothing) (List ℕ × Unit {0}) (λ (r : Nothing .Denot) (lasts : (List ℕ × Unit {0})). lasts .0 ≡ replicate (length (zs3 .1 .1 .1 .1 .0)) 0) (λ (lasts : (List ℕ × Unit {0})). (fsep (fsep (finally u64 δcommands5 (lasts .0)) (feq ℕ (length (lasts .0)) (length (zs3 .1 .1 .1 .1 .0)))) ftrue)) (‵ (flft (νcommands5 ∷ []) fullShare) ⊛ ‵ ftrue) (‵ (flft (νcommands5 ∷ []) fullShare) ⊛ ‵ (Own u64 mcommands bcommands ocommands (νcommands5 ∷ []) δcommands5 (zs3 .1 .1 .1 .1 .0))) (sliceVal (bcommands, ocommands) mcommands ∷ []) (wipe-words-as 𝓤 H A mem run′ W C known-wipe-words (νcommands5 ∷ []) fullShare mcommands bcommands ocommands δcommands5 (zs3 .1 .1 .1 .1 .0)   ) (and-then ! (load ! (from ! (stop !)) (look ! 19 refl)) (no-more !)) (λ w5 r5 zs5 e5 is5. land ! (from ! (stop !)) (store ! 29 refl (nothing-lawful 𝓤 H A W .typed r5 _ is5 .0)) $ drop ! $ split ! $ move ! (1 ∷ []) $ drop ! $ move ! (1 ∷ []) $ fsplit ! $ fsplit ! $ move ! (1 ∷ []) $ feqL ! (λ lcommands5. move ! (1 ∷ []) $ drop ! $ 
+        move ! (10 ∷ 11 ∷ []) $ lend ! tt u64 mcommands bcommands ocommands (zs3 .1 .1 .1 .1 .0) (lcommands3 ∙ lcommands1) (λ νcommands5 δcommands5. asks-all ! fm Nothing (Is Nothing) (shows 𝓤 H A Nothing) (List ℕ × Unit {0}) (λ (r : Nothing .Denot) (lasts : (List ℕ × Unit {0})). lasts .0 ≡ replicate (length (zs3 .1 .1 .1 .1 .0)) 0) (λ (lasts : (List ℕ × Unit {0})). (fsep (fsep (finally u64 δcommands5 (lasts .0)) (feq ℕ (length (lasts .0)) (length (zs3 .1 .1 .1 .1 .0)))) ftrue)) (‵ (flft (νcommands5 ∷ []) fullShare) ⊛ ‵ ftrue) (‵ (flft (νcommands5 ∷ []) fullShare) ⊛ ‵ (Own u64 mcommands bcommands ocommands (νcommands5 ∷ []) δcommands5 (zs3 .1 .1 .1 .1 .0))) (sliceVal (bcommands, ocommands) mcommands ∷ []) (wipe-words-as 𝓤 H A mem run′ W C known-wipe-words (νcommands5 ∷ []) fullShare mcommands bcommands ocommands δcommands5 (zs3 .1 .1 .1 .1 .0)) (and-then ! (load ! (from ! (stop !)) (look ! 19 refl)) (no-more !)) (λ w5 r5 zs5 e5 is5. land ! (from ! (stop !)) (store ! 29 refl (nothing-lawful 𝓤 H A W .typed r5 _ is5 .0)) $ drop ! $ split ! $ move ! (1 ∷ []) $ drop ! $ move ! (1 ∷ []) $ fsplit ! $ fsplit ! $ move ! (1 ∷ []) $ feqL ! (λ lcommands5. move ! (1 ∷ []) $ drop ! $
         move ! (1 ∷ 2 ∷ 0 ∷ []) $ returned ! tt u64 mcommands bcommands ocommands νcommands5 δcommands5 (zs3 .1 .1 .1 .1 .0) (zs5 .0) (lcommands3 ∙ lcommands1) lcommands5 fitcommands (
-        assigns ! (of-opd ! (load ! (from ! (stop !)) (look ! 55 refl))) (from ! (stop !)) (init ! 78 refl (typedG 𝓤 H A W r3 _ (mineG r3 w3 is3))) $ move ! (10 ∷ 11 ∷ 18 ∷ []) $ local-back ! tt (Array f64 192) refl (zs3 .1 .1 .1 .1 .1 .0) (λ vacross. move ! (9 ∷ 10 ∷ 16 ∷ []) $ local-back ! tt (Array f64 192) refl (zs3 .1 .1 .1 .1 .1 .1 .0) (λ vupright. move ! (8 ∷ 9 ∷ 14 ∷ []) $ local-back ! tt (Array bool 96) refl (zs3 .1 .1 .1 .1 .1 .1 .1 .0) (λ vmask. owned ! G.the-row (Is G.the-row) (LL.makes G.the-type G′.the-plain 𝓤 H A) r3 _ (mineG r3 w3 is3) $ 
-        returns ! (look ! 73 refl) $ forget ! 73 refl $ forget ! 71 refl $ forget ! 69 refl $ forget ! 67 refl $ forget ! 65 refl $ forget ! 63 refl $ forget ! 61 refl $ forget ! 59 refl $ forget ! 3 refl $ forget ! 2 refl $ forget ! 1 refl $ forget ! 54 refl $ forget ! 52 refl $ forget ! 50 refl $ forget ! 48 refl $ forget ! 46 refl $ forget ! 44 refl $ forget ! 42 refl $ forget ! 40 refl $ forget ! 38 refl $ forget ! 36 refl $ forget ! 34 refl $ forget ! 32 refl $ forget ! 30 refl $ forget ! 28 refl $ forget ! 26 refl $ forget ! 24 refl $ forget ! 22 refl $ forget ! 20 refl $ forget ! 18 refl $ forget ! 16 refl $ forget ! 14 refl $ 
+        assigns ! (of-opd ! (load ! (from ! (stop !)) (look ! 55 refl))) (from ! (stop !)) (init ! 78 refl (typedG 𝓤 H A W r3 _ (mineG r3 w3 is3))) $ move ! (10 ∷ 11 ∷ 18 ∷ []) $ local-back ! tt (Array f64 192) refl (zs3 .1 .1 .1 .1 .1 .0) (λ vacross. move ! (9 ∷ 10 ∷ 16 ∷ []) $ local-back ! tt (Array f64 192) refl (zs3 .1 .1 .1 .1 .1 .1 .0) (λ vupright. move ! (8 ∷ 9 ∷ 14 ∷ []) $ local-back ! tt (Array bool 96) refl (zs3 .1 .1 .1 .1 .1 .1 .1 .0) (λ vmask. owned ! G.the-row (Is G.the-row) (LL.makes G.the-type G′.the-plain 𝓤 H A) r3 _ (mineG r3 w3 is3) $
+        returns ! (look ! 73 refl) $ forget ! 73 refl $ forget ! 71 refl $ forget ! 69 refl $ forget ! 67 refl $ forget ! 65 refl $ forget ! 63 refl $ forget ! 61 refl $ forget ! 59 refl $ forget ! 3 refl $ forget ! 2 refl $ forget ! 1 refl $ forget ! 54 refl $ forget ! 52 refl $ forget ! 50 refl $ forget ! 48 refl $ forget ! 46 refl $ forget ! 44 refl $ forget ! 42 refl $ forget ! 40 refl $ forget ! 38 refl $ forget ! 36 refl $ forget ! 34 refl $ forget ! 32 refl $ forget ! 30 refl $ forget ! 28 refl $ forget ! 26 refl $ forget ! 24 refl $ forget ! 22 refl $ forget ! 20 refl $ forget ! 18 refl $ forget ! 16 refl $ forget ! 14 refl $
         move ! (73 ∷ 74 ∷ []) $ free1 ! $ move ! (71 ∷ 72 ∷ []) $ free1 ! $ move ! (69 ∷ 70 ∷ []) $ free1 ! $ move ! (67 ∷ 68 ∷ []) $ free1 ! $ move ! (65 ∷ 66 ∷ []) $ free1 ! $ move ! (63 ∷ 64 ∷ []) $ free1 ! $ move ! (61 ∷ 62 ∷ []) $ free1 ! $ move ! (59 ∷ 60 ∷ []) $ free1 ! $ move ! (3 ∷ 58 ∷ []) $ free1 ! $ move ! (2 ∷ 56 ∷ []) $ free1 ! $ move ! (1 ∷ 54 ∷ []) $ free1 ! $ move ! (51 ∷ 52 ∷ []) $ free1 ! $ move ! (49 ∷ 50 ∷ []) $ free1 ! $ move ! (47 ∷ 48 ∷ []) $ free1 ! $ move ! (45 ∷ 46 ∷ []) $ free1 ! $ move ! (43 ∷ 44 ∷ []) $ free1 ! $ move ! (41 ∷ 42 ∷ []) $ free1 ! $ move ! (39 ∷ 40 ∷ []) $ free1 ! $ move ! (37 ∷ 38 ∷ []) $ free1 ! $ move ! (35 ∷ 36 ∷ []) $ free1 ! $ move ! (33 ∷ 34 ∷ []) $ free1 ! $ move ! (31 ∷ 32 ∷ []) $ free1 ! $ move ! (29 ∷ 30 ∷ []) $ free1 ! $ move ! (27 ∷ 28 ∷ []) $ free1 ! $ move ! (25 ∷ 26 ∷ []) $ free1 ! $ move ! (23 ∷ 24 ∷ []) $ free1 ! $ move ! (21 ∷ 22 ∷ []) $ free1 ! $ move ! (19 ∷ 20 ∷ []) $ free1 ! $ move ! (17 ∷ 18 ∷ []) $ free1 ! $ move ! (15 ∷ 16 ∷ []) $ free1 ! $ move ! (13 ∷ 14 ∷ []) $ free1 ! $ move ! (11 ∷ 12 ∷ []) $ free1 ! $ free0 ! $ keep ! (0 ∷ 10 ∷ 8 ∷ 9 ∷ 7 ∷ 3 ∷ 4 ∷ 1 ∷ 2 ∷ 5 ∷ 6 ∷ []) $ by ! (exits r3 (machG r3) (zs4 .0) (zs5 .0) (zs3 .1 .1 .1 .1 .1 .1 .1 .1 .0) (entry-answers (xcharstring .now) (xbank .now) iv m ysstems yscommands (length ysout) r1 (zs1 .1 .1 .1 .0) (zs1 .1 .1 .1 .1 .0) e1 r2 e2 r3 (zs3 .1 .1 .1 .0) (zs3 .1 .1 .1 .1 .0) (zs3 .1 .1 .1 .1 .1 .1 .1 .1 .0) (e3 .1 .1) (zs4 .0) (zs5 .0) (e4 ∙ ap (λ (k : ℕ). replicate k zeroStem) (lstems3 ∙ lstems1)) (e5 ∙ ap (λ (k : ℕ). replicate k 0) (lcommands3 ∙ lcommands1))) (lstems4 ∙ lstems3 ∙ lstems1) (lcommands5 ∙ lcommands3 ∙ lcommands1) (lout3))))))))))))))))))))))))))))))))))))))))))))))))))))))))))))))))))))))))
 
 module _ {M : Type 1} (𝓤 : URA M) (H : Heap 𝓤) (A : Atoms 𝓤) (W : Given 𝓤 H A) (mem : Memory → SProp 𝓤) (run′ : Routine → Fun 𝓤) where

@@ -228,56 +228,53 @@ module _ {M : Type 1} (𝓤 : URA M) (H : Heap 𝓤) (A : Atoms 𝓤) (W : Given
     pub walk : ent 𝓤 (onEntry 𝓤 H A f.signature (κstems, (κcommands, (κacross, (κupright, (κmask, (κout, tt)))))) (qstems, (qcommands, (qacross, (qupright, (qmask, (qout, tt)))))) a vals) (WpFn 𝓤 H C Λ code.function args Post)
     walk =
         qed W ((‵ (flft κstems qstems) ⊛ (‵ (flft κcommands qcommands) ⊛ (‵ (flft κacross qacross) ⊛ (‵ (flft κupright qupright) ⊛ (‵ (flft κmask qmask) ⊛ (‵ (flft κout qout) ⊛ ‵ ftrue)))))) ∷ ‵ (owns (I.the-row ∷ u64 ∷ Z.the-row ∷ MutSlice (named 0) κstems T.the-row ∷ MutSlice (named 1) κcommands u64 ∷ MutRef (named 2) κacross (Array f64 192) ∷ MutRef (named 3) κupright (Array f64 192) ∷ MutRef (named 4) κmask (Array bool 96) ∷ MutSlice (named 5) κout u8 ∷ []) a vals) ∷ []) ∵ enter ! C Λ code.function args _ $
-        alloc1 ! (λ l₀. alloc1 ! (λ l₁. alloc1 ! (λ l₂. alloc1 ! (λ l₃. alloc1 ! (λ l₄. alloc1 ! (λ l₅. alloc1 ! (λ l₆. alloc1 ! (λ l₇. alloc1 ! (λ l₈. alloc1 ! (λ l₉. alloc1 ! (λ l₁₀. alloc1 ! (λ l₁₁. alloc1 ! (λ l₁₂. alloc1 ! (λ l₁₃. alloc1 ! (λ l₁₄. alloc1 ! (λ l₁₅. alloc1 ! (λ l₁₆. alloc1 ! (λ l₁₇. alloc1 ! (λ l₁₈. alloc1 ! (λ l₁₉. alloc1 ! (λ l₂₀. alloc1 ! (λ l₂₁. alloc1 ! (λ l₂₂. alloc1 ! (λ l₂₃. alloc1 ! (λ l₂₄. alloc1 ! (λ l₂₅. alloc1 ! (λ l₂₆. alloc1 ! (λ l₂₇. alloc1 ! (λ l₂₈. alloc1 ! (λ l₂₉. alloc1 ! (λ l₃₀. alloc1 ! (λ l₃₁. alloc1 ! (λ l₃₂. alloc1 ! (λ l₃₃. alloc1 ! (λ l₃₄. alloc1 ! (λ l₃₅. alloc1 ! (λ l₃₆. alloc1 ! (λ l₃₇. alloc1 ! (λ l₃₈. alloc1 ! (λ l₃₉. alloc0 ! $ params1 ! $ 
-        pass1 ! (init ! 76 refl (typedI 𝓤 H A W ri _ ri-fits)) $ pass1 ! (init ! 74 refl (tt, record { fits = number-fits })) $ pass1 ! (init ! 72 refl (typedZ 𝓤 H A W m _ m-fits)) $ pass1 ! (init ! 70 refl (tt, (tt, (record { fits = fitstems .0 }, tt)))) $ pass1 ! (init ! 68 refl (tt, (tt, (record { fits = fitcommands .0 }, tt)))) $ pass1 ! (init ! 66 refl (tt, tt)) $ pass1 ! (init ! 64 refl (tt, tt)) $ pass1 ! (init ! 62 refl (tt, tt)) $ pass1 ! (init ! 60 refl (tt, (tt, (record { fits = fitout .0 }, tt)))) $ pass0 ! $ move ! (81 ∷ []) $ fsplit ! $ drop ! $ fsplit ! $ drop ! $ fsplit ! $ drop ! $ fsplit ! $ move ! (1 ∷ []) $ fsplit ! $ move ! (1 ∷ []) $ fsplit ! $ move ! (1 ∷ []) $ fsplit ! $ move ! (1 ∷ []) $ fsplit ! $ move ! (1 ∷ []) $ fsplit ! $ move ! (1 ∷ []) $ drop ! $ move ! (86 ∷ []) $ split ! $ move ! (1 ∷ []) $ split ! $ move ! (1 ∷ []) $ split ! $ move ! (1 ∷ []) $ split ! $ move ! (1 ∷ []) $ split ! $ move ! (1 ∷ []) $ split ! $ move ! (1 ∷ []) $ drop ! $ move ! (11 ∷ 5 ∷ 10 ∷ 4 ∷ 9 ∷ 3 ∷ 8 ∷ 2 ∷ 7 ∷ 1 ∷ 6 ∷ 0 ∷ []) $ 
+        alloc1 ! (λ l₀. alloc1 ! (λ l₁. alloc1 ! (λ l₂. alloc1 ! (λ l₃. alloc1 ! (λ l₄. alloc1 ! (λ l₅. alloc1 ! (λ l₆. alloc1 ! (λ l₇. alloc1 ! (λ l₈. alloc1 ! (λ l₉. alloc1 ! (λ l₁₀. alloc1 ! (λ l₁₁. alloc1 ! (λ l₁₂. alloc1 ! (λ l₁₃. alloc1 ! (λ l₁₄. alloc1 ! (λ l₁₅. alloc1 ! (λ l₁₆. alloc1 ! (λ l₁₇. alloc1 ! (λ l₁₈. alloc1 ! (λ l₁₉. alloc1 ! (λ l₂₀. alloc1 ! (λ l₂₁. alloc1 ! (λ l₂₂. alloc1 ! (λ l₂₃. alloc1 ! (λ l₂₄. alloc1 ! (λ l₂₅. alloc1 ! (λ l₂₆. alloc1 ! (λ l₂₇. alloc1 ! (λ l₂₈. alloc1 ! (λ l₂₉. alloc1 ! (λ l₃₀. alloc1 ! (λ l₃₁. alloc1 ! (λ l₃₂. alloc1 ! (λ l₃₃. alloc1 ! (λ l₃₄. alloc1 ! (λ l₃₅. alloc1 ! (λ l₃₆. alloc1 ! (λ l₃₇. alloc1 ! (λ l₃₈. alloc1 ! (λ l₃₉. alloc0 ! $ params1 ! $
+        pass1 ! (init ! 76 refl (typedI 𝓤 H A W ri _ ri-fits)) $ pass1 ! (init ! 74 refl (tt, record { fits = number-fits })) $ pass1 ! (init ! 72 refl (typedZ 𝓤 H A W m _ m-fits)) $ pass1 ! (init ! 70 refl (tt, (tt, (record { fits = fitstems .0 }, tt)))) $ pass1 ! (init ! 68 refl (tt, (tt, (record { fits = fitcommands .0 }, tt)))) $ pass1 ! (init ! 66 refl (tt, tt)) $ pass1 ! (init ! 64 refl (tt, tt)) $ pass1 ! (init ! 62 refl (tt, tt)) $ pass1 ! (init ! 60 refl (tt, (tt, (record { fits = fitout .0 }, tt)))) $ pass0 ! $ move ! (81 ∷ []) $ fsplit ! $ drop ! $ fsplit ! $ drop ! $ fsplit ! $ drop ! $ fsplit ! $ move ! (1 ∷ []) $ fsplit ! $ move ! (1 ∷ []) $ fsplit ! $ move ! (1 ∷ []) $ fsplit ! $ move ! (1 ∷ []) $ fsplit ! $ move ! (1 ∷ []) $ fsplit ! $ move ! (1 ∷ []) $ drop ! $ move ! (86 ∷ []) $ split ! $ move ! (1 ∷ []) $ split ! $ move ! (1 ∷ []) $ split ! $ move ! (1 ∷ []) $ split ! $ move ! (1 ∷ []) $ split ! $ move ! (1 ∷ []) $ split ! $ move ! (1 ∷ []) $ drop ! $ move ! (11 ∷ 5 ∷ 10 ∷ 4 ∷ 9 ∷ 3 ∷ 8 ∷ 2 ∷ 7 ∷ 1 ∷ 6 ∷ 0 ∷ []) $
         -- `is_identity`
-        nothing ! $ asks-all ! fm bool (Is bool) (shows 𝓤 H A bool) (Unit {0} × Unit {0}) (λ (r : bool .Denot) (lasts : (Unit {0} × Unit {0})). r ≡ isIdentity m) (λ (lasts : (Unit {0} × Unit {0})). (fsep ftrue ftrue)) (‵ ftrue) (‵ ftrue) (machZ m ∷ []) (is-identity-as 𝓤 H A mem run′ W C known-is-identity  (m) (m-fits) ) (and-then ! (load ! (from ! (stop !)) (look ! 85 refl)) (no-more !)) (λ w1 r1 zs1 e1 is1. land ! (from ! (stop !)) (init ! 73 refl (bool-lawful 𝓤 H A W .typed r1 _ is1 .0)) $ rewrite ! 73 (λ (u : Val). ‵ (fat fullShare tyBool l₁₀ 0 u)) (ap only is1) refl $ drop ! $ drop ! $ fsplit ! $ drop ! $ drop ! $ 
-        
-        assigns ! (addr ! (from ! (fld ! refl (hop ! (look-in ! 80 (sub ! 0 refl (whole !))) (stop !))))) (from ! (stop !)) (init ! 58 refl (tt, tt)) $ 
-        assigns ! (agg ! (and-then ! (load ! (from ! (stop !)) (look ! 58 refl)) (and-then ! (load ! (from ! (fld ! refl (stop !))) (look-in ! 80 (sub ! 1 refl (whole !)))) (no-more !)))) (from ! (stop !)) (init ! 56 refl (tt, (tt, (record { fits = fitcommands .0 }, tt)))) $ 
+        nothing ! $ asks-all ! fm bool (Is bool) (shows 𝓤 H A bool) (Unit {0} × Unit {0}) (λ (r : bool .Denot) (lasts : (Unit {0} × Unit {0})). r ≡ isIdentity m) (λ (lasts : (Unit {0} × Unit {0})). (fsep ftrue ftrue)) (‵ ftrue) (‵ ftrue) (machZ m ∷ []) (is-identity-as 𝓤 H A mem run′ W C known-is-identity (m) (m-fits)) (and-then ! (load ! (from ! (stop !)) (look ! 85 refl)) (no-more !)) (λ w1 r1 zs1 e1 is1. land ! (from ! (stop !)) (init ! 73 refl (bool-lawful 𝓤 H A W .typed r1 _ is1 .0)) $ rewrite ! 73 (λ (u : Val). ‵ (fat fullShare tyBool l₁₀ 0 u)) (ap only is1) refl $ drop ! $ drop ! $ fsplit ! $ drop ! $ drop ! $
+        assigns ! (addr ! (from ! (fld ! refl (hop ! (look-in ! 80 (sub ! 0 refl (whole !))) (stop !))))) (from ! (stop !)) (init ! 58 refl (tt, tt)) $
+        assigns ! (agg ! (and-then ! (load ! (from ! (stop !)) (look ! 58 refl)) (and-then ! (load ! (from ! (fld ! refl (stop !))) (look-in ! 80 (sub ! 1 refl (whole !)))) (no-more !)))) (from ! (stop !)) (init ! 56 refl (tt, (tt, (record { fits = fitcommands .0 }, tt)))) $
         -- `check_entries`
-        move ! (2 ∷ 3 ∷ []) $ lend-shared ! tt u64 mcommands bcommands ocommands yscommands (refl) (λ νcommands2 δcommands2. asks-all ! fm Y.the-row (Is Y.the-row) (shows 𝓤 H A Y.the-row) (Unit {0} × (Unit {0} × (Unit {0} × (Unit {0} × Unit {0})))) (λ (r : Y.the-row .Denot) (lasts : (Unit {0} × (Unit {0} × (Unit {0} × (Unit {0} × Unit {0}))))). Checks m (ri .entries) ((at-list u64 mcommands bcommands ocommands δcommands2 yscommands) .now) r) (λ (lasts : (Unit {0} × (Unit {0} × (Unit {0} × (Unit {0} × Unit {0}))))). (fsep ftrue (fsep ftrue (fsep ftrue (fsep ftrue ftrue))))) (‵ (flft (νcommands2 ∷ []) fullShare) ⊛ ‵ ftrue) (‵ (flft (νcommands2 ∷ []) fullShare) ⊛ ‵ (ShrSlice (named 0) (νcommands2 ∷ []) u64 .own (at-list u64 mcommands bcommands ocommands δcommands2 yscommands) (sliceVal ((at-list u64 mcommands bcommands ocommands δcommands2 yscommands) .ptr) (length ((at-list u64 mcommands bcommands ocommands δcommands2 yscommands) .now)) ∷ []))) (sliceVal ((at-list u64 mcommands bcommands ocommands δcommands2 yscommands) .ptr) (length ((at-list u64 mcommands bcommands ocommands δcommands2 yscommands) .now)) ∷ vint w64 (ri .entries) ∷ machZ m ∷ vbool r1 ∷ []) (check-entries-as 𝓤 H A mem run′ W C known-check-entries (νcommands2 ∷ []) fullShare (at-list u64 mcommands bcommands ocommands δcommands2 yscommands) ((ri .entries)) (m) (r1) ((LL.owed I.the-type I′.the-laws ri (machI ri ∷ []) ri-fits) .1 .1 .1 .0 .1) (m-fits) (need .0 .words, (e1, need .0 .finite))) (and-then ! (load ! (from ! (stop !)) (look ! 56 refl)) (and-then ! (load ! (from ! (fld ! refl (stop !))) (look-in ! 88 (sub ! 3 refl (whole !)))) (and-then ! (load ! (from ! (stop !)) (look ! 84 refl)) (and-then ! (load ! (from ! (stop !)) (look ! 70 refl)) (no-more !))))) (λ w2 r2 zs2 e2 is2. land ! (from ! (stop !)) (init ! 70 refl (typedY 𝓤 H A W r2 _ is2)) $ rewrite ! 70 (λ (u : Val). ‵ (fat fullShare tYt l₁₁ 0 u)) (ap only (LL.tells Y.the-type Y′.the-laws r2 (w2 ∷ []) is2)) refl $ drop ! $ split ! $ move ! (1 ∷ []) $ drop ! $ move ! (1 ∷ []) $ fsplit ! $ drop ! $ fsplit ! $ drop ! $ fsplit ! $ drop ! $ fsplit ! $ drop ! $ drop ! $ 
+        move ! (2 ∷ 3 ∷ []) $ lend-shared ! tt u64 mcommands bcommands ocommands yscommands (refl) (λ νcommands2 δcommands2. asks-all ! fm Y.the-row (Is Y.the-row) (shows 𝓤 H A Y.the-row) (Unit {0} × (Unit {0} × (Unit {0} × (Unit {0} × Unit {0})))) (λ (r : Y.the-row .Denot) (lasts : (Unit {0} × (Unit {0} × (Unit {0} × (Unit {0} × Unit {0}))))). Checks m (ri .entries) ((at-list u64 mcommands bcommands ocommands δcommands2 yscommands) .now) r) (λ (lasts : (Unit {0} × (Unit {0} × (Unit {0} × (Unit {0} × Unit {0}))))). (fsep ftrue (fsep ftrue (fsep ftrue (fsep ftrue ftrue))))) (‵ (flft (νcommands2 ∷ []) fullShare) ⊛ ‵ ftrue) (‵ (flft (νcommands2 ∷ []) fullShare) ⊛ ‵ (ShrSlice (named 0) (νcommands2 ∷ []) u64 .own (at-list u64 mcommands bcommands ocommands δcommands2 yscommands) (sliceVal ((at-list u64 mcommands bcommands ocommands δcommands2 yscommands) .ptr) (length ((at-list u64 mcommands bcommands ocommands δcommands2 yscommands) .now)) ∷ []))) (sliceVal ((at-list u64 mcommands bcommands ocommands δcommands2 yscommands) .ptr) (length ((at-list u64 mcommands bcommands ocommands δcommands2 yscommands) .now)) ∷ vint w64 (ri .entries) ∷ machZ m ∷ vbool r1 ∷ []) (check-entries-as 𝓤 H A mem run′ W C known-check-entries (νcommands2 ∷ []) fullShare (at-list u64 mcommands bcommands ocommands δcommands2 yscommands) ((ri .entries)) (m) (r1) ((LL.owed I.the-type I′.the-laws ri (machI ri ∷ []) ri-fits) .1 .1 .1 .0 .1) (m-fits) (need .0 .words, (e1, need .0 .finite))) (and-then ! (load ! (from ! (stop !)) (look ! 56 refl)) (and-then ! (load ! (from ! (fld ! refl (stop !))) (look-in ! 88 (sub ! 3 refl (whole !)))) (and-then ! (load ! (from ! (stop !)) (look ! 84 refl)) (and-then ! (load ! (from ! (stop !)) (look ! 70 refl)) (no-more !))))) (λ w2 r2 zs2 e2 is2. land ! (from ! (stop !)) (init ! 70 refl (typedY 𝓤 H A W r2 _ is2)) $ rewrite ! 70 (λ (u : Val). ‵ (fat fullShare tYt l₁₁ 0 u)) (ap only (LL.tells Y.the-type Y′.the-laws r2 (w2 ∷ []) is2)) refl $ drop ! $ split ! $ move ! (1 ∷ []) $ drop ! $ move ! (1 ∷ []) $ fsplit ! $ drop ! $ fsplit ! $ drop ! $ fsplit ! $ drop ! $ fsplit ! $ drop ! $ drop ! $
         returned-shared ! tt u64 mcommands bcommands ocommands νcommands2 yscommands (refl) fitcommands (
-        assigns ! (addr ! (from ! (fld ! refl (hop ! (look-in ! 82 (sub ! 0 refl (whole !))) (stop !))))) (from ! (stop !)) (init ! 54 refl (tt, tt)) $ 
-        assigns ! (agg ! (and-then ! (load ! (from ! (stop !)) (look ! 54 refl)) (and-then ! (load ! (from ! (fld ! refl (stop !))) (look-in ! 82 (sub ! 1 refl (whole !)))) (no-more !)))) (from ! (stop !)) (init ! 52 refl (tt, (tt, (record { fits = fitstems .0 }, tt)))) $ 
-        assigns ! (addr ! (from ! (fld ! refl (hop ! (look-in ! 80 (sub ! 0 refl (whole !))) (stop !))))) (from ! (stop !)) (init ! 50 refl (tt, tt)) $ 
-        assigns ! (agg ! (and-then ! (load ! (from ! (stop !)) (look ! 50 refl)) (and-then ! (load ! (from ! (fld ! refl (stop !))) (look-in ! 80 (sub ! 1 refl (whole !)))) (no-more !)))) (from ! (stop !)) (init ! 48 refl (tt, (tt, (record { fits = fitcommands .0 }, tt)))) $ 
+        assigns ! (addr ! (from ! (fld ! refl (hop ! (look-in ! 82 (sub ! 0 refl (whole !))) (stop !))))) (from ! (stop !)) (init ! 54 refl (tt, tt)) $
+        assigns ! (agg ! (and-then ! (load ! (from ! (stop !)) (look ! 54 refl)) (and-then ! (load ! (from ! (fld ! refl (stop !))) (look-in ! 82 (sub ! 1 refl (whole !)))) (no-more !)))) (from ! (stop !)) (init ! 52 refl (tt, (tt, (record { fits = fitstems .0 }, tt)))) $
+        assigns ! (addr ! (from ! (fld ! refl (hop ! (look-in ! 80 (sub ! 0 refl (whole !))) (stop !))))) (from ! (stop !)) (init ! 50 refl (tt, tt)) $
+        assigns ! (agg ! (and-then ! (load ! (from ! (stop !)) (look ! 50 refl)) (and-then ! (load ! (from ! (fld ! refl (stop !))) (look-in ! 80 (sub ! 1 refl (whole !)))) (no-more !)))) (from ! (stop !)) (init ! 48 refl (tt, (tt, (record { fits = fitcommands .0 }, tt)))) $
         -- `none_collected`
-        nothing ! $ asks-all ! fm K.the-row (Is K.the-row) (shows 𝓤 H A K.the-row) (Unit {0} × Unit {0}) (λ (r : K.the-row .Denot) (lasts : (Unit {0} × Unit {0})). r ≡ noneOf r2) (λ (lasts : (Unit {0} × Unit {0})). (fsep ftrue ftrue)) (‵ ftrue) (‵ ftrue) (machY r2 ∷ []) (none-collected-as 𝓤 H A mem run′ W C known-none-collected  (r2) (mineY r2 w2 is2) ) (and-then ! (load ! (from ! (stop !)) (look ! 69 refl)) (no-more !)) (λ w3 r3 zs3 e3 is3. land ! (from ! (stop !)) (init ! 49 refl (typedK 𝓤 H A W r3 _ is3)) $ rewrite ! 49 (λ (u : Val). ‵ (fat fullShare tKt l₂₂ 0 u)) (ap only (LL.tells K.the-type K′.the-laws r3 (w3 ∷ []) is3)) refl $ drop ! $ drop ! $ fsplit ! $ drop ! $ drop ! $ 
-        
-        assigns ! (addr ! (from ! (hop ! (look ! 78 refl) (stop !)))) (from ! (stop !)) (init ! 44 refl (tt, tt)) $ 
-        assigns ! (addr ! (from ! (hop ! (look ! 76 refl) (stop !)))) (from ! (stop !)) (init ! 42 refl (tt, tt)) $ 
+        nothing ! $ asks-all ! fm K.the-row (Is K.the-row) (shows 𝓤 H A K.the-row) (Unit {0} × Unit {0}) (λ (r : K.the-row .Denot) (lasts : (Unit {0} × Unit {0})). r ≡ noneOf r2) (λ (lasts : (Unit {0} × Unit {0})). (fsep ftrue ftrue)) (‵ ftrue) (‵ ftrue) (machY r2 ∷ []) (none-collected-as 𝓤 H A mem run′ W C known-none-collected (r2) (mineY r2 w2 is2)) (and-then ! (load ! (from ! (stop !)) (look ! 69 refl)) (no-more !)) (λ w3 r3 zs3 e3 is3. land ! (from ! (stop !)) (init ! 49 refl (typedK 𝓤 H A W r3 _ is3)) $ rewrite ! 49 (λ (u : Val). ‵ (fat fullShare tKt l₂₂ 0 u)) (ap only (LL.tells K.the-type K′.the-laws r3 (w3 ∷ []) is3)) refl $ drop ! $ drop ! $ fsplit ! $ drop ! $ drop ! $
+        assigns ! (addr ! (from ! (hop ! (look ! 78 refl) (stop !)))) (from ! (stop !)) (init ! 44 refl (tt, tt)) $
+        assigns ! (addr ! (from ! (hop ! (look ! 76 refl) (stop !)))) (from ! (stop !)) (init ! 42 refl (tt, tt)) $
         -- `collect_all`
-        move ! (2 ∷ 3 ∷ []) $ lend ! tt T.the-row mstems bstems ostems ysstems (refl) (λ νstems4 δstems4. move ! (2 ∷ 3 ∷ []) $ lend-shared ! tt u64 mcommands bcommands ocommands yscommands (refl) (λ νcommands4 δcommands4. move ! (4 ∷ 5 ∷ []) $ lend-ref ! tt (Array f64 192) bacross oacross ysacross (λ νacross4 δacross4. move ! (6 ∷ 7 ∷ []) $ lend-ref ! tt (Array f64 192) bupright oupright ysupright (λ νupright4 δupright4. move ! (2 ∷ 0 ∷ []) $ join ! $ move ! (3 ∷ 0 ∷ []) $ join ! $ move ! (4 ∷ 0 ∷ []) $ join ! $ asks-all ! fm K.the-row (Is K.the-row) (shows 𝓤 H A K.the-row) (List Stem × (Unit {0} × (Unit {0} × (Unit {0} × (Unit {0} × (Unit {0} × (List Float × (List Float × Unit {0})))))))) (λ (r : K.the-row .Denot) (lasts : (List Stem × (Unit {0} × (Unit {0} × (Unit {0} × (Unit {0} × (Unit {0} × (List Float × (List Float × Unit {0}))))))))). (lasts .0 ≡ ysstems) × Gathers (stemsTo m ((at-list u64 mcommands bcommands ocommands δcommands4 yscommands) .now) ysstems (ri .entries)) r3 ysacross ysupright r (lasts .1 .1 .1 .1 .1 .1 .0) (lasts .1 .1 .1 .1 .1 .1 .1 .0)) (λ (lasts : (List Stem × (Unit {0} × (Unit {0} × (Unit {0} × (Unit {0} × (Unit {0} × (List Float × (List Float × Unit {0}))))))))). (fsep (fsep (finally T.the-row δstems4 (lasts .0)) (feq ℕ (length (lasts .0)) (length ysstems))) (fsep ftrue (fsep ftrue (fsep ftrue (fsep ftrue (fsep ftrue (fsep (fres δacross4 ((Array f64 192) .coded .code (lasts .1 .1 .1 .1 .1 .1 .0))) (fsep (fres δupright4 ((Array f64 192) .coded .code (lasts .1 .1 .1 .1 .1 .1 .1 .0))) ftrue))))))))) (‵ (flft (νstems4 ∷ []) fullShare) ⊛ (‵ (flft (νcommands4 ∷ []) fullShare) ⊛ (‵ (flft (νacross4 ∷ []) fullShare) ⊛ (‵ (flft (νupright4 ∷ []) fullShare) ⊛ ‵ ftrue)))) ((‵ (flft (νstems4 ∷ []) fullShare) ⊛ ‵ (Own T.the-row mstems bstems ostems (νstems4 ∷ []) δstems4 ysstems)) ⊛ ((‵ (flft (νcommands4 ∷ []) fullShare) ⊛ ‵ (ShrSlice (named 0) (νcommands4 ∷ []) u64 .own (at-list u64 mcommands bcommands ocommands δcommands4 yscommands) (sliceVal ((at-list u64 mcommands bcommands ocommands δcommands4 yscommands) .ptr) (length ((at-list u64 mcommands bcommands ocommands δcommands4 yscommands) .now)) ∷ []))) ⊛ ((‵ (flft (νacross4 ∷ []) fullShare) ⊛ ‵ (OwnR (Array f64 192) bacross oacross (νacross4 ∷ []) δacross4 ysacross)) ⊛ (‵ (flft (νupright4 ∷ []) fullShare) ⊛ ‵ (OwnR (Array f64 192) bupright oupright (νupright4 ∷ []) δupright4 ysupright))))) (sliceVal (bstems, ostems) mstems ∷ sliceVal ((at-list u64 mcommands bcommands ocommands δcommands4 yscommands) .ptr) (length ((at-list u64 mcommands bcommands ocommands δcommands4 yscommands) .now)) ∷ vint w64 (ri .entries) ∷ machZ m ∷ vbool r1 ∷ machK r3 ∷ vptr bacross oacross ∷ vptr bupright oupright ∷ []) (collect-all-as 𝓤 H A mem run′ W C known-collect-all (νstems4 ∷ []) fullShare mstems bstems ostems δstems4 ysstems (νcommands4 ∷ []) fullShare (at-list u64 mcommands bcommands ocommands δcommands4 yscommands) (νacross4 ∷ []) fullShare bacross oacross δacross4 ysacross (νupright4 ∷ []) fullShare bupright oupright δupright4 ysupright ((ri .entries)) (m) (r1) (r3) ((LL.owed I.the-type I′.the-laws ri (machI ri ∷ []) ri-fits) .1 .1 .1 .0 .1) (m-fits) (mineK r3 w3 is3) (need .0, (e1, few-none r2 r3 e3))) (and-then ! (load ! (from ! (stop !)) (look ! 49 refl)) (and-then ! (load ! (from ! (stop !)) (look ! 45 refl)) (and-then ! (load ! (from ! (fld ! refl (stop !))) (look-in ! 85 (sub ! 3 refl (whole !)))) (and-then ! (load ! (from ! (stop !)) (look ! 81 refl)) (and-then ! (load ! (from ! (stop !)) (look ! 67 refl)) (and-then ! (load ! (from ! (stop !)) (look ! 43 refl)) (and-then ! (load ! (from ! (stop !)) (look ! 41 refl)) (and-then ! (load ! (from ! (stop !)) (look ! 39 refl)) (no-more !))))))))) (λ w4 r4 zs4 e4 is4. land ! (from ! (stop !)) (init ! 65 refl (typedK 𝓤 H A W r4 _ is4)) $ rewrite ! 65 (λ (u : Val). ‵ (fat fullShare tKt l₁₂ 0 u)) (ap only (LL.tells K.the-type K′.the-laws r4 (w4 ∷ []) is4)) refl $ drop ! $ split ! $ move ! (1 ∷ []) $ split ! $ move ! (1 ∷ []) $ split ! $ move ! (1 ∷ []) $ split ! $ move ! (1 ∷ []) $ drop ! $ move ! (4 ∷ []) $ fsplit ! $ fsplit ! $ move ! (1 ∷ []) $ feqL ! (λ lstems4. move ! (1 ∷ []) $ fsplit ! $ drop ! $ fsplit ! $ drop ! $ fsplit ! $ drop ! $ fsplit ! $ drop ! $ fsplit ! $ drop ! $ fsplit ! $ move ! (1 ∷ []) $ fsplit ! $ move ! (1 ∷ []) $ drop ! $ 
+        move ! (2 ∷ 3 ∷ []) $ lend ! tt T.the-row mstems bstems ostems ysstems (refl) (λ νstems4 δstems4. move ! (2 ∷ 3 ∷ []) $ lend-shared ! tt u64 mcommands bcommands ocommands yscommands (refl) (λ νcommands4 δcommands4. move ! (4 ∷ 5 ∷ []) $ lend-ref ! tt (Array f64 192) bacross oacross ysacross (λ νacross4 δacross4. move ! (6 ∷ 7 ∷ []) $ lend-ref ! tt (Array f64 192) bupright oupright ysupright (λ νupright4 δupright4. move ! (2 ∷ 0 ∷ []) $ join ! $ move ! (3 ∷ 0 ∷ []) $ join ! $ move ! (4 ∷ 0 ∷ []) $ join ! $ asks-all ! fm K.the-row (Is K.the-row) (shows 𝓤 H A K.the-row) (List Stem × (Unit {0} × (Unit {0} × (Unit {0} × (Unit {0} × (Unit {0} × (List Float × (List Float × Unit {0})))))))) (λ (r : K.the-row .Denot) (lasts : (List Stem × (Unit {0} × (Unit {0} × (Unit {0} × (Unit {0} × (Unit {0} × (List Float × (List Float × Unit {0}))))))))). (lasts .0 ≡ ysstems) × Gathers (stemsTo m ((at-list u64 mcommands bcommands ocommands δcommands4 yscommands) .now) ysstems (ri .entries)) r3 ysacross ysupright r (lasts .1 .1 .1 .1 .1 .1 .0) (lasts .1 .1 .1 .1 .1 .1 .1 .0)) (λ (lasts : (List Stem × (Unit {0} × (Unit {0} × (Unit {0} × (Unit {0} × (Unit {0} × (List Float × (List Float × Unit {0}))))))))). (fsep (fsep (finally T.the-row δstems4 (lasts .0)) (feq ℕ (length (lasts .0)) (length ysstems))) (fsep ftrue (fsep ftrue (fsep ftrue (fsep ftrue (fsep ftrue (fsep (fres δacross4 ((Array f64 192) .coded .code (lasts .1 .1 .1 .1 .1 .1 .0))) (fsep (fres δupright4 ((Array f64 192) .coded .code (lasts .1 .1 .1 .1 .1 .1 .1 .0))) ftrue))))))))) (‵ (flft (νstems4 ∷ []) fullShare) ⊛ (‵ (flft (νcommands4 ∷ []) fullShare) ⊛ (‵ (flft (νacross4 ∷ []) fullShare) ⊛ (‵ (flft (νupright4 ∷ []) fullShare) ⊛ ‵ ftrue)))) ((‵ (flft (νstems4 ∷ []) fullShare) ⊛ ‵ (Own T.the-row mstems bstems ostems (νstems4 ∷ []) δstems4 ysstems)) ⊛ ((‵ (flft (νcommands4 ∷ []) fullShare) ⊛ ‵ (ShrSlice (named 0) (νcommands4 ∷ []) u64 .own (at-list u64 mcommands bcommands ocommands δcommands4 yscommands) (sliceVal ((at-list u64 mcommands bcommands ocommands δcommands4 yscommands) .ptr) (length ((at-list u64 mcommands bcommands ocommands δcommands4 yscommands) .now)) ∷ []))) ⊛ ((‵ (flft (νacross4 ∷ []) fullShare) ⊛ ‵ (OwnR (Array f64 192) bacross oacross (νacross4 ∷ []) δacross4 ysacross)) ⊛ (‵ (flft (νupright4 ∷ []) fullShare) ⊛ ‵ (OwnR (Array f64 192) bupright oupright (νupright4 ∷ []) δupright4 ysupright))))) (sliceVal (bstems, ostems) mstems ∷ sliceVal ((at-list u64 mcommands bcommands ocommands δcommands4 yscommands) .ptr) (length ((at-list u64 mcommands bcommands ocommands δcommands4 yscommands) .now)) ∷ vint w64 (ri .entries) ∷ machZ m ∷ vbool r1 ∷ machK r3 ∷ vptr bacross oacross ∷ vptr bupright oupright ∷ []) (collect-all-as 𝓤 H A mem run′ W C known-collect-all (νstems4 ∷ []) fullShare mstems bstems ostems δstems4 ysstems (νcommands4 ∷ []) fullShare (at-list u64 mcommands bcommands ocommands δcommands4 yscommands) (νacross4 ∷ []) fullShare bacross oacross δacross4 ysacross (νupright4 ∷ []) fullShare bupright oupright δupright4 ysupright ((ri .entries)) (m) (r1) (r3) ((LL.owed I.the-type I′.the-laws ri (machI ri ∷ []) ri-fits) .1 .1 .1 .0 .1) (m-fits) (mineK r3 w3 is3) (need .0, (e1, few-none r2 r3 e3))) (and-then ! (load ! (from ! (stop !)) (look ! 49 refl)) (and-then ! (load ! (from ! (stop !)) (look ! 45 refl)) (and-then ! (load ! (from ! (fld ! refl (stop !))) (look-in ! 85 (sub ! 3 refl (whole !)))) (and-then ! (load ! (from ! (stop !)) (look ! 81 refl)) (and-then ! (load ! (from ! (stop !)) (look ! 67 refl)) (and-then ! (load ! (from ! (stop !)) (look ! 43 refl)) (and-then ! (load ! (from ! (stop !)) (look ! 41 refl)) (and-then ! (load ! (from ! (stop !)) (look ! 39 refl)) (no-more !))))))))) (λ w4 r4 zs4 e4 is4. land ! (from ! (stop !)) (init ! 65 refl (typedK 𝓤 H A W r4 _ is4)) $ rewrite ! 65 (λ (u : Val). ‵ (fat fullShare tKt l₁₂ 0 u)) (ap only (LL.tells K.the-type K′.the-laws r4 (w4 ∷ []) is4)) refl $ drop ! $ split ! $ move ! (1 ∷ []) $ split ! $ move ! (1 ∷ []) $ split ! $ move ! (1 ∷ []) $ split ! $ move ! (1 ∷ []) $ drop ! $ move ! (4 ∷ []) $ fsplit ! $ fsplit ! $ move ! (1 ∷ []) $ feqL ! (λ lstems4. move ! (1 ∷ []) $ fsplit ! $ drop ! $ fsplit ! $ drop ! $ fsplit ! $ drop ! $ fsplit ! $ drop ! $ fsplit ! $ drop ! $ fsplit ! $ move ! (1 ∷ []) $ fsplit ! $ move ! (1 ∷ []) $ drop ! $
         move ! (6 ∷ 10 ∷ 2 ∷ []) $ returned ! tt T.the-row mstems bstems ostems νstems4 δstems4 ysstems (zs4 .0) (refl) lstems4 fitstems (move ! (6 ∷ 9 ∷ []) $ returned-shared ! tt u64 mcommands bcommands ocommands νcommands4 yscommands (refl) fitcommands (move ! (7 ∷ 9 ∷ 5 ∷ []) $ returned-ref ! tt (Array f64 192) bacross oacross νacross4 δacross4 ysacross (zs4 .1 .1 .1 .1 .1 .1 .0) (move ! (7 ∷ 8 ∷ 6 ∷ []) $ returned-ref ! tt (Array f64 192) bupright oupright νupright4 δupright4 ysupright (zs4 .1 .1 .1 .1 .1 .1 .1 .0) (
         -- `make_plan`
-        nothing ! $ asks-all ! fm Q.the-row (Is Q.the-row) (shows 𝓤 H A Q.the-row) (Unit {0} × (Unit {0} × (Unit {0} × (Unit {0} × (Unit {0} × Unit {0}))))) (λ (r : Q.the-row .Denot) (lasts : (Unit {0} × (Unit {0} × (Unit {0} × (Unit {0} × (Unit {0} × Unit {0})))))). Planned number r2 r4 m (ri .width) r) (λ (lasts : (Unit {0} × (Unit {0} × (Unit {0} × (Unit {0} × (Unit {0} × Unit {0})))))). (fsep ftrue (fsep ftrue (fsep ftrue (fsep ftrue (fsep ftrue ftrue)))))) (‵ ftrue) (‵ ftrue) (vint w64 number ∷ machY r2 ∷ machK r4 ∷ machZ m ∷ machI ri ∷ []) (make-plan-as 𝓤 H A mem run′ W C known-make-plan  (number) (r2) (r4) (m) (ri) (number-fits) (mineY r2 w2 is2) (mineK r4 w4 is4) (m-fits) (ri-fits) (e4 .1 .1 .1)) (and-then ! (load ! (from ! (stop !)) (look ! 87 refl)) (and-then ! (load ! (from ! (stop !)) (look ! 69 refl)) (and-then ! (load ! (from ! (stop !)) (look ! 67 refl)) (and-then ! (load ! (from ! (stop !)) (look ! 85 refl)) (and-then ! (load ! (from ! (stop !)) (look ! 89 refl)) (no-more !)))))) (λ w5 r5 zs5 e5 is5. land ! (from ! (stop !)) (init ! 67 refl (typedQ 𝓤 H A W r5 _ is5)) $ rewrite ! 67 (λ (u : Val). ‵ (fat fullShare tQt l₁₃ 0 u)) (ap only (LL.tells Q.the-type Q′.the-laws r5 (w5 ∷ []) is5)) refl $ drop ! $ drop ! $ fsplit ! $ drop ! $ fsplit ! $ drop ! $ fsplit ! $ drop ! $ fsplit ! $ drop ! $ fsplit ! $ drop ! $ drop ! $ 
-        
-        assigns ! (addr ! (from ! (hop ! (look ! 78 refl) (stop !)))) (from ! (stop !)) (init ! 40 refl (tt, tt)) $ 
-        assigns ! (addr ! (from ! (hop ! (look ! 76 refl) (stop !)))) (from ! (stop !)) (init ! 38 refl (tt, tt)) $ 
-        assigns ! (addr ! (from ! (fld ! refl (hop ! (look-in ! 72 (sub ! 0 refl (whole !))) (stop !))))) (from ! (stop !)) (init ! 36 refl (tt, tt)) $ 
-        assigns ! (agg ! (and-then ! (load ! (from ! (stop !)) (look ! 36 refl)) (and-then ! (load ! (from ! (fld ! refl (stop !))) (look-in ! 72 (sub ! 1 refl (whole !)))) (no-more !)))) (from ! (stop !)) (init ! 34 refl (tt, (tt, (record { fits = fitout .0 }, tt)))) $ 
+        nothing ! $ asks-all ! fm Q.the-row (Is Q.the-row) (shows 𝓤 H A Q.the-row) (Unit {0} × (Unit {0} × (Unit {0} × (Unit {0} × (Unit {0} × Unit {0}))))) (λ (r : Q.the-row .Denot) (lasts : (Unit {0} × (Unit {0} × (Unit {0} × (Unit {0} × (Unit {0} × Unit {0})))))). Planned number r2 r4 m (ri .width) r) (λ (lasts : (Unit {0} × (Unit {0} × (Unit {0} × (Unit {0} × (Unit {0} × Unit {0})))))). (fsep ftrue (fsep ftrue (fsep ftrue (fsep ftrue (fsep ftrue ftrue)))))) (‵ ftrue) (‵ ftrue) (vint w64 number ∷ machY r2 ∷ machK r4 ∷ machZ m ∷ machI ri ∷ []) (make-plan-as 𝓤 H A mem run′ W C known-make-plan (number) (r2) (r4) (m) (ri) (number-fits) (mineY r2 w2 is2) (mineK r4 w4 is4) (m-fits) (ri-fits) (e4 .1 .1 .1)) (and-then ! (load ! (from ! (stop !)) (look ! 87 refl)) (and-then ! (load ! (from ! (stop !)) (look ! 69 refl)) (and-then ! (load ! (from ! (stop !)) (look ! 67 refl)) (and-then ! (load ! (from ! (stop !)) (look ! 85 refl)) (and-then ! (load ! (from ! (stop !)) (look ! 89 refl)) (no-more !)))))) (λ w5 r5 zs5 e5 is5. land ! (from ! (stop !)) (init ! 67 refl (typedQ 𝓤 H A W r5 _ is5)) $ rewrite ! 67 (λ (u : Val). ‵ (fat fullShare tQt l₁₃ 0 u)) (ap only (LL.tells Q.the-type Q′.the-laws r5 (w5 ∷ []) is5)) refl $ drop ! $ drop ! $ fsplit ! $ drop ! $ fsplit ! $ drop ! $ fsplit ! $ drop ! $ fsplit ! $ drop ! $ fsplit ! $ drop ! $ drop ! $
+        assigns ! (addr ! (from ! (hop ! (look ! 78 refl) (stop !)))) (from ! (stop !)) (init ! 40 refl (tt, tt)) $
+        assigns ! (addr ! (from ! (hop ! (look ! 76 refl) (stop !)))) (from ! (stop !)) (init ! 38 refl (tt, tt)) $
+        assigns ! (addr ! (from ! (fld ! refl (hop ! (look-in ! 72 (sub ! 0 refl (whole !))) (stop !))))) (from ! (stop !)) (init ! 36 refl (tt, tt)) $
+        assigns ! (agg ! (and-then ! (load ! (from ! (stop !)) (look ! 36 refl)) (and-then ! (load ! (from ! (fld ! refl (stop !))) (look-in ! 72 (sub ! 1 refl (whole !)))) (no-more !)))) (from ! (stop !)) (init ! 34 refl (tt, (tt, (record { fits = fitout .0 }, tt)))) $
         -- `begin_program`
-        move ! (2 ∷ 3 ∷ []) $ lend-shr ! tt (Array f64 192) bacross oacross (zs4 .1 .1 .1 .1 .1 .1 .0) (λ νacross6 δacross6. move ! (2 ∷ 3 ∷ []) $ lend-shr ! tt (Array f64 192) bupright oupright (zs4 .1 .1 .1 .1 .1 .1 .1 .0) (λ νupright6 δupright6. move ! (10 ∷ 11 ∷ []) $ lend ! tt u8 mout bout oout ysout (refl) (λ νout6 δout6. move ! (2 ∷ 0 ∷ []) $ join ! $ move ! (3 ∷ 0 ∷ []) $ join ! $ asks-all ! fm R.the-row (Is R.the-row) (shows 𝓤 H A R.the-row) (Unit {0} × (Unit {0} × (Unit {0} × (List ℕ × Unit {0})))) (λ (r : R.the-row .Denot) (lasts : (Unit {0} × (Unit {0} × (Unit {0} × (List ℕ × Unit {0}))))). Opens r5 ((at-one (Array f64 192) bacross oacross δacross6 (zs4 .1 .1 .1 .1 .1 .1 .0)) .now) ((at-one (Array f64 192) bupright oupright δupright6 (zs4 .1 .1 .1 .1 .1 .1 .1 .0)) .now) (length ysout) r (lasts .1 .1 .1 .0)) (λ (lasts : (Unit {0} × (Unit {0} × (Unit {0} × (List ℕ × Unit {0}))))). (fsep ftrue (fsep ftrue (fsep ftrue (fsep (fsep (finally u8 δout6 (lasts .1 .1 .1 .0)) (feq ℕ (length (lasts .1 .1 .1 .0)) (length ysout))) ftrue))))) (‵ (flft (νacross6 ∷ []) fullShare) ⊛ (‵ (flft (νupright6 ∷ []) fullShare) ⊛ (‵ (flft (νout6 ∷ []) fullShare) ⊛ ‵ ftrue))) ((‵ (flft (νacross6 ∷ []) fullShare) ⊛ ‵ (ShrRef (named 0) (νacross6 ∷ []) (Array f64 192) .own (at-one (Array f64 192) bacross oacross δacross6 (zs4 .1 .1 .1 .1 .1 .1 .0)) (vptr ((at-one (Array f64 192) bacross oacross δacross6 (zs4 .1 .1 .1 .1 .1 .1 .0)) .ptr .0) ((at-one (Array f64 192) bacross oacross δacross6 (zs4 .1 .1 .1 .1 .1 .1 .0)) .ptr .1) ∷ []))) ⊛ ((‵ (flft (νupright6 ∷ []) fullShare) ⊛ ‵ (ShrRef (named 0) (νupright6 ∷ []) (Array f64 192) .own (at-one (Array f64 192) bupright oupright δupright6 (zs4 .1 .1 .1 .1 .1 .1 .1 .0)) (vptr ((at-one (Array f64 192) bupright oupright δupright6 (zs4 .1 .1 .1 .1 .1 .1 .1 .0)) .ptr .0) ((at-one (Array f64 192) bupright oupright δupright6 (zs4 .1 .1 .1 .1 .1 .1 .1 .0)) .ptr .1) ∷ []))) ⊛ (‵ (flft (νout6 ∷ []) fullShare) ⊛ ‵ (Own u8 mout bout oout (νout6 ∷ []) δout6 ysout)))) (machQ r5 ∷ vptr ((at-one (Array f64 192) bacross oacross δacross6 (zs4 .1 .1 .1 .1 .1 .1 .0)) .ptr .0) ((at-one (Array f64 192) bacross oacross δacross6 (zs4 .1 .1 .1 .1 .1 .1 .0)) .ptr .1) ∷ vptr ((at-one (Array f64 192) bupright oupright δupright6 (zs4 .1 .1 .1 .1 .1 .1 .1 .0)) .ptr .0) ((at-one (Array f64 192) bupright oupright δupright6 (zs4 .1 .1 .1 .1 .1 .1 .1 .0)) .ptr .1) ∷ sliceVal (bout, oout) mout ∷ []) (begin-program-as 𝓤 H A mem run′ W C known-begin-program (νacross6 ∷ []) fullShare (at-one (Array f64 192) bacross oacross δacross6 (zs4 .1 .1 .1 .1 .1 .1 .0)) (νupright6 ∷ []) fullShare (at-one (Array f64 192) bupright oupright δupright6 (zs4 .1 .1 .1 .1 .1 .1 .1 .0)) (νout6 ∷ []) fullShare mout bout oout δout6 ysout (r5) (mineQ r5 w5 is5) (e5 .few)) (and-then ! (load ! (from ! (stop !)) (look ! 62 refl)) (and-then ! (load ! (from ! (stop !)) (look ! 38 refl)) (and-then ! (load ! (from ! (stop !)) (look ! 36 refl)) (and-then ! (load ! (from ! (stop !)) (look ! 32 refl)) (no-more !))))) (λ w6 r6 zs6 e6 is6. land ! (from ! (stop !)) (init ! 62 refl (typedR 𝓤 H A W r6 _ is6)) $ rewrite ! 62 (λ (u : Val). ‵ (fat fullShare tRt l₁₄ 0 u)) (ap only (LL.tells R.the-type R′.the-laws r6 (w6 ∷ []) is6)) refl $ drop ! $ split ! $ move ! (1 ∷ []) $ split ! $ move ! (1 ∷ []) $ split ! $ move ! (1 ∷ []) $ drop ! $ move ! (3 ∷ []) $ fsplit ! $ drop ! $ fsplit ! $ drop ! $ fsplit ! $ drop ! $ fsplit ! $ fsplit ! $ move ! (1 ∷ []) $ feqL ! (λ lout6. move ! (1 ∷ []) $ drop ! $ 
+        move ! (2 ∷ 3 ∷ []) $ lend-shr ! tt (Array f64 192) bacross oacross (zs4 .1 .1 .1 .1 .1 .1 .0) (λ νacross6 δacross6. move ! (2 ∷ 3 ∷ []) $ lend-shr ! tt (Array f64 192) bupright oupright (zs4 .1 .1 .1 .1 .1 .1 .1 .0) (λ νupright6 δupright6. move ! (10 ∷ 11 ∷ []) $ lend ! tt u8 mout bout oout ysout (refl) (λ νout6 δout6. move ! (2 ∷ 0 ∷ []) $ join ! $ move ! (3 ∷ 0 ∷ []) $ join ! $ asks-all ! fm R.the-row (Is R.the-row) (shows 𝓤 H A R.the-row) (Unit {0} × (Unit {0} × (Unit {0} × (List ℕ × Unit {0})))) (λ (r : R.the-row .Denot) (lasts : (Unit {0} × (Unit {0} × (Unit {0} × (List ℕ × Unit {0}))))). Opens r5 ((at-one (Array f64 192) bacross oacross δacross6 (zs4 .1 .1 .1 .1 .1 .1 .0)) .now) ((at-one (Array f64 192) bupright oupright δupright6 (zs4 .1 .1 .1 .1 .1 .1 .1 .0)) .now) (length ysout) r (lasts .1 .1 .1 .0)) (λ (lasts : (Unit {0} × (Unit {0} × (Unit {0} × (List ℕ × Unit {0}))))). (fsep ftrue (fsep ftrue (fsep ftrue (fsep (fsep (finally u8 δout6 (lasts .1 .1 .1 .0)) (feq ℕ (length (lasts .1 .1 .1 .0)) (length ysout))) ftrue))))) (‵ (flft (νacross6 ∷ []) fullShare) ⊛ (‵ (flft (νupright6 ∷ []) fullShare) ⊛ (‵ (flft (νout6 ∷ []) fullShare) ⊛ ‵ ftrue))) ((‵ (flft (νacross6 ∷ []) fullShare) ⊛ ‵ (ShrRef (named 0) (νacross6 ∷ []) (Array f64 192) .own (at-one (Array f64 192) bacross oacross δacross6 (zs4 .1 .1 .1 .1 .1 .1 .0)) (vptr ((at-one (Array f64 192) bacross oacross δacross6 (zs4 .1 .1 .1 .1 .1 .1 .0)) .ptr .0) ((at-one (Array f64 192) bacross oacross δacross6 (zs4 .1 .1 .1 .1 .1 .1 .0)) .ptr .1) ∷ []))) ⊛ ((‵ (flft (νupright6 ∷ []) fullShare) ⊛ ‵ (ShrRef (named 0) (νupright6 ∷ []) (Array f64 192) .own (at-one (Array f64 192) bupright oupright δupright6 (zs4 .1 .1 .1 .1 .1 .1 .1 .0)) (vptr ((at-one (Array f64 192) bupright oupright δupright6 (zs4 .1 .1 .1 .1 .1 .1 .1 .0)) .ptr .0) ((at-one (Array f64 192) bupright oupright δupright6 (zs4 .1 .1 .1 .1 .1 .1 .1 .0)) .ptr .1) ∷ []))) ⊛ (‵ (flft (νout6 ∷ []) fullShare) ⊛ ‵ (Own u8 mout bout oout (νout6 ∷ []) δout6 ysout)))) (machQ r5 ∷ vptr ((at-one (Array f64 192) bacross oacross δacross6 (zs4 .1 .1 .1 .1 .1 .1 .0)) .ptr .0) ((at-one (Array f64 192) bacross oacross δacross6 (zs4 .1 .1 .1 .1 .1 .1 .0)) .ptr .1) ∷ vptr ((at-one (Array f64 192) bupright oupright δupright6 (zs4 .1 .1 .1 .1 .1 .1 .1 .0)) .ptr .0) ((at-one (Array f64 192) bupright oupright δupright6 (zs4 .1 .1 .1 .1 .1 .1 .1 .0)) .ptr .1) ∷ sliceVal (bout, oout) mout ∷ []) (begin-program-as 𝓤 H A mem run′ W C known-begin-program (νacross6 ∷ []) fullShare (at-one (Array f64 192) bacross oacross δacross6 (zs4 .1 .1 .1 .1 .1 .1 .0)) (νupright6 ∷ []) fullShare (at-one (Array f64 192) bupright oupright δupright6 (zs4 .1 .1 .1 .1 .1 .1 .1 .0)) (νout6 ∷ []) fullShare mout bout oout δout6 ysout (r5) (mineQ r5 w5 is5) (e5 .few)) (and-then ! (load ! (from ! (stop !)) (look ! 62 refl)) (and-then ! (load ! (from ! (stop !)) (look ! 38 refl)) (and-then ! (load ! (from ! (stop !)) (look ! 36 refl)) (and-then ! (load ! (from ! (stop !)) (look ! 32 refl)) (no-more !))))) (λ w6 r6 zs6 e6 is6. land ! (from ! (stop !)) (init ! 62 refl (typedR 𝓤 H A W r6 _ is6)) $ rewrite ! 62 (λ (u : Val). ‵ (fat fullShare tRt l₁₄ 0 u)) (ap only (LL.tells R.the-type R′.the-laws r6 (w6 ∷ []) is6)) refl $ drop ! $ split ! $ move ! (1 ∷ []) $ split ! $ move ! (1 ∷ []) $ split ! $ move ! (1 ∷ []) $ drop ! $ move ! (3 ∷ []) $ fsplit ! $ drop ! $ fsplit ! $ drop ! $ fsplit ! $ drop ! $ fsplit ! $ fsplit ! $ move ! (1 ∷ []) $ feqL ! (λ lout6. move ! (1 ∷ []) $ drop ! $
         move ! (3 ∷ 6 ∷ []) $ returned-shr ! tt (Array f64 192) bacross oacross νacross6 (zs4 .1 .1 .1 .1 .1 .1 .0) (move ! (4 ∷ 6 ∷ []) $ returned-shr ! tt (Array f64 192) bupright oupright νupright6 (zs4 .1 .1 .1 .1 .1 .1 .1 .0) (move ! (5 ∷ 6 ∷ 4 ∷ []) $ returned ! tt u8 mout bout oout νout6 δout6 ysout (zs6 .1 .1 .1 .0) (refl) lout6 fitout (
-        assigns ! (addr ! (from ! (fld ! refl (hop ! (look-in ! 82 (sub ! 0 refl (whole !))) (stop !))))) (from ! (stop !)) (init ! 32 refl (tt, tt)) $ 
-        assigns ! (agg ! (and-then ! (load ! (from ! (stop !)) (look ! 32 refl)) (and-then ! (load ! (from ! (fld ! refl (stop !))) (look-in ! 82 (sub ! 1 refl (whole !)))) (no-more !)))) (from ! (stop !)) (init ! 30 refl (tt, (tt, (record { fits = fitstems .0 }, tt)))) $ 
-        assigns ! (addr ! (from ! (fld ! refl (hop ! (look-in ! 80 (sub ! 0 refl (whole !))) (stop !))))) (from ! (stop !)) (init ! 28 refl (tt, tt)) $ 
-        assigns ! (agg ! (and-then ! (load ! (from ! (stop !)) (look ! 28 refl)) (and-then ! (load ! (from ! (fld ! refl (stop !))) (look-in ! 80 (sub ! 1 refl (whole !)))) (no-more !)))) (from ! (stop !)) (init ! 26 refl (tt, (tt, (record { fits = fitcommands .0 }, tt)))) $ 
-        assigns ! (addr ! (from ! (hop ! (look ! 78 refl) (stop !)))) (from ! (stop !)) (init ! 24 refl (tt, tt)) $ 
-        assigns ! (addr ! (from ! (hop ! (look ! 76 refl) (stop !)))) (from ! (stop !)) (init ! 22 refl (tt, tt)) $ 
-        assigns ! (addr ! (from ! (hop ! (look ! 74 refl) (stop !)))) (from ! (stop !)) (init ! 20 refl (tt, tt)) $ 
-        assigns ! (addr ! (from ! (fld ! refl (hop ! (look-in ! 72 (sub ! 0 refl (whole !))) (stop !))))) (from ! (stop !)) (init ! 18 refl (tt, tt)) $ 
-        assigns ! (agg ! (and-then ! (load ! (from ! (stop !)) (look ! 18 refl)) (and-then ! (load ! (from ! (fld ! refl (stop !))) (look-in ! 72 (sub ! 1 refl (whole !)))) (no-more !)))) (from ! (stop !)) (init ! 16 refl (tt, (tt, (record { fits = fitout .0 }, tt)))) $ 
+        assigns ! (addr ! (from ! (fld ! refl (hop ! (look-in ! 82 (sub ! 0 refl (whole !))) (stop !))))) (from ! (stop !)) (init ! 32 refl (tt, tt)) $
+        assigns ! (agg ! (and-then ! (load ! (from ! (stop !)) (look ! 32 refl)) (and-then ! (load ! (from ! (fld ! refl (stop !))) (look-in ! 82 (sub ! 1 refl (whole !)))) (no-more !)))) (from ! (stop !)) (init ! 30 refl (tt, (tt, (record { fits = fitstems .0 }, tt)))) $
+        assigns ! (addr ! (from ! (fld ! refl (hop ! (look-in ! 80 (sub ! 0 refl (whole !))) (stop !))))) (from ! (stop !)) (init ! 28 refl (tt, tt)) $
+        assigns ! (agg ! (and-then ! (load ! (from ! (stop !)) (look ! 28 refl)) (and-then ! (load ! (from ! (fld ! refl (stop !))) (look-in ! 80 (sub ! 1 refl (whole !)))) (no-more !)))) (from ! (stop !)) (init ! 26 refl (tt, (tt, (record { fits = fitcommands .0 }, tt)))) $
+        assigns ! (addr ! (from ! (hop ! (look ! 78 refl) (stop !)))) (from ! (stop !)) (init ! 24 refl (tt, tt)) $
+        assigns ! (addr ! (from ! (hop ! (look ! 76 refl) (stop !)))) (from ! (stop !)) (init ! 22 refl (tt, tt)) $
+        assigns ! (addr ! (from ! (hop ! (look ! 74 refl) (stop !)))) (from ! (stop !)) (init ! 20 refl (tt, tt)) $
+        assigns ! (addr ! (from ! (fld ! refl (hop ! (look-in ! 72 (sub ! 0 refl (whole !))) (stop !))))) (from ! (stop !)) (init ! 18 refl (tt, tt)) $
+        assigns ! (agg ! (and-then ! (load ! (from ! (stop !)) (look ! 18 refl)) (and-then ! (load ! (from ! (fld ! refl (stop !))) (look-in ! 72 (sub ! 1 refl (whole !)))) (no-more !)))) (from ! (stop !)) (init ! 16 refl (tt, (tt, (record { fits = fitout .0 }, tt)))) $
         -- `write_all`
-        move ! (8 ∷ 9 ∷ []) $ lend ! tt T.the-row mstems bstems ostems (zs4 .0) (lstems4) (λ νstems7 δstems7. move ! (8 ∷ 9 ∷ []) $ lend-shared ! tt u64 mcommands bcommands ocommands yscommands (refl) (λ νcommands7 δcommands7. move ! (8 ∷ 9 ∷ []) $ lend-shr ! tt (Array f64 192) bacross oacross (zs4 .1 .1 .1 .1 .1 .1 .0) (λ νacross7 δacross7. move ! (8 ∷ 9 ∷ []) $ lend-shr ! tt (Array f64 192) bupright oupright (zs4 .1 .1 .1 .1 .1 .1 .1 .0) (λ νupright7 δupright7. move ! (10 ∷ 11 ∷ []) $ lend-ref ! tt (Array bool 96) bmask omask ysmask (λ νmask7 δmask7. move ! (10 ∷ 11 ∷ []) $ lend ! tt u8 mout bout oout (zs6 .1 .1 .1 .0) (lout6) (λ νout7 δout7. move ! (2 ∷ 0 ∷ []) $ join ! $ move ! (3 ∷ 0 ∷ []) $ join ! $ move ! (4 ∷ 0 ∷ []) $ join ! $ move ! (5 ∷ 0 ∷ []) $ join ! $ move ! (6 ∷ 0 ∷ []) $ join ! $ asks-all ! fm R.the-row (Is R.the-row) (shows 𝓤 H A R.the-row) (List Stem × (Unit {0} × (Unit {0} × (Unit {0} × (Unit {0} × (Unit {0} × (Unit {0} × (Unit {0} × (Unit {0} × (Unit {0} × (List Bool × (Unit {0} × (List ℕ × Unit {0}))))))))))))) (λ (r : R.the-row .Denot) (lasts : (List Stem × (Unit {0} × (Unit {0} × (Unit {0} × (Unit {0} × (Unit {0} × (Unit {0} × (Unit {0} × (Unit {0} × (Unit {0} × (List Bool × (Unit {0} × (List ℕ × Unit {0})))))))))))))). (lasts .0 ≡ (zs4 .0)) × (resumedAll (r5 .masked) (both (r5 .across) (r5 .upright) ((at-one (Array f64 192) bacross oacross δacross7 (zs4 .1 .1 .1 .1 .1 .1 .0)) .now) ((at-one (Array f64 192) bupright oupright δupright7 (zs4 .1 .1 .1 .1 .1 .1 .1 .0)) .now)) r (lasts .1 .1 .1 .1 .1 .1 .1 .1 .1 .1 .1 .1 .0) [] ≡ resumedAll (r5 .masked) (both (r5 .across) (r5 .upright) ((at-one (Array f64 192) bacross oacross δacross7 (zs4 .1 .1 .1 .1 .1 .1 .0)) .now) ((at-one (Array f64 192) bupright oupright δupright7 (zs4 .1 .1 .1 .1 .1 .1 .1 .0)) .now)) r6 (zs6 .1 .1 .1 .0) (cmdsFrom m ((at-list u64 mcommands bcommands ocommands δcommands7 yscommands) .now) (zs4 .0) 0 (ri .entries)))) (λ (lasts : (List Stem × (Unit {0} × (Unit {0} × (Unit {0} × (Unit {0} × (Unit {0} × (Unit {0} × (Unit {0} × (Unit {0} × (Unit {0} × (List Bool × (Unit {0} × (List ℕ × Unit {0})))))))))))))). (fsep (fsep (finally T.the-row δstems7 (lasts .0)) (feq ℕ (length (lasts .0)) (length (zs4 .0)))) (fsep ftrue (fsep ftrue (fsep ftrue (fsep ftrue (fsep ftrue (fsep ftrue (fsep ftrue (fsep ftrue (fsep ftrue (fsep (fres δmask7 ((Array bool 96) .coded .code (lasts .1 .1 .1 .1 .1 .1 .1 .1 .1 .1 .0))) (fsep ftrue (fsep (fsep (finally u8 δout7 (lasts .1 .1 .1 .1 .1 .1 .1 .1 .1 .1 .1 .1 .0)) (feq ℕ (length (lasts .1 .1 .1 .1 .1 .1 .1 .1 .1 .1 .1 .1 .0)) (length (zs6 .1 .1 .1 .0)))) ftrue)))))))))))))) (‵ (flft (νstems7 ∷ []) fullShare) ⊛ (‵ (flft (νcommands7 ∷ []) fullShare) ⊛ (‵ (flft (νacross7 ∷ []) fullShare) ⊛ (‵ (flft (νupright7 ∷ []) fullShare) ⊛ (‵ (flft (νmask7 ∷ []) fullShare) ⊛ (‵ (flft (νout7 ∷ []) fullShare) ⊛ ‵ ftrue)))))) ((‵ (flft (νstems7 ∷ []) fullShare) ⊛ ‵ (Own T.the-row mstems bstems ostems (νstems7 ∷ []) δstems7 (zs4 .0))) ⊛ ((‵ (flft (νcommands7 ∷ []) fullShare) ⊛ ‵ (ShrSlice (named 0) (νcommands7 ∷ []) u64 .own (at-list u64 mcommands bcommands ocommands δcommands7 yscommands) (sliceVal ((at-list u64 mcommands bcommands ocommands δcommands7 yscommands) .ptr) (length ((at-list u64 mcommands bcommands ocommands δcommands7 yscommands) .now)) ∷ []))) ⊛ ((‵ (flft (νacross7 ∷ []) fullShare) ⊛ ‵ (ShrRef (named 0) (νacross7 ∷ []) (Array f64 192) .own (at-one (Array f64 192) bacross oacross δacross7 (zs4 .1 .1 .1 .1 .1 .1 .0)) (vptr ((at-one (Array f64 192) bacross oacross δacross7 (zs4 .1 .1 .1 .1 .1 .1 .0)) .ptr .0) ((at-one (Array f64 192) bacross oacross δacross7 (zs4 .1 .1 .1 .1 .1 .1 .0)) .ptr .1) ∷ []))) ⊛ ((‵ (flft (νupright7 ∷ []) fullShare) ⊛ ‵ (ShrRef (named 0) (νupright7 ∷ []) (Array f64 192) .own (at-one (Array f64 192) bupright oupright δupright7 (zs4 .1 .1 .1 .1 .1 .1 .1 .0)) (vptr ((at-one (Array f64 192) bupright oupright δupright7 (zs4 .1 .1 .1 .1 .1 .1 .1 .0)) .ptr .0) ((at-one (Array f64 192) bupright oupright δupright7 (zs4 .1 .1 .1 .1 .1 .1 .1 .0)) .ptr .1) ∷ []))) ⊛ ((‵ (flft (νmask7 ∷ []) fullShare) ⊛ ‵ (OwnR (Array bool 96) bmask omask (νmask7 ∷ []) δmask7 ysmask)) ⊛ (‵ (flft (νout7 ∷ []) fullShare) ⊛ ‵ (Own u8 mout bout oout (νout7 ∷ []) δout7 (zs6 .1 .1 .1 .0)))))))) (sliceVal (bstems, ostems) mstems ∷ sliceVal ((at-list u64 mcommands bcommands ocommands δcommands7 yscommands) .ptr) (length ((at-list u64 mcommands bcommands ocommands δcommands7 yscommands) .now)) ∷ vint w64 (ri .entries) ∷ machZ m ∷ vbool r1 ∷ vbool (r5 .masked) ∷ vint w64 (r5 .across) ∷ vint w64 (r5 .upright) ∷ vptr ((at-one (Array f64 192) bacross oacross δacross7 (zs4 .1 .1 .1 .1 .1 .1 .0)) .ptr .0) ((at-one (Array f64 192) bacross oacross δacross7 (zs4 .1 .1 .1 .1 .1 .1 .0)) .ptr .1) ∷ vptr ((at-one (Array f64 192) bupright oupright δupright7 (zs4 .1 .1 .1 .1 .1 .1 .1 .0)) .ptr .0) ((at-one (Array f64 192) bupright oupright δupright7 (zs4 .1 .1 .1 .1 .1 .1 .1 .0)) .ptr .1) ∷ vptr bmask omask ∷ machR r6 ∷ sliceVal (bout, oout) mout ∷ []) (write-all-as 𝓤 H A mem run′ W C known-write-all (νstems7 ∷ []) fullShare mstems bstems ostems δstems7 (zs4 .0) (νcommands7 ∷ []) fullShare (at-list u64 mcommands bcommands ocommands δcommands7 yscommands) (νacross7 ∷ []) fullShare (at-one (Array f64 192) bacross oacross δacross7 (zs4 .1 .1 .1 .1 .1 .1 .0)) (νupright7 ∷ []) fullShare (at-one (Array f64 192) bupright oupright δupright7 (zs4 .1 .1 .1 .1 .1 .1 .1 .0)) (νmask7 ∷ []) fullShare bmask omask δmask7 ysmask (νout7 ∷ []) fullShare mout bout oout δout7 (zs6 .1 .1 .1 .0) ((ri .entries)) (m) (r1) ((r5 .masked)) ((r5 .across)) ((r5 .upright)) (r6) ((LL.owed I.the-type I′.the-laws ri (machI ri ∷ []) ri-fits) .1 .1 .1 .0 .1) (m-fits) ((LL.owed Q.the-type Q′.the-laws r5 (w5 ∷ []) is5) .1 .1 .0 .1) ((LL.owed Q.the-type Q′.the-laws r5 (w5 ∷ []) is5) .1 .1 .1 .0 .1) (mineR r6 w6 is6) (subst (Stored (ri .entries) yscommands) (sym (e4 .0)) (need .0), (e1, (e5 .few, need .1 .mask-len)))) (and-then ! (load ! (from ! (stop !)) (look ! 25 refl)) (and-then ! (load ! (from ! (stop !)) (look ! 21 refl)) (and-then ! (load ! (from ! (fld ! refl (stop !))) (look-in ! 83 (sub ! 3 refl (whole !)))) (and-then ! (load ! (from ! (stop !)) (look ! 79 refl)) (and-then ! (load ! (from ! (stop !)) (look ! 65 refl)) (and-then ! (load ! (from ! (fld ! refl (stop !))) (look-in ! 59 (sub ! 1 refl (whole !)))) (and-then ! (load ! (from ! (fld ! refl (stop !))) (look-in ! 59 (sub ! 2 refl (whole !)))) (and-then ! (load ! (from ! (fld ! refl (stop !))) (look-in ! 59 (sub ! 3 refl (whole !)))) (and-then ! (load ! (from ! (stop !)) (look ! 19 refl)) (and-then ! (load ! (from ! (stop !)) (look ! 17 refl)) (and-then ! (load ! (from ! (stop !)) (look ! 15 refl)) (and-then ! (load ! (from ! (stop !)) (look ! 57 refl)) (and-then ! (load ! (from ! (stop !)) (look ! 11 refl)) (no-more !)))))))))))))) (λ w7 r7 zs7 e7 is7. land ! (from ! (stop !)) (init ! 57 refl (typedR 𝓤 H A W r7 _ is7)) $ rewrite ! 57 (λ (u : Val). ‵ (fat fullShare tRt l₁₅ 0 u)) (ap only (LL.tells R.the-type R′.the-laws r7 (w7 ∷ []) is7)) refl $ drop ! $ split ! $ move ! (1 ∷ []) $ split ! $ move ! (1 ∷ []) $ split ! $ move ! (1 ∷ []) $ split ! $ move ! (1 ∷ []) $ split ! $ move ! (1 ∷ []) $ split ! $ move ! (1 ∷ []) $ drop ! $ move ! (6 ∷ []) $ fsplit ! $ fsplit ! $ move ! (1 ∷ []) $ feqL ! (λ lstems7. move ! (1 ∷ []) $ fsplit ! $ drop ! $ fsplit ! $ drop ! $ fsplit ! $ drop ! $ fsplit ! $ drop ! $ fsplit ! $ drop ! $ fsplit ! $ drop ! $ fsplit ! $ drop ! $ fsplit ! $ drop ! $ fsplit ! $ drop ! $ fsplit ! $ move ! (1 ∷ []) $ fsplit ! $ drop ! $ fsplit ! $ fsplit ! $ move ! (1 ∷ []) $ feqL ! (λ lout7. move ! (1 ∷ []) $ drop ! $ 
+        move ! (8 ∷ 9 ∷ []) $ lend ! tt T.the-row mstems bstems ostems (zs4 .0) (lstems4) (λ νstems7 δstems7. move ! (8 ∷ 9 ∷ []) $ lend-shared ! tt u64 mcommands bcommands ocommands yscommands (refl) (λ νcommands7 δcommands7. move ! (8 ∷ 9 ∷ []) $ lend-shr ! tt (Array f64 192) bacross oacross (zs4 .1 .1 .1 .1 .1 .1 .0) (λ νacross7 δacross7. move ! (8 ∷ 9 ∷ []) $ lend-shr ! tt (Array f64 192) bupright oupright (zs4 .1 .1 .1 .1 .1 .1 .1 .0) (λ νupright7 δupright7. move ! (10 ∷ 11 ∷ []) $ lend-ref ! tt (Array bool 96) bmask omask ysmask (λ νmask7 δmask7. move ! (10 ∷ 11 ∷ []) $ lend ! tt u8 mout bout oout (zs6 .1 .1 .1 .0) (lout6) (λ νout7 δout7. move ! (2 ∷ 0 ∷ []) $ join ! $ move ! (3 ∷ 0 ∷ []) $ join ! $ move ! (4 ∷ 0 ∷ []) $ join ! $ move ! (5 ∷ 0 ∷ []) $ join ! $ move ! (6 ∷ 0 ∷ []) $ join ! $ asks-all ! fm R.the-row (Is R.the-row) (shows 𝓤 H A R.the-row) (List Stem × (Unit {0} × (Unit {0} × (Unit {0} × (Unit {0} × (Unit {0} × (Unit {0} × (Unit {0} × (Unit {0} × (Unit {0} × (List Bool × (Unit {0} × (List ℕ × Unit {0}))))))))))))) (λ (r : R.the-row .Denot) (lasts : (List Stem × (Unit {0} × (Unit {0} × (Unit {0} × (Unit {0} × (Unit {0} × (Unit {0} × (Unit {0} × (Unit {0} × (Unit {0} × (List Bool × (Unit {0} × (List ℕ × Unit {0})))))))))))))). (lasts .0 ≡ (zs4 .0)) × (resumedAll (r5 .masked) (both (r5 .across) (r5 .upright) ((at-one (Array f64 192) bacross oacross δacross7 (zs4 .1 .1 .1 .1 .1 .1 .0)) .now) ((at-one (Array f64 192) bupright oupright δupright7 (zs4 .1 .1 .1 .1 .1 .1 .1 .0)) .now)) r (lasts .1 .1 .1 .1 .1 .1 .1 .1 .1 .1 .1 .1 .0) [] ≡ resumedAll (r5 .masked) (both (r5 .across) (r5 .upright) ((at-one (Array f64 192) bacross oacross δacross7 (zs4 .1 .1 .1 .1 .1 .1 .0)) .now) ((at-one (Array f64 192) bupright oupright δupright7 (zs4 .1 .1 .1 .1 .1 .1 .1 .0)) .now)) r6 (zs6 .1 .1 .1 .0) (cmdsFrom m ((at-list u64 mcommands bcommands ocommands δcommands7 yscommands) .now) (zs4 .0) 0 (ri .entries)))) (λ (lasts : (List Stem × (Unit {0} × (Unit {0} × (Unit {0} × (Unit {0} × (Unit {0} × (Unit {0} × (Unit {0} × (Unit {0} × (Unit {0} × (List Bool × (Unit {0} × (List ℕ × Unit {0})))))))))))))). (fsep (fsep (finally T.the-row δstems7 (lasts .0)) (feq ℕ (length (lasts .0)) (length (zs4 .0)))) (fsep ftrue (fsep ftrue (fsep ftrue (fsep ftrue (fsep ftrue (fsep ftrue (fsep ftrue (fsep ftrue (fsep ftrue (fsep (fres δmask7 ((Array bool 96) .coded .code (lasts .1 .1 .1 .1 .1 .1 .1 .1 .1 .1 .0))) (fsep ftrue (fsep (fsep (finally u8 δout7 (lasts .1 .1 .1 .1 .1 .1 .1 .1 .1 .1 .1 .1 .0)) (feq ℕ (length (lasts .1 .1 .1 .1 .1 .1 .1 .1 .1 .1 .1 .1 .0)) (length (zs6 .1 .1 .1 .0)))) ftrue)))))))))))))) (‵ (flft (νstems7 ∷ []) fullShare) ⊛ (‵ (flft (νcommands7 ∷ []) fullShare) ⊛ (‵ (flft (νacross7 ∷ []) fullShare) ⊛ (‵ (flft (νupright7 ∷ []) fullShare) ⊛ (‵ (flft (νmask7 ∷ []) fullShare) ⊛ (‵ (flft (νout7 ∷ []) fullShare) ⊛ ‵ ftrue)))))) ((‵ (flft (νstems7 ∷ []) fullShare) ⊛ ‵ (Own T.the-row mstems bstems ostems (νstems7 ∷ []) δstems7 (zs4 .0))) ⊛ ((‵ (flft (νcommands7 ∷ []) fullShare) ⊛ ‵ (ShrSlice (named 0) (νcommands7 ∷ []) u64 .own (at-list u64 mcommands bcommands ocommands δcommands7 yscommands) (sliceVal ((at-list u64 mcommands bcommands ocommands δcommands7 yscommands) .ptr) (length ((at-list u64 mcommands bcommands ocommands δcommands7 yscommands) .now)) ∷ []))) ⊛ ((‵ (flft (νacross7 ∷ []) fullShare) ⊛ ‵ (ShrRef (named 0) (νacross7 ∷ []) (Array f64 192) .own (at-one (Array f64 192) bacross oacross δacross7 (zs4 .1 .1 .1 .1 .1 .1 .0)) (vptr ((at-one (Array f64 192) bacross oacross δacross7 (zs4 .1 .1 .1 .1 .1 .1 .0)) .ptr .0) ((at-one (Array f64 192) bacross oacross δacross7 (zs4 .1 .1 .1 .1 .1 .1 .0)) .ptr .1) ∷ []))) ⊛ ((‵ (flft (νupright7 ∷ []) fullShare) ⊛ ‵ (ShrRef (named 0) (νupright7 ∷ []) (Array f64 192) .own (at-one (Array f64 192) bupright oupright δupright7 (zs4 .1 .1 .1 .1 .1 .1 .1 .0)) (vptr ((at-one (Array f64 192) bupright oupright δupright7 (zs4 .1 .1 .1 .1 .1 .1 .1 .0)) .ptr .0) ((at-one (Array f64 192) bupright oupright δupright7 (zs4 .1 .1 .1 .1 .1 .1 .1 .0)) .ptr .1) ∷ []))) ⊛ ((‵ (flft (νmask7 ∷ []) fullShare) ⊛ ‵ (OwnR (Array bool 96) bmask omask (νmask7 ∷ []) δmask7 ysmask)) ⊛ (‵ (flft (νout7 ∷ []) fullShare) ⊛ ‵ (Own u8 mout bout oout (νout7 ∷ []) δout7 (zs6 .1 .1 .1 .0)))))))) (sliceVal (bstems, ostems) mstems ∷ sliceVal ((at-list u64 mcommands bcommands ocommands δcommands7 yscommands) .ptr) (length ((at-list u64 mcommands bcommands ocommands δcommands7 yscommands) .now)) ∷ vint w64 (ri .entries) ∷ machZ m ∷ vbool r1 ∷ vbool (r5 .masked) ∷ vint w64 (r5 .across) ∷ vint w64 (r5 .upright) ∷ vptr ((at-one (Array f64 192) bacross oacross δacross7 (zs4 .1 .1 .1 .1 .1 .1 .0)) .ptr .0) ((at-one (Array f64 192) bacross oacross δacross7 (zs4 .1 .1 .1 .1 .1 .1 .0)) .ptr .1) ∷ vptr ((at-one (Array f64 192) bupright oupright δupright7 (zs4 .1 .1 .1 .1 .1 .1 .1 .0)) .ptr .0) ((at-one (Array f64 192) bupright oupright δupright7 (zs4 .1 .1 .1 .1 .1 .1 .1 .0)) .ptr .1) ∷ vptr bmask omask ∷ machR r6 ∷ sliceVal (bout, oout) mout ∷ []) (write-all-as 𝓤 H A mem run′ W C known-write-all (νstems7 ∷ []) fullShare mstems bstems ostems δstems7 (zs4 .0) (νcommands7 ∷ []) fullShare (at-list u64 mcommands bcommands ocommands δcommands7 yscommands) (νacross7 ∷ []) fullShare (at-one (Array f64 192) bacross oacross δacross7 (zs4 .1 .1 .1 .1 .1 .1 .0)) (νupright7 ∷ []) fullShare (at-one (Array f64 192) bupright oupright δupright7 (zs4 .1 .1 .1 .1 .1 .1 .1 .0)) (νmask7 ∷ []) fullShare bmask omask δmask7 ysmask (νout7 ∷ []) fullShare mout bout oout δout7 (zs6 .1 .1 .1 .0) ((ri .entries)) (m) (r1) ((r5 .masked)) ((r5 .across)) ((r5 .upright)) (r6) ((LL.owed I.the-type I′.the-laws ri (machI ri ∷ []) ri-fits) .1 .1 .1 .0 .1) (m-fits) ((LL.owed Q.the-type Q′.the-laws r5 (w5 ∷ []) is5) .1 .1 .0 .1) ((LL.owed Q.the-type Q′.the-laws r5 (w5 ∷ []) is5) .1 .1 .1 .0 .1) (mineR r6 w6 is6) (subst (Stored (ri .entries) yscommands) (sym (e4 .0)) (need .0), (e1, (e5 .few, need .1 .mask-len)))) (and-then ! (load ! (from ! (stop !)) (look ! 25 refl)) (and-then ! (load ! (from ! (stop !)) (look ! 21 refl)) (and-then ! (load ! (from ! (fld ! refl (stop !))) (look-in ! 83 (sub ! 3 refl (whole !)))) (and-then ! (load ! (from ! (stop !)) (look ! 79 refl)) (and-then ! (load ! (from ! (stop !)) (look ! 65 refl)) (and-then ! (load ! (from ! (fld ! refl (stop !))) (look-in ! 59 (sub ! 1 refl (whole !)))) (and-then ! (load ! (from ! (fld ! refl (stop !))) (look-in ! 59 (sub ! 2 refl (whole !)))) (and-then ! (load ! (from ! (fld ! refl (stop !))) (look-in ! 59 (sub ! 3 refl (whole !)))) (and-then ! (load ! (from ! (stop !)) (look ! 19 refl)) (and-then ! (load ! (from ! (stop !)) (look ! 17 refl)) (and-then ! (load ! (from ! (stop !)) (look ! 15 refl)) (and-then ! (load ! (from ! (stop !)) (look ! 57 refl)) (and-then ! (load ! (from ! (stop !)) (look ! 11 refl)) (no-more !)))))))))))))) (λ w7 r7 zs7 e7 is7. land ! (from ! (stop !)) (init ! 57 refl (typedR 𝓤 H A W r7 _ is7)) $ rewrite ! 57 (λ (u : Val). ‵ (fat fullShare tRt l₁₅ 0 u)) (ap only (LL.tells R.the-type R′.the-laws r7 (w7 ∷ []) is7)) refl $ drop ! $ split ! $ move ! (1 ∷ []) $ split ! $ move ! (1 ∷ []) $ split ! $ move ! (1 ∷ []) $ split ! $ move ! (1 ∷ []) $ split ! $ move ! (1 ∷ []) $ split ! $ move ! (1 ∷ []) $ drop ! $ move ! (6 ∷ []) $ fsplit ! $ fsplit ! $ move ! (1 ∷ []) $ feqL ! (λ lstems7. move ! (1 ∷ []) $ fsplit ! $ drop ! $ fsplit ! $ drop ! $ fsplit ! $ drop ! $ fsplit ! $ drop ! $ fsplit ! $ drop ! $ fsplit ! $ drop ! $ fsplit ! $ drop ! $ fsplit ! $ drop ! $ fsplit ! $ drop ! $ fsplit ! $ move ! (1 ∷ []) $ fsplit ! $ drop ! $ fsplit ! $ fsplit ! $ move ! (1 ∷ []) $ feqL ! (λ lout7. move ! (1 ∷ []) $ drop ! $
         move ! (8 ∷ 14 ∷ 2 ∷ []) $ returned ! tt T.the-row mstems bstems ostems νstems7 δstems7 (zs4 .0) (zs7 .0) (lstems4) lstems7 fitstems (move ! (8 ∷ 13 ∷ []) $ returned-shared ! tt u64 mcommands bcommands ocommands νcommands7 yscommands (refl) fitcommands (move ! (9 ∷ 13 ∷ []) $ returned-shr ! tt (Array f64 192) bacross oacross νacross7 (zs4 .1 .1 .1 .1 .1 .1 .0) (move ! (10 ∷ 13 ∷ []) $ returned-shr ! tt (Array f64 192) bupright oupright νupright7 (zs4 .1 .1 .1 .1 .1 .1 .1 .0) (move ! (11 ∷ 13 ∷ 9 ∷ []) $ returned-ref ! tt (Array bool 96) bmask omask νmask7 δmask7 ysmask (zs7 .1 .1 .1 .1 .1 .1 .1 .1 .1 .1 .0) (move ! (11 ∷ 12 ∷ 10 ∷ []) $ returned ! tt u8 mout bout oout νout7 δout7 (zs6 .1 .1 .1 .0) (zs7 .1 .1 .1 .1 .1 .1 .1 .1 .1 .1 .1 .1 .0) (lout6) lout7 fitout (
-        assigns ! (addr ! (from ! (fld ! refl (hop ! (look-in ! 72 (sub ! 0 refl (whole !))) (stop !))))) (from ! (stop !)) (init ! 14 refl (tt, tt)) $ 
-        assigns ! (agg ! (and-then ! (load ! (from ! (stop !)) (look ! 14 refl)) (and-then ! (load ! (from ! (fld ! refl (stop !))) (look-in ! 72 (sub ! 1 refl (whole !)))) (no-more !)))) (from ! (stop !)) (init ! 12 refl (tt, (tt, (record { fits = fitout .0 }, tt)))) $ 
+        assigns ! (addr ! (from ! (fld ! refl (hop ! (look-in ! 72 (sub ! 0 refl (whole !))) (stop !))))) (from ! (stop !)) (init ! 14 refl (tt, tt)) $
+        assigns ! (agg ! (and-then ! (load ! (from ! (stop !)) (look ! 14 refl)) (and-then ! (load ! (from ! (fld ! refl (stop !))) (look-in ! 72 (sub ! 1 refl (whole !)))) (no-more !)))) (from ! (stop !)) (init ! 12 refl (tt, (tt, (record { fits = fitout .0 }, tt)))) $
         -- `end_program`
-        lend ! tt u8 mout bout oout (zs7 .1 .1 .1 .1 .1 .1 .1 .1 .1 .1 .1 .1 .0) (lout7 ∙ lout6) (λ νout8 δout8. asks-all ! fm G.the-row (Is G.the-row) (shows 𝓤 H A G.the-row) (Unit {0} × (Unit {0} × (Unit {0} × (List ℕ × Unit {0})))) (λ (r : G.the-row .Denot) (lasts : (Unit {0} × (Unit {0} × (Unit {0} × (List ℕ × Unit {0}))))). Answers (writes (r5 .width) (ri .ran) (resumedAll false [] r7 (zs7 .1 .1 .1 .1 .1 .1 .1 .1 .1 .1 .1 .1 .0) [])) (length (zs7 .1 .1 .1 .1 .1 .1 .1 .1 .1 .1 .1 .1 .0)) r (lasts .1 .1 .1 .0)) (λ (lasts : (Unit {0} × (Unit {0} × (Unit {0} × (List ℕ × Unit {0}))))). (fsep ftrue (fsep ftrue (fsep ftrue (fsep (fsep (finally u8 δout8 (lasts .1 .1 .1 .0)) (feq ℕ (length (lasts .1 .1 .1 .0)) (length (zs7 .1 .1 .1 .1 .1 .1 .1 .1 .1 .1 .1 .1 .0)))) ftrue))))) (‵ (flft (νout8 ∷ []) fullShare) ⊛ ‵ ftrue) (‵ (flft (νout8 ∷ []) fullShare) ⊛ ‵ (Own u8 mout bout oout (νout8 ∷ []) δout8 (zs7 .1 .1 .1 .1 .1 .1 .1 .1 .1 .1 .1 .1 .0))) (machQ r5 ∷ machI ri ∷ machR r7 ∷ sliceVal (bout, oout) mout ∷ []) (end-program-as 𝓤 H A mem run′ W C known-end-program (νout8 ∷ []) fullShare mout bout oout δout8 (zs7 .1 .1 .1 .1 .1 .1 .1 .1 .1 .1 .1 .1 .0) (r5) (ri) (r7) (mineQ r5 w5 is5) (ri-fits) (mineR r7 w7 is7) ) (and-then ! (load ! (from ! (stop !)) (look ! 64 refl)) (and-then ! (load ! (from ! (stop !)) (look ! 88 refl)) (and-then ! (load ! (from ! (stop !)) (look ! 60 refl)) (and-then ! (load ! (from ! (stop !)) (look ! 12 refl)) (no-more !))))) (λ w8 r8 zs8 e8 is8. land ! (from ! (stop !)) (init ! 92 refl (typedG 𝓤 H A W r8 _ is8)) $ rewrite ! 92 (λ (u : Val). ‵ (fat fullShare tGt l₀ 0 u)) (ap only (LL.tells G.the-type G′.the-laws r8 (w8 ∷ []) is8)) refl $ drop ! $ split ! $ move ! (1 ∷ []) $ drop ! $ move ! (1 ∷ []) $ fsplit ! $ drop ! $ fsplit ! $ drop ! $ fsplit ! $ drop ! $ fsplit ! $ fsplit ! $ move ! (1 ∷ []) $ feqL ! (λ lout8. move ! (1 ∷ []) $ drop ! $ 
-        move ! (1 ∷ 2 ∷ 0 ∷ []) $ returned ! tt u8 mout bout oout νout8 δout8 (zs7 .1 .1 .1 .1 .1 .1 .1 .1 .1 .1 .1 .1 .0) (zs8 .1 .1 .1 .0) (lout7 ∙ lout6) lout8 fitout (owned ! G.the-row (Is G.the-row) (LL.makes G.the-type G′.the-plain 𝓤 H A) r8 _ (mineG r8 w8 is8) $ 
-        returns ! (look ! 91 refl) $ forget ! 91 refl $ forget ! 89 refl $ forget ! 87 refl $ forget ! 85 refl $ forget ! 83 refl $ forget ! 81 refl $ forget ! 79 refl $ forget ! 77 refl $ forget ! 75 refl $ forget ! 73 refl $ forget ! 71 refl $ forget ! 69 refl $ forget ! 67 refl $ forget ! 65 refl $ forget ! 63 refl $ forget ! 61 refl $ forget ! 59 refl $ forget ! 57 refl $ forget ! 55 refl $ forget ! 53 refl $ forget ! 51 refl $ forget ! 49 refl $ forget ! 47 refl $ forget ! 45 refl $ forget ! 43 refl $ forget ! 41 refl $ forget ! 39 refl $ forget ! 37 refl $ forget ! 35 refl $ forget ! 33 refl $ forget ! 31 refl $ forget ! 29 refl $ forget ! 27 refl $ forget ! 25 refl $ forget ! 23 refl $ forget ! 21 refl $ forget ! 19 refl $ forget ! 17 refl $ forget ! 15 refl $ forget ! 13 refl $ 
+        lend ! tt u8 mout bout oout (zs7 .1 .1 .1 .1 .1 .1 .1 .1 .1 .1 .1 .1 .0) (lout7 ∙ lout6) (λ νout8 δout8. asks-all ! fm G.the-row (Is G.the-row) (shows 𝓤 H A G.the-row) (Unit {0} × (Unit {0} × (Unit {0} × (List ℕ × Unit {0})))) (λ (r : G.the-row .Denot) (lasts : (Unit {0} × (Unit {0} × (Unit {0} × (List ℕ × Unit {0}))))). Answers (writes (r5 .width) (ri .ran) (resumedAll false [] r7 (zs7 .1 .1 .1 .1 .1 .1 .1 .1 .1 .1 .1 .1 .0) [])) (length (zs7 .1 .1 .1 .1 .1 .1 .1 .1 .1 .1 .1 .1 .0)) r (lasts .1 .1 .1 .0)) (λ (lasts : (Unit {0} × (Unit {0} × (Unit {0} × (List ℕ × Unit {0}))))). (fsep ftrue (fsep ftrue (fsep ftrue (fsep (fsep (finally u8 δout8 (lasts .1 .1 .1 .0)) (feq ℕ (length (lasts .1 .1 .1 .0)) (length (zs7 .1 .1 .1 .1 .1 .1 .1 .1 .1 .1 .1 .1 .0)))) ftrue))))) (‵ (flft (νout8 ∷ []) fullShare) ⊛ ‵ ftrue) (‵ (flft (νout8 ∷ []) fullShare) ⊛ ‵ (Own u8 mout bout oout (νout8 ∷ []) δout8 (zs7 .1 .1 .1 .1 .1 .1 .1 .1 .1 .1 .1 .1 .0))) (machQ r5 ∷ machI ri ∷ machR r7 ∷ sliceVal (bout, oout) mout ∷ []) (end-program-as 𝓤 H A mem run′ W C known-end-program (νout8 ∷ []) fullShare mout bout oout δout8 (zs7 .1 .1 .1 .1 .1 .1 .1 .1 .1 .1 .1 .1 .0) (r5) (ri) (r7) (mineQ r5 w5 is5) (ri-fits) (mineR r7 w7 is7)) (and-then ! (load ! (from ! (stop !)) (look ! 64 refl)) (and-then ! (load ! (from ! (stop !)) (look ! 88 refl)) (and-then ! (load ! (from ! (stop !)) (look ! 60 refl)) (and-then ! (load ! (from ! (stop !)) (look ! 12 refl)) (no-more !))))) (λ w8 r8 zs8 e8 is8. land ! (from ! (stop !)) (init ! 92 refl (typedG 𝓤 H A W r8 _ is8)) $ rewrite ! 92 (λ (u : Val). ‵ (fat fullShare tGt l₀ 0 u)) (ap only (LL.tells G.the-type G′.the-laws r8 (w8 ∷ []) is8)) refl $ drop ! $ split ! $ move ! (1 ∷ []) $ drop ! $ move ! (1 ∷ []) $ fsplit ! $ drop ! $ fsplit ! $ drop ! $ fsplit ! $ drop ! $ fsplit ! $ fsplit ! $ move ! (1 ∷ []) $ feqL ! (λ lout8. move ! (1 ∷ []) $ drop ! $
+        move ! (1 ∷ 2 ∷ 0 ∷ []) $ returned ! tt u8 mout bout oout νout8 δout8 (zs7 .1 .1 .1 .1 .1 .1 .1 .1 .1 .1 .1 .1 .0) (zs8 .1 .1 .1 .0) (lout7 ∙ lout6) lout8 fitout (owned ! G.the-row (Is G.the-row) (LL.makes G.the-type G′.the-plain 𝓤 H A) r8 _ (mineG r8 w8 is8) $
+        returns ! (look ! 91 refl) $ forget ! 91 refl $ forget ! 89 refl $ forget ! 87 refl $ forget ! 85 refl $ forget ! 83 refl $ forget ! 81 refl $ forget ! 79 refl $ forget ! 77 refl $ forget ! 75 refl $ forget ! 73 refl $ forget ! 71 refl $ forget ! 69 refl $ forget ! 67 refl $ forget ! 65 refl $ forget ! 63 refl $ forget ! 61 refl $ forget ! 59 refl $ forget ! 57 refl $ forget ! 55 refl $ forget ! 53 refl $ forget ! 51 refl $ forget ! 49 refl $ forget ! 47 refl $ forget ! 45 refl $ forget ! 43 refl $ forget ! 41 refl $ forget ! 39 refl $ forget ! 37 refl $ forget ! 35 refl $ forget ! 33 refl $ forget ! 31 refl $ forget ! 29 refl $ forget ! 27 refl $ forget ! 25 refl $ forget ! 23 refl $ forget ! 21 refl $ forget ! 19 refl $ forget ! 17 refl $ forget ! 15 refl $ forget ! 13 refl $
         move ! (91 ∷ 92 ∷ []) $ free1 ! $ move ! (89 ∷ 90 ∷ []) $ free1 ! $ move ! (87 ∷ 88 ∷ []) $ free1 ! $ move ! (85 ∷ 86 ∷ []) $ free1 ! $ move ! (83 ∷ 84 ∷ []) $ free1 ! $ move ! (81 ∷ 82 ∷ []) $ free1 ! $ move ! (79 ∷ 80 ∷ []) $ free1 ! $ move ! (77 ∷ 78 ∷ []) $ free1 ! $ move ! (75 ∷ 76 ∷ []) $ free1 ! $ move ! (73 ∷ 74 ∷ []) $ free1 ! $ move ! (71 ∷ 72 ∷ []) $ free1 ! $ move ! (69 ∷ 70 ∷ []) $ free1 ! $ move ! (67 ∷ 68 ∷ []) $ free1 ! $ move ! (65 ∷ 66 ∷ []) $ free1 ! $ move ! (63 ∷ 64 ∷ []) $ free1 ! $ move ! (61 ∷ 62 ∷ []) $ free1 ! $ move ! (59 ∷ 60 ∷ []) $ free1 ! $ move ! (57 ∷ 58 ∷ []) $ free1 ! $ move ! (55 ∷ 56 ∷ []) $ free1 ! $ move ! (53 ∷ 54 ∷ []) $ free1 ! $ move ! (51 ∷ 52 ∷ []) $ free1 ! $ move ! (49 ∷ 50 ∷ []) $ free1 ! $ move ! (47 ∷ 48 ∷ []) $ free1 ! $ move ! (45 ∷ 46 ∷ []) $ free1 ! $ move ! (43 ∷ 44 ∷ []) $ free1 ! $ move ! (41 ∷ 42 ∷ []) $ free1 ! $ move ! (39 ∷ 40 ∷ []) $ free1 ! $ move ! (37 ∷ 38 ∷ []) $ free1 ! $ move ! (35 ∷ 36 ∷ []) $ free1 ! $ move ! (33 ∷ 34 ∷ []) $ free1 ! $ move ! (31 ∷ 32 ∷ []) $ free1 ! $ move ! (29 ∷ 30 ∷ []) $ free1 ! $ move ! (27 ∷ 28 ∷ []) $ free1 ! $ move ! (25 ∷ 26 ∷ []) $ free1 ! $ move ! (23 ∷ 24 ∷ []) $ free1 ! $ move ! (21 ∷ 22 ∷ []) $ free1 ! $ move ! (19 ∷ 20 ∷ []) $ free1 ! $ move ! (17 ∷ 18 ∷ []) $ free1 ! $ move ! (15 ∷ 16 ∷ []) $ free1 ! $ move ! (13 ∷ 14 ∷ []) $ free1 ! $ free0 ! $ keep ! (0 ∷ 11 ∷ 12 ∷ 9 ∷ 10 ∷ 7 ∷ 8 ∷ 5 ∷ 6 ∷ 3 ∷ 4 ∷ 1 ∷ 2 ∷ []) $ by ! (exits r8 (machG r8) (zs7 .0) yscommands (zs4 .1 .1 .1 .1 .1 .1 .0) (zs4 .1 .1 .1 .1 .1 .1 .1 .0) (zs7 .1 .1 .1 .1 .1 .1 .1 .1 .1 .1 .0) (zs8 .1 .1 .1 .0) ((e7 .0 ∙ e4 .0, (refl, run-answers number m ri yscommands ysstems (length ysout) r2 r3 r4 ysacross ysupright (zs4 .1 .1 .1 .1 .1 .1 .0) (zs4 .1 .1 .1 .1 .1 .1 .1 .0) r5 r6 r7 (zs6 .1 .1 .1 .0) (zs7 .1 .1 .1 .1 .1 .1 .1 .1 .1 .1 .1 .1 .0) (zs8 .1 .1 .1 .0) r8 (zs4 .0) (need .1 .across-len) (need .1 .upright-len) e2 e3 (e4 .1) e5 e6 (e4 .0) (e7 .1) (lout7 ∙ lout6) e8))) (lstems7 ∙ lstems4) (refl) (lout8 ∙ lout7 ∙ lout6)))))))))))))))))))))))))))))))))))))))))))))))))))))))))))))))))))))))))))))))))))))
 
 module _ {M : Type 1} (𝓤 : URA M) (H : Heap 𝓤) (A : Atoms 𝓤) (W : Given 𝓤 H A) (mem : Memory → SProp 𝓤) (run′ : Routine → Fun 𝓤) where
