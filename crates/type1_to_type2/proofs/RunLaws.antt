@@ -34,6 +34,7 @@ use Rattle.type1_to_type2.specs.Collecting.{Collects, Counted, noneColle
 use Rattle.type1_to_type2.specs.Streaming.{resumedAll}
 use Rattle.type1_to_type2.specs.Passes.{both, Gathers, stemsTo, cmdsFrom, Stored}
 use Rattle.type1_to_type2.specs.Entry.{Checks, noneOf, tables, Planned, opens, Opens, leftState, fromRun, Answers, Converts, firstNumber, groupCount}
+use Rattle.type1_to_type2.specs.Nonzero.{write-nonzero}
 use Rattle.type1_to_type2.proofs.Ordering.{collects-first, collects-group}
 use Rattle.type1_to_type2.proofs.EntryLaws.{groups-finite, commands-are, stems-are, count-is}
 
@@ -156,6 +157,39 @@ module _ (m : Matrix) (room : ℕ) (r : Interpreted) (c : List ℕ) (z : List St
   from-outcome (Run.returning s) c₀ z₀ L b = absurd L
   from-outcome (Run.refused n) c₀ z₀ L b = away n (L .0) (L .1 .0) b
 
+-- no refusal has the number 0
+abbrev numberOf : Conversion → ℕ
+numberOf (Convert.refused n) = n
+numberOf (Convert.converted b w n) = 1
+
+abbrev Real : Conversion → Type 0
+Real x = x ≡ Convert.refused 0 → ⊥
+
+real-refused : (n : ℕ) → 0 < n → Real (Convert.refused n)
+real-refused n h e = let z : n ≡ 0 = ap numberOf e in let y : ⊥ = omega (arith, z, h) in y
+
+real-writes : (w : Float) (n : ℕ) (x : Written) → (x ≡ Writing.refused 0 → ⊥) → Real (writes w n x)
+real-writes w n (Writing.refused k) h e = h (ap Writing.refused (ap numberOf e))
+real-writes w n (Writing.wrote b) h e = let z : _≡_ {A = ℕ} 1 0 = ap numberOf e in let y : ⊥ = omega (arith, z) in y
+
+real-folded : (m : Matrix) (room : ℕ) (s : State) → Real (folded m room s)
+unfolding folded
+real-folded m room s = go (foldsFinite m s)
+  where
+    go : (b : Bool) → Real (pick b (writes (foldedWidth m (s .width)) (s .ran) (write (instructions m s) room)) (Convert.refused 14))
+    go true = real-writes (foldedWidth m (s .width)) (s .ran) (write (instructions m s) room) (write-nonzero (instructions m s) room)
+    go false = real-refused 14 (omega arith)
+
+real-ended : (m : Matrix) (room : ℕ) (r : Interpreted) (c : List ℕ) (z : List Stem) (c₀ : List ℕ) (z₀ : List Stem) (o : Outcome) → Leaves r c z c₀ z₀ o → Real (ended m room o)
+real-ended m room r c z c₀ z₀ (Run.going s) L = real-folded m room s
+real-ended m room r c z c₀ z₀ (Run.ending s) L = real-folded m room s
+real-ended m room r c z c₀ z₀ (Run.returning s) L = absurd L
+real-ended m room r c z c₀ z₀ (Run.refused n) L = real-refused n (L .0)
+
+real-picked : (b : Bool) (x : Conversion) → Real x → Real (pick b x (Convert.refused 1))
+real-picked true x h = h
+real-picked false x h = real-refused 1 (omega arith)
+
 pub entry-answers : (charstring bank : List ℕ) (lenIV : ℕ) (m : Matrix) (stems : List Stem) (words : List ℕ) (room : ℕ) (r : Interpreted) (c : List ℕ) (z : List Stem) → Leaves r c z words stems (outcome charstring bank lenIV (length stems) (length words))
     → (n : ℕ) → n ≡ firstNumber m (r .number) → (g : Type2Glyph) (z₃ : List Stem) (c₃ out : List ℕ) → Answers (fromRun n m room r c z) room g out → (z₄ : List Stem) (c₅ : List ℕ) → z₄ ≡ replicate (length stems) zeroStem → c₅ ≡ replicate (length words) 0
     → Converts (convert charstring bank lenIV m (length stems) (length words) room) stems words room g z₄ c₅ out
@@ -163,4 +197,4 @@ unfolding convert
 entry-answers charstring bank lenIV m stems words room r c z L n e g z₃ c₃ out A z₄ c₅ ez ec =
     let o = outcome charstring bank lenIV (length stems) (length words) in
     let x : fromRun n m room r c z ≡ pick (finiteMatrix m) (ended m room o) (Convert.refused 1) = ap (λ (k : ℕ). fromRun k m room r c z) e ∙ from-outcome m room r c z o words stems L (finiteMatrix m) in
-    record { glyph = A .glyph ∙ ap answer x; bytes = A .bytes ∙ ap (output room) x; records = ez; words = ec }
+    record { refusal = real-picked (finiteMatrix m) (ended m room o) (real-ended m room r c z words stems o L); glyph = A .glyph ∙ ap answer x; bytes = A .bytes ∙ ap (output room) x; records = ez; words = ec }

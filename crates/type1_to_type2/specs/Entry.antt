@@ -87,6 +87,8 @@ pub record Blank (across upright : List Float) (mask : List Bool) : Type 0 where
 
 -- what an entry that converts leaves: the answer and the output are a conversion's, every record and every word of the stores is zero
 pub record Converts (x : Conversion) (stems : List Stem) (commands : List ℕ) (room : ℕ) (g : Type2Glyph) (stems′ : List Stem) (commands′ out : List ℕ) : Type 0 where
+  -- a refusal's number is not 0
+  pub refusal : x ≡ Convert.refused 0 → ⊥
   pub glyph : g ≡ answer x
   pub bytes : out ≡ output room x
   pub records : stems′ ≡ replicate (length stems) zeroStem
