@@ -1,0 +1,185 @@
+-- Laws: the machine runs a program, from the width and the stems to the endchar.
+use mathlib.Core.Path.{_≡_, refl, sym, ap, _∙_, subst}
+use Prim.Native.Nat.{ℕ, zero, suc, _+_, _-_, _*_, _≤_}
+use native.Mathlib.Omega.{arith}
+use mathlib.Core.Bool.{Bool, true, false, _&&_, _||_, cond}
+use mathlib.Core.List.{List, [], _∷_, _++_}
+use mathlib.Core.Option.{Option, none, some}
+use lib.ListN.{length, length-append}
+use lib.Dec.{T, leb, eqb, lit≤}
+use lib.IntN.{ℤ, pos}
+use lib.Ieee.{Float, binary64, fits}
+use lib.Ieee.Fits.{and-i}
+use Rattle.binary64.specs.Value.{mag}
+use Rattle.type2.specs.Machine.{Kind, moves, lines, curves, flexes, Entry, State, start, withOps, withStems, run}
+use Rattle.type2.specs.Number.{inRange, Is}
+use Rattle.type2.specs.Instruction.{Instr, instr, bytes, fine, allFine, isZero}
+use Rattle.type2.specs.Bools.{choose, and-both}
+use Rattle.type2.specs.Operators.{Ready, settledWith, widthOf, numbers-run, operands-run, stem-run, zero-is}
+use Rattle.type2.specs.Machine as Machine
+use Rattle.type1.specs.declared.Stem.{Stem}
+use Rattle.type1.specs.State.{plusZero, origin}
+use Rattle.type1_to_type2.specs.Stems.{Declared, stemsOf}
+use Rattle.type1_to_type2.specs.Emission.{moveOf, Item, mask, go, Waiting, idle, held, codeOf, sameKind, most, flush, join, pack, pair, secondEdge, stemsFrom, items, Cmd, program}
+use Rattle.type1_to_type2.specs.Finish.{first}
+use Rattle.agreement.specs.Demand3.{SamePoint, SameDrawing}
+use Rattle.agreement.specs.Simulation.{Meets, effects, itemsFine, waitFine, PackFine, StemsRun, entriesOf, pointCount, CommandCoordinates, Ran}
+use Rattle.agreement.specs.Items.{pack-run}
+use Rattle.agreement.specs.Path.{commands-run}
+
+-- ---- what the bytes were not refused for, the items were not
+fine-left : (l m : List ℤ) → T (fine (l ++ m)) → T (fine l) × T (fine m)
+unfolding fine
+fine-left [] m t = (tt, t)
+fine-left (u ∷ l) m t =
+    let w = and-both (inRange u) (fine (l ++ m)) t in
+    let r = fine-left l m (w .1) in
+    (and-i (inRange u) (fine l) (w .0) (r .0), r .1)
+
+flush-fine : (w : Waiting) (is : List Instr) → T (allFine (flush w is)) → T (waitFine w) × T (allFine is)
+unfolding allFine
+flush-fine idle is t = (tt, t)
+flush-fine (held k l) is t = and-both (fine l) (allFine is) t
+
+move-fine : (l : List ℤ) → T (fine (moveOf l .operands)) → T (fine l)
+unfolding fine
+move-fine [] t = t
+move-fine (a ∷ []) t = t
+move-fine (a ∷ b ∷ c ∷ l) t = t
+move-fine (a ∷ b ∷ []) t =
+    choose (isZero b) (λ (i : Instr). T (fine (i .operands)) → T (fine (a ∷ b ∷ []))) (instr (a ∷ []) (22 ∷ [])) (cond (isZero a) (instr (b ∷ []) (4 ∷ [])) (instr (a ∷ b ∷ []) (21 ∷ [])))
+    (λ z t. and-i (inRange a) (inRange b && true) (and-both (inRange a) true t .0) (subst (λ (x : ℤ). T (inRange x && true)) (sym (zero-is b z)) tt))
+    (λ y t. choose (isZero a) (λ (i : Instr). T (fine (i .operands)) → T (fine (a ∷ b ∷ []))) (instr (b ∷ []) (4 ∷ [])) (instr (a ∷ b ∷ []) (21 ∷ []))
+    (λ z t. and-i (inRange a) (inRange b && true) (subst (λ (x : ℤ). T (inRange x)) (sym (zero-is a z)) tt) t) (λ z t. t) t) t
+
+join-fine : (k : Kind) (l : List ℤ) (is : List Item) (w : Waiting) → PackFine is → T (allFine (join k l w (pack is))) → T (waitFine w) × T (fine l && itemsFine is)
+unfolding allFine
+join-fine k l is idle f t = let r = f (held k l) t in (tt, and-i (fine l) (itemsFine is) (r .0) (r .1))
+join-fine k l is (held j m) f t =
+    choose (sameKind j k && leb (length m + length l) (most k)) (λ (x : List Instr). T (allFine x) → T (fine m) × T (fine l && itemsFine is)) (pack is (held k (m ++ l))) (instr m (codeOf j ∷ []) ∷ pack is (held k l))
+    (λ z t. let r = f (held k (m ++ l)) t in let q = fine-left m l (r .0) in (q .0, and-i (fine l) (itemsFine is) (q .1) (r .1)))
+    (λ z t. let q = and-both (fine m) (allFine (pack is (held k l))) t in let r = f (held k l) (q .1) in (q .0, and-i (fine l) (itemsFine is) (r .0) (r .1))) t
+
+alone-fine : (x : Instr) (is : List Item) (w : Waiting) → PackFine is → T (allFine (flush w (x ∷ pack is idle))) → T (waitFine w) × T (fine (x .operands)) × T (itemsFine is)
+unfolding allFine
+alone-fine x is w f t =
+    let a = flush-fine w (x ∷ pack is idle) t in
+    let b = and-both (fine (x .operands)) (allFine (pack is idle)) (a .1) in
+    (a .0, b .0, f idle (b .1) .1)
+
+pub pack-fine : (is : List Item) → PackFine is
+unfolding pack itemsFine
+pack-fine [] w t = (flush-fine w (instr [] (14 ∷ []) ∷ []) t .0, tt)
+pack-fine (mask b ∷ is) w t = let a = alone-fine (instr [] _) is w (pack-fine is) t in (a .0, a .2)
+pack-fine (go moves l ∷ is) w t = let a = alone-fine (moveOf l) is w (pack-fine is) t in (a .0, and-i (fine l) (itemsFine is) (move-fine l (a .1)) (a .2))
+pack-fine (go lines l ∷ is) w t = join-fine lines l is w (pack-fine is) t
+pack-fine (go curves l ∷ is) w t = join-fine curves l is w (pack-fine is) t
+pack-fine (go flexes l ∷ is) w t = let a = alone-fine (instr l (12 ∷ 35 ∷ [])) is w (pack-fine is) t in (a .0, and-i (fine l) (itemsFine is) (a .1) (a .2))
+
+-- ---- stems: the machine counts them all
+module _ (op : ℕ) (isStem : (eqb op 1 || eqb op 3 || eqb op 18 || eqb op 23) ≡ true) (noNumber : (eqb op 28 || leb 32 op) ≡ false) where
+  one-op : (l : List ℤ) (j : ℕ) (is : List Instr) (s : State) → Ready s → length l ≡ suc j * 2 → j ≤ 22 → T (fine l) → s .stems + suc j ≤ 96
+      → run (bytes (instr l (op ∷ []) ∷ is)) 0 s ≡ run (bytes is) 0 (withStems (s .stems + suc j) (settledWith l s))
+  unfolding bytes
+  one-op l j is s g e h f k = operands-run l (op ∷ bytes is) s g f (omega arith) ∙ stem-run l (bytes is) s g op j isStem noNumber e k
+
+  stems-run : (ss : List Stem) (k j : ℕ) (from : Float) (l : List ℤ) (is : List Instr) (s : State) → Ready s → length l ≡ j * 2 → j + k ≡ 23 → T (allFine (stemsFrom op ss k from l is)) → s .stems + j + length ss ≤ 96
+      → StemsRun is (stemsFrom op ss k from l is) s (s .stems + j + length ss)
+  unfolding stemsFrom allFine
+  stems-run [] k j from [] is s g e c f h =
+      let z : s .stems ≡ s .stems + j + 0 = omega arith in
+      record { here = s; ready = g; is-t = ap (λ (n : ℕ). withStems n (settledWith [] s)) z; ran = refl; rest = f }
+  stems-run [] k zero from (u ∷ l) is s g e c f h = absurd (let z : ⊥ = omega arith in z)
+  stems-run [] k (suc j) from (u ∷ l) is s g e c f h =
+      let w = and-both (fine (u ∷ l)) (allFine is) f in
+      let z : s .stems + suc j ≡ s .stems + suc j + 0 = omega arith in
+      record { here = withStems (s .stems + suc j) (settledWith (u ∷ l) s); ready = lit≤ tt; is-t = ap (λ (n : ℕ). withStems n (settledWith [] s)) z; ran = one-op (u ∷ l) j is s g e (omega arith) (w .0) (omega arith); rest = w .1 }
+  stems-run (x ∷ ss) zero zero from l is s g e c f h = absurd (let z : ⊥ = omega arith in z)
+  stems-run (x ∷ ss) zero (suc j) from l is s g e c f h =
+      let tail = stemsFrom op ss 22 (secondEdge x) (pair plusZero x) is in
+      let w = and-both (fine l) (allFine tail) f in
+      let s' = withStems (s .stems + suc j) (settledWith l s) in
+      let R = stems-run ss 22 1 (secondEdge x) (pair plusZero x) is s' (lit≤ tt) refl refl (w .1) (omega arith) in
+      let z : s .stems + suc j + 1 + length ss ≡ s .stems + suc j + suc (length ss) = omega arith in
+      record { here = R .here; ready = R .ready; is-t = R .is-t ∙ ap (λ (n : ℕ). withStems n (settledWith [] s)) z; ran = one-op l j tail s g e (omega arith) (w .0) (omega arith) ∙ R .ran; rest = R .rest }
+  stems-run (x ∷ ss) (suc k) j from l is s g e c f h =
+      let len : length (l ++ pair from x) ≡ suc j * 2 = length-append l (pair from x) ∙ (let z : length l + 2 ≡ suc j * 2 = omega arith in z) in
+      let R = stems-run ss k (suc j) (secondEdge x) (l ++ pair from x) is s g len (omega arith) f (omega arith) in
+      let z : s .stems + suc j + length ss ≡ s .stems + j + suc (length ss) = omega arith in
+      record { here = R .here; ready = R .ready; is-t = R .is-t ∙ ap (λ (n : ℕ). withStems n (settledWith [] s)) z; ran = R .ran; rest = R .rest }
+
+-- ---- the program
+origin-is : SamePoint Is Machine.origin origin
+origin-is = (zero-point, zero-point)
+  where
+    fit : T (fits binary64 plusZero)
+    fit = unfold fits in tt
+
+    nothing : mag binary64 plusZero ≡ 0
+    nothing = unfold mag in refl
+
+    zero-point : Is (pos 0) plusZero
+    zero-point = record { fit = fit; fine = tt; plus = nothing; minus = refl }
+
+first-ready : (w : Option ℤ) → Ready (withOps (first w) start)
+first-ready none = lit≤ tt
+first-ready (some u) = lit≤ tt
+
+first-short : (w : Option ℤ) → length (first w) ≤ 1
+first-short none = lit≤ tt
+first-short (some u) = lit≤ tt
+
+first-width : (w : Option ℤ) → widthOf (first w) (withOps (first w) start) ≡ w
+first-width none = refl
+first-width (some u) = refl
+
+across-op : (m : Bool) → (eqb (cond m 18 1) 1 || eqb (cond m 18 1) 3 || eqb (cond m 18 1) 18 || eqb (cond m 18 1) 23) ≡ true
+across-op true = refl
+across-op false = refl
+
+upright-op : (m : Bool) → (eqb (cond m 23 3) 1 || eqb (cond m 23 3) 3 || eqb (cond m 23 3) 18 || eqb (cond m 23 3) 23) ≡ true
+upright-op true = refl
+upright-op false = refl
+
+across-low : (m : Bool) → (eqb (cond m 18 1) 28 || leb 32 (cond m 18 1)) ≡ false
+across-low true = refl
+across-low false = refl
+
+upright-low : (m : Bool) → (eqb (cond m 23 3) 28 || leb 32 (cond m 23 3)) ≡ false
+upright-low true = refl
+upright-low false = refl
+
+drawn-so : (b : Bool) (cs : List Cmd) (l more : List (Entry Machine.Point)) → l ≡ more → SameDrawing (Meets b) more (entriesOf cs) → SameDrawing (Meets b) l (entriesOf cs)
+drawn-so b cs l more e h = subst (λ (x : List (Entry Machine.Point)). SameDrawing (Meets b) x (entriesOf cs)) (sym e) h
+
+-- with at most 96 stems and 4194303 points, each coordinate a finite double
+pub program-run : (b : Bool) (w : Option ℤ) (d : Declared) (cs : List Cmd) → length (stemsOf d) ≤ 96 → pointCount cs ≤ 4194303 → CommandCoordinates b cs → T (fine (first w)) → T (allFine (program d cs)) → Ran b w d cs
+unfolding program
+program-run b w d cs few short coordinates f0 f1 =
+    let p = first w in
+    let m = d .masked in
+    let its = items m (stemsOf d) origin cs in
+    let tail2 = pack its idle in
+    let tail1 = stemsFrom (cond m 23 3) (d .upright) 23 plusZero [] tail2 in
+    let whole = stemsFrom (cond m 18 1) (d .across) 23 plusZero [] tail1 in
+    let s0 = withOps p start in
+    let la = length-append (d .across) (d .upright) in
+    let short-p = first-short w in
+    let N = numbers-run p [] (bytes whole) start f0 (omega arith) in
+    let F1 = stems-run (cond m 18 1) (across-op m) (across-low m) (d .across) 23 0 plusZero [] tail1 s0 (first-ready w) refl refl f1 (omega arith) in
+    let c1 : F1 .here .stems ≡ 0 + 0 + length (d .across) = ap (λ (x : State). x .stems) (F1 .is-t) in
+    let F2 = stems-run (cond m 23 3) (upright-op m) (upright-low m) (d .upright) 23 0 plusZero [] tail2 (F1 .here) (F1 .ready) refl refl (F1 .rest) (omega arith) in
+    let n = F1 .here .stems + 0 + length (d .upright) in
+    let t = withStems n (settledWith [] s0) in
+    let e : settledWith [] (F2 .here) ≡ t = F2 .is-t ∙ ap (withStems n) (F1 .is-t) in
+    let count : length (stemsOf d) ≡ n = omega arith in
+    let W = commands-run b m (stemsOf d) cs origin t 0 origin-is (lit≤ tt, lit≤ tt) coordinates (omega arith) (pack-fine its idle (F2 .rest) .1) count in
+    let X = W .1 in
+    record {
+      end = effects its t;
+      ran = N ∙ F1 .ran ∙ F2 .ran ∙ pack-run its idle (F2 .here) t (F2 .ready) e (W .0);
+      width = X .width ∙ first-width w;
+      stems = X .stems ∙ sym count;
+      drawn = drawn-so b cs (effects its t .drawn) (X .more) (X .drawn) (X .same-drawing);
+      masks = X .masks;
+    }

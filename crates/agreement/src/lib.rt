@@ -1,0 +1,87 @@
+// Demand 3, and the entry that converts and finishes in one call.
+ghost use mathlib.Core.Path.{_≡_};
+ghost use lib.ListN.{length, replicate};
+ghost use Rattle.type1.specs.State.{plusZero};
+ghost use Rattle.type1_to_type2.specs.Convert.{convert};
+ghost use Rattle.agreement.specs.Finished.{Finishes, ConvertsFinished};
+use geometry::Matrix;
+use type1::Stem;
+use type1_to_type2::Type2Glyph;
+
+// A font's default and nominal width.
+pub struct Widths {
+    pub default_width_x: f64,
+    pub nominal_width_x: f64,
+}
+
+// Every byte becomes 0.
+fn wipe_bytes(bytes: &mut [u8])
+    ensures { λ _. ⌜ now (bytes .exit) ≡ replicate (length (now (bytes .entry))) 0 ⌝ }
+{
+    let mut i = 0;
+    while i < bytes.len() {
+        bytes[i] = 0;
+        i += 1;
+    }
+}
+
+// A refusal: all but the number are 0.
+fn refused(number: u64) -> Type2Glyph
+    ensures { λ r. ⌜ r ≡ record { number = number; len = 0; width = plusZero; ran = 0 } ⌝ }
+{
+    Type2Glyph {
+        number: number,
+        len: 0,
+        width: 0.0,
+        ran: 0,
+    }
+}
+
+// The glyph's charstring into the output, with its length.
+fn finish_glyph(glyph: Type2Glyph, widths: Widths, program: &[u8], out: &mut [u8]) -> Type2Glyph
+    ensures { λ r. ⌜ Finishes glyph widths (now (program .entry)) (length (now (out .entry))) r (now (out .exit)) ⌝ }
+{
+    if glyph.number != 0 {
+        wipe_bytes(out);
+        return refused(glyph.number);
+    }
+    let f = glyph.charstring(program, widths.default_width_x, widths.nominal_width_x, out);
+    if f.number != 0 {
+        return refused(f.number);
+    }
+    Type2Glyph {
+        number: 0,
+        len: f.len,
+        width: glyph.width,
+        ran: glyph.ran,
+    }
+}
+
+// Converts a Type 1 charstring under a matrix and finishes it for a font's widths. `program` is a working
+// store for the program. Where the number is 0, demand 3 holds of the bytes in the output.
+pub fn convert_finished(
+    charstring: &[u8],
+    bank: &[u8],
+    len_iv: usize,
+    matrix: Matrix,
+    widths: Widths,
+    stems: &mut [Stem],
+    commands: &mut [u64],
+    program: &mut [u8],
+    out: &mut [u8],
+) -> Type2Glyph
+    ensures { λ r. ⌜ ConvertsFinished (now (charstring .entry)) (now (bank .entry)) «len_iv» matrix widths (convert (now (charstring .entry)) (now (bank .entry)) «len_iv» matrix (length (now (stems .entry))) (length (now (commands .entry))) (length (now (program .entry)))) (now (stems .entry)) (now (commands .entry)) (now (program .entry)) (length (now (out .entry))) r (now (stems .exit)) (now (commands .exit)) (now (program .exit)) (now (out .exit)) ⌝ }
+{
+    let g = type1_to_type2::convert_charstring_transformed(
+        charstring,
+        bank,
+        len_iv,
+        matrix,
+        stems,
+        commands,
+        program,
+    );
+    let r = finish_glyph(g, widths, program, out);
+    wipe_bytes(program);
+    r
+}
