@@ -71,8 +71,8 @@ module _ {M : Type 1} (𝓤 : URA M) (H : Heap 𝓤) (A : Atoms 𝓤) (mem : Mem
       let y : FinishGlyphC 𝓤 H A mem run′ .Ghost = (((κprogram, (κout, tt)), (qprogram, (qout, tt)), tt, (g, (p, (xprogram, (at-list u8 mout bout oout γout ysout, tt)))), (machG g ∷ [], (machX p ∷ [], (sliceVal (xprogram .ptr) (length (xprogram .now)) ∷ [], (sliceVal (bout, oout) mout ∷ [], tt))))), tt) in
       via 𝓤 (FinishGlyphC 𝓤 H A mem run′ .pre y) (qed W (((‵ (flft κprogram qprogram) ⊛ ‵ (ShrSlice (named 0) κprogram u8 .own xprogram (sliceVal (xprogram .ptr) (length (xprogram .now)) ∷ []))) ⊛ (‵ (flft κout qout) ⊛ ‵ (Own u8 mout bout oout κout γout ysout))) ∷ []) ∵ split ! $ split ! $ move ! (2 ∷ []) $ split ! $ nothing ! $ move ! (2 ∷ 0 ∷ []) $ fjoin ! $ move ! (3 ∷ 0 ∷ []) $ fjoin ! $ owned ! X.the-row (Is X.the-row) (LL.makes X.the-type X′.the-plain 𝓤 H A) p _ p-fits $ fjoin ! $ owned ! G.the-row (Is G.the-row) (LL.makes G.the-type G′.the-plain 𝓤 H A) g _ g-fits $ fjoin ! $ nothing ! $ move ! (2 ∷ 0 ∷ []) $ join ! $ move ! (2 ∷ 0 ∷ []) $ join ! $ join ! $ frame ! $ done !) (known y)
 
-  pub wipe-bytes-as : Triple 𝓤 (C #agreement·wipe-bytes) (WipeBytesC 𝓤 H A mem run′) → (κbytes : Lft) (qbytes : Share) (mbytes bbytes obytes : ℕ) (γbytes : GName) (ysbytes : List ℕ) 
+  pub wipe-bytes-as : Triple 𝓤 (C #agreement·wipe-bytes) (WipeBytesC 𝓤 H A mem run′) → (κbytes : Lft) (qbytes : Share) (mbytes bbytes obytes : ℕ) (γbytes : GName) (ysbytes : List ℕ)
       → ent 𝓤 (mean 𝓤 H A (‵ (flft κbytes qbytes) ⊛ ‵ (Own u8 mbytes bbytes obytes κbytes γbytes ysbytes))) (C #agreement·wipe-bytes (sliceVal (bbytes, obytes) mbytes ∷ []) (λ w. mean 𝓤 H A (GotAll 𝓤 Nothing (List ℕ × Unit {0}) (λ (r : Nothing .Denot) (lasts : (List ℕ × Unit {0})). lasts .0 ≡ replicate (length ysbytes) 0) (λ (lasts : (List ℕ × Unit {0})). (fsep (fsep (finally u8 γbytes (lasts .0)) (feq ℕ (length (lasts .0)) (length ysbytes))) ftrue)) (‵ (flft κbytes qbytes) ⊛ ‵ ftrue) w)))
-  wipe-bytes-as known κbytes qbytes mbytes bbytes obytes γbytes ysbytes   =
+  wipe-bytes-as known κbytes qbytes mbytes bbytes obytes γbytes ysbytes =
       let y : WipeBytesC 𝓤 H A mem run′ .Ghost = (((κbytes, tt), (qbytes, tt), tt, (at-list u8 mbytes bbytes obytes γbytes ysbytes, tt), (sliceVal (bbytes, obytes) mbytes ∷ [], tt)), tt) in
       via 𝓤 (WipeBytesC 𝓤 H A mem run′ .pre y) (qed W ((‵ (flft κbytes qbytes) ⊛ ‵ (Own u8 mbytes bbytes obytes κbytes γbytes ysbytes)) ∷ []) ∵ split ! $ nothing ! $ move ! (2 ∷ 0 ∷ []) $ fjoin ! $ nothing ! $ move ! (2 ∷ 0 ∷ []) $ join ! $ join ! $ frame ! $ done !) (known y)
