@@ -8,7 +8,9 @@ ghost use lib.ListN.{length, getD, replicate};
 ghost use lib.Ieee.{binary64, ofBits};
 ghost use Rattle.widths.specs.Widths.{zeroWidth};
 ghost use Rattle.type1.specs.Interpret.{outcome, Leaves};
-ghost use Rattle.replay.specs.Stores.{usedStem, afterRun};
+ghost use Rattle.type1_to_type2.specs.Convert as Convert;
+ghost use Rattle.type1_to_type2.specs.Entry.{Converts};
+ghost use Rattle.replay.specs.Stores.{usedStem, afterRun, afterConverting};
 use libc::STDOUT_FILENO;
 
 // The most bytes of a payload.
@@ -586,7 +588,7 @@ fn is_blank(s: type1::Stem) -> bool {
 fn all_blank(stems: [type1::Stem; RECORDS]) -> bool {
     let mut i: usize = 0;
     while i < RECORDS {
-        if !is_blank(stem_at(stems, i)) {
+        if !is_blank(stems[i]) {
             return false;
         }
         i += 1;
@@ -632,6 +634,238 @@ fn compare_run(v: &[u8]) -> bool {
     is_run(&words, r, v, after_string(v, at))
 }
 
+// What converting answers, and the stem store after it.
+struct AfterConverting {
+    answer: type1_to_type2::Type2Glyph,
+    stems: [type1::Stem; RECORDS],
+}
+
+fn with_records(
+    answer: type1_to_type2::Type2Glyph,
+    stems: [type1::Stem; RECORDS],
+) -> AfterConverting
+    ensures { λ r. ⌜ r ≡ afterConverting answer stems ⌝ }
+{
+    AfterConverting { answer, stems }
+}
+
+// Converts a charstring with a stem store of its own.
+fn convert(
+    charstring: &[u8],
+    bank: &[u8],
+    len_iv: usize,
+    matrix: geometry::Matrix,
+    words: &mut [u64],
+    out: &mut [u8],
+) -> AfterConverting
+    ensures { λ r. ⌜ Converts (Convert.convert (now (charstring .entry)) (now (bank .entry)) «len_iv» matrix 512 (length (now (words .entry))) (length (now (out .entry)))) (replicate 512 usedStem) (now (words .entry)) (length (now (out .entry))) (r .answer) (r .stems) (now (words .exit)) (now (out .exit)) ⌝ }
+{
+    let mut stems = stem_store();
+    let answer = type1_to_type2::convert_charstring_transformed(
+        charstring,
+        bank,
+        len_iv,
+        matrix,
+        &mut stems,
+        words,
+        out,
+    );
+    with_records(answer, stems)
+}
+
+// The short number at a place: a byte n, then n bytes.
+fn short(v: &[u8], at: usize) -> u64 {
+    big_endian(part(v, place(at, 1), byte(v, at) as usize))
+}
+
+fn after_short(v: &[u8], at: usize) -> usize {
+    place(place(at, 1), byte(v, at) as usize)
+}
+
+// The place after n short numbers.
+fn after_shorts(v: &[u8], from: usize, n: usize) -> usize {
+    let mut at = from;
+    let mut i: usize = 0;
+    while i < n {
+        at = after_short(v, at);
+        i += 1;
+    }
+    at
+}
+
+// Short number n of those from a place on.
+fn nth_short(v: &[u8], from: usize, n: usize) -> u64 {
+    short(v, after_shorts(v, from, n))
+}
+
+fn nth_double(v: &[u8], from: usize, n: usize) -> f64 {
+    from_pattern(nth_short(v, from, n))
+}
+
+// The string at a place whose length is a short number.
+fn short_string(v: &[u8], at: usize) -> &[u8] {
+    part(v, after_short(v, at), short(v, at) as usize)
+}
+
+fn after_short_string(v: &[u8], at: usize) -> usize {
+    place(after_short(v, at), short(v, at) as usize)
+}
+
+// Six short numbers.
+fn short_matrix(v: &[u8], at: usize) -> geometry::Matrix {
+    geometry::Matrix {
+        a: nth_double(v, at, 0),
+        b: nth_double(v, at, 1),
+        c: nth_double(v, at, 2),
+        d: nth_double(v, at, 3),
+        tx: nth_double(v, at, 4),
+        ty: nth_double(v, at, 5),
+    }
+}
+
+// The command words and output bytes lent to converting: enough for most vectors, and for all.
+const FEW_WORDS: usize = 448;
+
+const FEW_BYTES: usize = 256;
+
+const MANY_WORDS: usize = 7168;
+
+const MANY_BYTES: usize = 2048;
+
+fn few_words() -> [u64; FEW_WORDS]
+    ensures { λ r. ⌜ 448 ≡ length r ⌝ }
+{
+    [USED; FEW_WORDS]
+}
+
+fn few_bytes() -> [u8; FEW_BYTES]
+    ensures { λ r. ⌜ 256 ≡ length r ⌝ }
+{
+    [BEFORE; FEW_BYTES]
+}
+
+fn many_words() -> [u64; MANY_WORDS]
+    ensures { λ r. ⌜ 7168 ≡ length r ⌝ }
+{
+    [USED; MANY_WORDS]
+}
+
+fn many_bytes() -> [u8; MANY_BYTES]
+    ensures { λ r. ⌜ 2048 ≡ length r ⌝ }
+{
+    [BEFORE; MANY_BYTES]
+}
+
+// The first n words are 0, and each other is as before.
+fn is_wiped(words: &[u64], n: usize) -> bool {
+    let mut i: usize = 0;
+    while i < words.len() {
+        let expected: u64 = if i < n { 0 } else { USED };
+        if words[i] != expected {
+            return false;
+        }
+        i += 1;
+    }
+    true
+}
+
+// The answer is the vector's: number, width, bytes run and program, short, from a place on.
+fn is_answer(g: type1_to_type2::Type2Glyph, v: &[u8], at: usize) -> bool {
+    g.number == nth_short(v, at, 0)
+        && same(g.width, nth_double(v, at, 1))
+        && g.ran as u64 == nth_short(v, at, 2)
+        && g.len as u64 == nth_short(v, at, 3)
+        && v.len() == after_short_string(v, after_shorts(v, at, 3))
+}
+
+// The places of a vector's charstring, bank and rooms; its matrix and lenIV are at 1.
+fn charstring_at(v: &[u8]) -> usize {
+    after_shorts(v, 1, 7)
+}
+
+fn bank_at(v: &[u8]) -> usize {
+    after_short_string(v, charstring_at(v))
+}
+
+fn rooms_at(v: &[u8]) -> usize {
+    after_short_string(v, bank_at(v))
+}
+
+// Converts with so many words and bytes: the vector's answer, the program and zeros, the stores zero,
+// and nothing behind what is lent changes.
+fn converts(v: &[u8], room: usize, bytes: usize, words: &mut [u64], out: &mut [u8]) -> bool {
+    if words.len() < room {
+        return false;
+    }
+    if out.len() < bytes {
+        return false;
+    }
+    let behind = out.len() - bytes;
+    let r = convert(
+        short_string(v, charstring_at(v)),
+        short_string(v, bank_at(v)),
+        nth_short(v, 1, 6) as usize,
+        short_matrix(v, 1),
+        &mut words[..room],
+        &mut out[..bytes],
+    );
+    let answer_at = after_shorts(v, rooms_at(v), 2);
+    let stems = r.stems;
+    is_answer(r.answer, v, answer_at)
+        && holds(
+            part(out, 0, bytes),
+            short_string(v, after_shorts(v, answer_at, 3)),
+            0,
+        )
+        && holds(part(out, bytes, behind), b"", BEFORE)
+        && is_wiped(words, room)
+        && all_blank(stems)
+}
+
+fn compare_convert(v: &[u8]) -> bool {
+    let room = nth_short(v, rooms_at(v), 0) as usize;
+    let bytes = nth_short(v, rooms_at(v), 1) as usize;
+    if room <= FEW_WORDS && bytes <= FEW_BYTES {
+        let mut words = few_words();
+        let mut out = few_bytes();
+        return converts(v, room, bytes, &mut words, &mut out);
+    }
+    let mut words = many_words();
+    let mut out = many_bytes();
+    converts(v, room, bytes, &mut words, &mut out)
+}
+
+// The most bytes of a charstring that is nothing but `09`.
+const LONG: usize = 1048577;
+
+fn closepaths() -> [u8; LONG]
+    ensures { λ r. ⌜ 1048577 ≡ length r ⌝ }
+{
+    [9; LONG]
+}
+
+// Converts so many bytes `09`, not encrypted.
+fn compare_closepaths(v: &[u8]) -> bool {
+    let code = closepaths();
+    let bank_at = after_short(v, 1);
+    let answer_at = after_short_string(v, bank_at);
+    let mut words = few_words();
+    let mut out = few_bytes();
+    let r = convert(
+        part(&code, 0, short(v, 1) as usize),
+        short_string(v, bank_at),
+        usize::MAX,
+        geometry::Matrix::identity(),
+        &mut words,
+        &mut out,
+    );
+    let stems = r.stems;
+    is_answer(r.answer, v, answer_at)
+        && holds(&out, short_string(v, after_shorts(v, answer_at, 3)), 0)
+        && is_wiped(&words, FEW_WORDS)
+        && all_blank(stems)
+}
+
 // Our function gives what the vector says. A vector of another kind than its file's counts as different.
 fn compare(kind: u64, v: &[u8]) -> bool {
     if byte(v, 0) != kind {
@@ -652,6 +886,8 @@ fn compare(kind: u64, v: &[u8]) -> bool {
         12 => compare_push_number(v),
         13 => compare_choose_widths(v),
         14 => compare_run(v),
+        15 => compare_convert(v),
+        17 => compare_closepaths(v),
         _ => false,
     }
 }
@@ -785,5 +1021,7 @@ fn main() {
     t = replay(b"push_number", b"push_number.vec", 12, t);
     t = replay(b"choose_widths", b"choose_widths.vec", 13, t);
     t = replay(b"run", b"run.vec", 14, t);
+    t = replay(b"convert", b"convert.vec", 15, t);
+    t = replay(b"closepaths", b"closepaths.vec", 17, t);
     print(b"total", t);
 }

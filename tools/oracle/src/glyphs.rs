@@ -278,14 +278,37 @@ fn push_piece(r: &mut Random, out: &mut Vec<u8>, subrs: usize) {
     }
 }
 
-fn glyph(r: &mut Random) -> Glyph {
-    let count = if r.once_in(3) { 0 } else { r.below(6) as usize };
+/// Bounds of a random glyph: its subroutines, the pieces of one, its own pieces.
+struct Bounds {
+    subrs: u64,
+    body: u64,
+    pieces: u64,
+}
+
+const LONG: Bounds = Bounds {
+    subrs: 6,
+    body: 5,
+    pieces: 16,
+};
+
+const SHORT: Bounds = Bounds {
+    subrs: 3,
+    body: 3,
+    pieces: 6,
+};
+
+fn glyph(r: &mut Random, bounds: &Bounds) -> Glyph {
+    let count = if r.once_in(3) {
+        0
+    } else {
+        r.below(bounds.subrs) as usize
+    };
     let mut subrs: Vec<Vec<u8>> = Vec::new();
     for n in 0..count {
         let mut body = Vec::new();
         // A body calls those before it, and rarely any.
         let reach = if r.once_in(40) { count } else { n };
-        for _ in 0..r.below(5) {
+        for _ in 0..r.below(bounds.body) {
             if r.once_in(3) {
                 push_stems(r, &mut body);
             } else {
@@ -312,7 +335,7 @@ fn glyph(r: &mut Random) -> Glyph {
         }
     }
     push_stems(r, &mut plain);
-    for _ in 0..r.below(16) {
+    for _ in 0..r.below(bounds.pieces) {
         push_piece(r, &mut plain, count);
     }
     if !r.once_in(10) {
@@ -378,20 +401,35 @@ fn matrix(r: &mut Random) -> Matrix {
 // Answers
 // ---------------------------------------------------------------------------
 
-/// Room in the lent stores and in the output.
+/// The stem records that `replay` lends.
+const RECORDS: usize = 512;
+
+/// Room in the lent command store and in the output.
 #[derive(Clone, Copy)]
 struct Rooms {
-    stems: usize,
     words: usize,
     output: usize,
 }
 
-/// More than any vector that is recorded needs.
+/// The most that `replay` lends.
 const AMPLE: Rooms = Rooms {
-    stems: 1024,
     words: 14 * 512,
-    output: 4096,
+    output: 2048,
 };
+
+/// Enough for most glyphs.
+const USUAL: Rooms = Rooms {
+    words: 14 * 32,
+    output: 256,
+};
+
+impl Rooms {
+    /// More than is used: the usual room where that is enough, else the most.
+    fn spare(self) -> Rooms {
+        let usual = self.words <= USUAL.words && self.output <= USUAL.output;
+        if usual { USUAL } else { AMPLE }
+    }
+}
 
 /// What converting answers.
 struct Answer {
@@ -422,12 +460,14 @@ fn answer(input: &Input, m: &Matrix) -> Option<(Answer, Option<Rooms>)> {
         Err(text) => return Some((refused(refusal(&text)), None)),
     };
     let used = Rooms {
-        stems: run.groups.iter().map(Vec::len).sum(),
         words: 14 * run.commands.len(),
         output: 0,
     };
-    if used.stems > AMPLE.stems || used.words > AMPLE.words {
+    if used.words > AMPLE.words {
         return None;
+    }
+    if run.groups.iter().map(Vec::len).sum::<usize>() > RECORDS {
+        return Some((refused(16), None));
     }
     if !run.folds_finite {
         return Some((refused(14), Some(used)));
@@ -449,20 +489,28 @@ fn answer(input: &Input, m: &Matrix) -> Option<(Answer, Option<Rooms>)> {
 }
 
 fn add_convert(to: &mut Vectors, m: &Matrix, len_iv: usize, charstring: &[u8], bank: &[u8], rooms: Rooms, a: &Answer) {
-    let fields = Fields::new()
-        .doubles(&m.to_array())
-        .size(len_iv)
-        .string(charstring)
-        .string(bank)
-        .size(rooms.stems)
-        .size(rooms.words)
-        .size(rooms.output);
-    let fields = fields.number(a.number).double(a.width).size(a.count).string(&a.program);
-    to.add(fields);
+    let mut fields = Fields::new();
+    for v in m.to_array() {
+        fields = fields.short_double(v);
+    }
+    let fields = fields
+        .short(len_iv as u64)
+        .short_string(charstring)
+        .short_string(bank)
+        .short(rooms.words as u64)
+        .short(rooms.output as u64);
+    to.add(with_answer(fields, a));
 }
 
-/// A vector of the Rust's answer, and the same input with a store or the output one short.
-fn add_answer(r: &mut Random, to: &mut Vectors, input: &Input, m: &Matrix) -> bool {
+fn with_answer(to: Fields, a: &Answer) -> Fields {
+    to.short(a.number)
+        .short_double(a.width)
+        .short(a.count as u64)
+        .short_string(&a.program)
+}
+
+/// A vector of the Rust's answer. Of `edges`, also the same input with a store or the output one short.
+fn add_answer(r: &mut Random, to: &mut Vectors, input: &Input, m: &Matrix, edges: bool) -> bool {
     let Some((a, used)) = answer(input, m) else {
         return false;
     };
@@ -470,47 +518,51 @@ fn add_answer(r: &mut Random, to: &mut Vectors, input: &Input, m: &Matrix) -> bo
     let mut add = |rooms: Rooms, a: &Answer| {
         add_convert(to, m, input.len_iv, &input.charstring, &bank, rooms, a);
     };
-    add(AMPLE, &a);
-    let Some(used) = used else {
+    let Some(used) = used.filter(|_| a.number == 0) else {
+        add(AMPLE, &a);
         return true;
     };
-    if a.number == 0 && r.once_in(12) {
-        // Just enough of everything; a part of an entry is no entry.
-        add(used, &a);
-        add(
-            Rooms {
-                words: used.words + 13,
-                ..used
-            },
-            &a,
-        );
-        if used.stems > 0 {
-            add(
-                Rooms {
-                    stems: used.stems - 1,
-                    ..AMPLE
-                },
-                &refused(16),
-            );
-        }
+    // Just enough of everything, or a part of an entry more, which is no entry, or spare room.
+    let spare = used.spare();
+    let rooms = match r.below(4) {
+        0 => spare,
+        1 => Rooms {
+            words: spare.words.min(used.words + r.below(14) as usize),
+            output: spare.output.min(used.output + r.below(9) as usize),
+        },
+        _ => used,
+    };
+    add(rooms, &a);
+    if edges {
         if used.words > 0 {
-            add(
-                Rooms {
-                    words: used.words - 1,
-                    ..AMPLE
-                },
-                &refused(17),
-            );
+            let words = used.words - 1;
+            add(Rooms { words, ..spare }, &refused(17));
+            // 17 before 18.
+            add(Rooms { words, output: 0 }, &refused(17));
         }
-        add(
-            Rooms {
-                output: used.output - 1,
-                ..AMPLE
-            },
-            &refused(18),
-        );
+        let output = used.output - 1;
+        add(Rooms { output, ..used }, &refused(18));
     }
     true
+}
+
+/// A glyph with every room of a store and of the output that is too small.
+fn add_rooms(to: &mut Vectors, input: &Input, m: &Matrix) {
+    let Some((a, Some(used))) = answer(input, m) else {
+        panic!("the glyph converts");
+    };
+    assert!(a.number == 0);
+    let bank = bank(&input.subrs);
+    let mut add = |rooms: Rooms, a: &Answer| {
+        add_convert(to, m, input.len_iv, &input.charstring, &bank, rooms, a);
+    };
+    add(used, &a);
+    for output in 0..used.output {
+        add(Rooms { output, ..used }, &refused(18));
+    }
+    for words in 0..used.words {
+        add(Rooms { words, ..used }, &refused(17));
+    }
 }
 
 fn plain(charstring: &[u8], subrs: &[&[u8]]) -> Input {
@@ -622,6 +674,166 @@ fn stated_inputs() -> Vec<Input> {
     all
 }
 
+fn hstem(code: &mut Vec<u8>, pos: usize, width: u8) {
+    code.extend([0xF7 + (pos / 256) as u8, (pos % 256) as u8, 139 + width, 0x01]);
+}
+
+/// Two groups of 256 stems, each with a move: 512 records, 4 entries. `more` adds a group of one.
+fn full_store(more: bool) -> Input {
+    let mut bodies = vec![Vec::new(), Vec::new()];
+    for i in 0..256 {
+        hstem(&mut bodies[0], i, 1);
+        hstem(&mut bodies[1], i, 2);
+    }
+    let mut code = vec![0x8B, 0x0A, 0x8C, 0x16, 0x8B, 0x8E, 0x0C, 0x10, 0x8C, 0x0A, 0x8C, 0x16];
+    if more {
+        code.extend([0x8B, 0x8E, 0x0C, 0x10, 0x8C, 0x8C, 0x01, 0x8C, 0x16]);
+    }
+    plain(&code, &[&bodies[0], &bodies[1]])
+}
+
+/// Inputs at the edges of converting: forms of a number, counts of stems, lines and curves, masks, huge values.
+fn edge_inputs() -> Vec<Input> {
+    let mut all = Vec::new();
+    // "Glyphs worked through": a move by 107, 108, 1131, 1132, -1132, 0.5.
+    for code in [
+        &[0xF6][..],
+        &[0xF7, 0x00],
+        &[0xFA, 0xFF],
+        &[0xFF, 0x00, 0x00, 0x04, 0x6C],
+        &[0xFF, 0xFF, 0xFF, 0xFB, 0x94],
+        &[0x8C, 0x8D, 0x0C, 0x0C],
+        &[0xFF, 0xFF, 0xFF, 0x80, 0x00],
+        &[0xFF, 0xFF, 0xFF, 0x7F, 0xFF],
+    ] {
+        for op in [0x16, 0x04] {
+            let mut code = code.to_vec();
+            code.push(op);
+            all.push(plain(&code, &[]));
+        }
+    }
+    // One group of n stems, and two, whose masks share half of them.
+    for n in [1, 2, 7, 8, 9, 15, 16, 17, 22, 23, 24, 25, 45, 46, 47, 48, 69, 70, 95, 96, 97, 98] {
+        for upright in [false, true] {
+            let mut code = Vec::new();
+            for i in 0..n {
+                hstem(&mut code, i, 1);
+                if upright && i % 3 == 0 {
+                    *code.last_mut().unwrap() = 0x03;
+                }
+            }
+            code.extend([0x8C, 0x16]);
+            all.push(plain(&code, &[]));
+            code.extend([0x8B, 0x8E, 0x0C, 0x10]);
+            for i in (0..n).rev().step_by(2) {
+                hstem(&mut code, i, 1);
+            }
+            code.extend([0x8C, 0x06, 0x8D, 0x07, 0x09, 0x0E]);
+            all.push(plain(&code, &[]));
+        }
+    }
+    // Groups: none left in the second, the same stems in another order, the same again, none at all.
+    for (first, second) in [
+        (&[1u8, 2][..], &[][..]),
+        (&[1, 2], &[2, 1]),
+        (&[1, 2], &[1, 2]),
+        (&[], &[]),
+        (&[], &[1]),
+    ] {
+        let mut code = Vec::new();
+        for stems in [first, second] {
+            for s in stems {
+                code.extend([139 + s, 0x8C, 0x01]);
+            }
+            code.extend([0x8C, 0x16, 0x8C, 0x06, 0x8B, 0x8E, 0x0C, 0x10]);
+        }
+        all.push(plain(&code, &[]));
+    }
+    // Ghost stems, next to stems of the same edges.
+    for width in [-20i32, -21, -19, -22, 20, 21, 0] {
+        for op in [0x01, 0x03] {
+            let mut code = vec![0xEF, (139 + width) as u8, op, 0x8C, 0x16, 0x8B, 0x8E, 0x0C, 0x10];
+            code.extend([0xDA, 0xA0, op, 0x8C, 0x06]);
+            all.push(plain(&code, &[]));
+        }
+    }
+    // n lines, n curves: 23 and 7 to an operator.
+    for n in [1, 2, 22, 23, 24, 45, 46, 47, 69, 70] {
+        all.push(plain(&[0x8C, 0x8D, 0x05].repeat(n), &[]));
+    }
+    for n in [1, 6, 7, 8, 13, 14, 15, 21, 22] {
+        all.push(plain(&[0x8C, 0x8D, 0x8E, 0x8C, 0x8D, 0x8E, 0x08].repeat(n), &[]));
+    }
+    // 14: 1.9 times 2147483647 to the 33rd, once and twice: a point, a stem's edge by the side bearing.
+    let mut huge = vec![0x8C];
+    for _ in 0..33 {
+        huge.extend([0x8C, 0xFF, 0x7F, 0xFF, 0xFF, 0xFF, 0x0C, 0x0C, 0x0C, 0x0C]);
+    }
+    huge.extend([0x95, 0x9E, 0x0C, 0x0C, 0x0C, 0x0C]);
+    let joined = |parts: &[&[u8]]| plain(&parts.concat(), &[]);
+    for op in [0x16, 0x04] {
+        all.push(joined(&[&huge, &[op]]));
+        all.push(joined(&[&huge, &[op], &huge, &[op]]));
+    }
+    all.push(joined(&[&huge, &[0x06], &huge, &[0x06]]));
+    all.push(joined(&[&huge, &[0x07], &huge, &[0x07]]));
+    for op in [0x01, 0x03] {
+        all.push(joined(&[&huge, &[0x8C, op, 0x8C, 0x16]]));
+        all.push(joined(&[&huge, &huge, &[0x8B, 0x8B, 0x0C, 0x07], &huge, &[0x8C, op, 0x8C, 0x16]]));
+    }
+    // 16: 512 records fit, one more does not.
+    all.push(full_store(false));
+    all.push(full_store(true));
+    all
+}
+
+/// The bodies of a bank; none where it breaks its layout.
+fn bodies(bank: &[u8]) -> Option<Vec<Vec<u8>>> {
+    let count = u16::from_be_bytes(bank.get(..2)?.try_into().unwrap()) as usize;
+    let table = 2 + 4 * (count + 1);
+    let offsets: Vec<usize> = bank
+        .get(2..table)?
+        .chunks(4)
+        .map(|c| u32::from_be_bytes(c.try_into().unwrap()) as usize)
+        .collect();
+    let rest = &bank[table..];
+    if offsets[0] != 0 || offsets[count] != rest.len() || offsets.windows(2).any(|w| w[0] > w[1]) {
+        return None;
+    }
+    Some(offsets.windows(2).map(|w| rest[w[0]..w[1]].to_vec()).collect())
+}
+
+/// An input with a byte of its bank changed, dropped or added.
+fn add_damaged_bank(r: &mut Random, to: &mut Vectors, input: &Input, m: &Matrix) {
+    let mut bad = bank(&input.subrs);
+    let table = 2 + 4 * (input.subrs.len() + 1);
+    let at = r.below(table as u64) as usize;
+    match r.below(4) {
+        0 => bad.truncate(r.below(bad.len() as u64) as usize),
+        1 => bad.push(r.byte()),
+        2 => bad[at] = r.byte(),
+        _ => bad[at] = bad[at].wrapping_add(1),
+    }
+    let a = match bodies(&bad) {
+        None => refused(2),
+        Some(subrs) => {
+            let read = Input {
+                subrs,
+                charstring: input.charstring.clone(),
+                len_iv: input.len_iv,
+            };
+            let Some((a, _)) = answer(&read, m) else {
+                return;
+            };
+            a
+        }
+    };
+    add_convert(to, m, input.len_iv, &input.charstring, &bad, AMPLE, &a);
+}
+
+/// How many random glyphs are recorded, damaged copies among them.
+const GLYPHS: usize = 20_000;
+
 pub fn convert(r: &mut Random, to: &mut Vectors) {
     let identity = Matrix::identity();
     let none = bank(&[]);
@@ -670,19 +882,75 @@ pub fn convert(r: &mut Random, to: &mut Vectors) {
     );
     let no_output = Rooms { output: 0, ..AMPLE };
     add_convert(to, &identity, NOT_ENCRYPTED, &[], &none, no_output, &refused(18));
-    for input in stated_inputs() {
-        assert!(add_answer(r, to, &input, &identity));
+    // 16 before 17: the stem store and the command store are full at once.
+    let full = full_store(true);
+    for (entries, number) in [(4, 16), (3, 17), (0, 17)] {
+        let words = 14 * entries;
+        add_convert(
+            to,
+            &identity,
+            NOT_ENCRYPTED,
+            &full.charstring,
+            &bank(&full.subrs),
+            Rooms { words, ..AMPLE },
+            &refused(number),
+        );
     }
-    while to.count() < 560 {
-        let g = glyph(r);
+    let flipped = Matrix::new(1.0, 0.0, 0.0, -1.0, 0.0, 0.0);
+    let half = Matrix::new(0.5, 0.0, 0.0, 0.25, 10.0, 0.5);
+    let skewed = Matrix::new(1.0, 0.0, 0.25, 1.0, 0.0, 0.0);
+    for input in stated_inputs().iter().chain(&edge_inputs()) {
+        assert!(add_answer(r, to, input, &identity, true));
+        for m in [&flipped, &half, &skewed] {
+            if input.charstring.len() < 120 {
+                assert!(add_answer(r, to, input, m, false));
+            }
+        }
+    }
+    // Every room that is too small, of glyphs with stems, masks, lines, curves and a flex.
+    let mut rooms = 0;
+    while rooms < 8 {
+        let g = glyph(r, &SHORT);
+        let input = encrypted(r, &g);
+        if let Some((a, Some(used))) = answer(&input, &half)
+            && a.number == 0
+            && used.output < 90
+            && a.program.contains(&19)
+        {
+            add_rooms(to, &input, &half);
+            rooms += 1;
+        }
+    }
+    let mut glyphs = 0;
+    while glyphs < GLYPHS {
+        let g = if r.once_in(50) { glyph(r, &LONG) } else { glyph(r, &SHORT) };
         let m = matrix(r);
         let input = encrypted(r, &g);
-        add_answer(r, to, &input, &m);
+        if input.charstring.len() > 400 {
+            continue;
+        }
+        let edges = r.once_in(40);
+        glyphs += usize::from(add_answer(r, to, &input, &m, edges));
         if r.once_in(4) {
             let bad = damaged(r, &g);
             let input = encrypted(r, &bad);
-            add_answer(r, to, &input, &m);
+            glyphs += usize::from(add_answer(r, to, &input, &m, false));
         }
+        if r.once_in(40) {
+            add_damaged_bank(r, to, &input, &m);
+        }
+    }
+}
+
+/// Charstrings of nothing but closepath. Document 01's example of 3, 1,048,577 bytes `09`, is among them.
+pub fn closepaths(_: &mut Random, to: &mut Vectors) {
+    for count in [0, 1, 1_048_575, 1_048_576, 1_048_577] {
+        let input = plain(&vec![0x09; count], &[]);
+        let Some((a, _)) = answer(&input, &Matrix::identity()) else {
+            panic!("the Rust answers");
+        };
+        let fields = Fields::new().short(count as u64).short_string(&bank(&[]));
+        to.add(with_answer(fields, &a));
     }
 }
 
@@ -740,7 +1008,7 @@ pub fn run(r: &mut Random, to: &mut Vectors) {
         add(&input);
     }
     for _ in 0..180 {
-        let g = glyph(r);
+        let g = glyph(r, &LONG);
         add(&encrypted(r, &g));
         if r.once_in(5) {
             let bad = damaged(r, &g);
@@ -779,7 +1047,7 @@ pub fn finish(r: &mut Random, to: &mut Vectors) {
     add(500.0, &worked, 0.0, 0.0);
     for _ in 0..600 {
         let identity = Matrix::identity();
-        let g = glyph(r);
+        let g = glyph(r, &LONG);
         let e = encrypted(r, &g);
         let Some((a, _)) = answer(&e, &identity) else {
             continue;

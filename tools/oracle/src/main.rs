@@ -46,7 +46,7 @@ const fn kind(
     }
 }
 
-const KINDS: [Kind; 16] = [
+const KINDS: [Kind; 17] = [
     kind("round", 1, true, doubles::round),
     kind("floor", 2, true, doubles::floor),
     kind("abs", 3, true, doubles::abs),
@@ -61,8 +61,9 @@ const KINDS: [Kind; 16] = [
     kind("push_number", 12, true, numbers::push_number),
     kind("choose_widths", 13, true, numbers::choose_widths),
     kind("run", 14, true, glyphs::run),
-    kind("convert", 15, false, glyphs::convert),
+    kind("convert", 15, true, glyphs::convert),
     kind("finish", 16, false, glyphs::finish),
+    kind("closepaths", 17, true, glyphs::closepaths),
 ];
 
 fn main() {

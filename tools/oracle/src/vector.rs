@@ -50,6 +50,24 @@ impl Fields {
         self.bytes.extend(s);
         self
     }
+
+    /// A short number: how many bytes it has, then those bytes.
+    pub fn short(mut self, n: u64) -> Self {
+        let zeros = n.leading_zeros() as usize / 8;
+        self.bytes.push(8 - zeros as u8);
+        self.bytes.extend(&n.to_be_bytes()[zeros..]);
+        self
+    }
+
+    pub fn short_double(self, v: f64) -> Self {
+        self.short(if v.is_nan() { NAN_BITS } else { v.to_bits() })
+    }
+
+    pub fn short_string(mut self, s: &[u8]) -> Self {
+        self = self.short(s.len() as u64);
+        self.bytes.extend(s);
+        self
+    }
 }
 
 impl Vectors {

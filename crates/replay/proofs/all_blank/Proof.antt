@@ -14,8 +14,11 @@ abbrev μ-loop : tie.MeasureT-loop
 loop-holds : tie.Need-loop-holds Inv-loop μ-loop
 loop-holds c = omega arith
 
-stem-at-requires : tie.Need-stem-at-requires Inv-loop μ-loop
-stem-at-requires c κs = search needs
+mul-is-blank : tie.Need-mul-is-blank Inv-loop μ-loop
+mul-is-blank c = search needs
+
+array-copy-out-is-blank : tie.Need-array-copy-out-is-blank Inv-loop μ-loop
+array-copy-out-is-blank c = search needs
 
 is-blank-requires : tie.Need-is-blank-requires Inv-loop μ-loop
 is-blank-requires c κs = search needs
@@ -42,7 +45,8 @@ all-blank-spec =
     Inv-loop
     μ-loop
     loop-holds
-    stem-at-requires
+    mul-is-blank
+    array-copy-out-is-blank
     is-blank-requires
     returns
     add-i
