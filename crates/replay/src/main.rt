@@ -835,6 +835,46 @@ fn compare_convert(v: &[u8]) -> bool {
     converts(v, room, bytes, &mut words, &mut out)
 }
 
+// Finishes a glyph into a part of the output: the bytes, then zeros; behind the part nothing changes.
+fn finishes(
+    glyph: type1_to_type2::Type2Glyph,
+    v: &[u8],
+    widths: usize,
+    room: usize,
+    out: &mut [u8],
+) -> bool {
+    if out.len() < room {
+        return false;
+    }
+    let behind = out.len() - room;
+    let program = string(v, 9);
+    let bytes_at = place(widths, 32);
+    let f = glyph.charstring(
+        program,
+        double(v, widths),
+        double(v, place(widths, 8)),
+        &mut out[..room],
+    );
+    let bytes = string(v, bytes_at);
+    v.len() == after_string(v, bytes_at)
+        && f.number == number(v, place(widths, 24))
+        && f.len == bytes.len()
+        && holds(part(out, 0, room), bytes, 0)
+        && holds(part(out, room, behind), b"", BEFORE)
+}
+
+fn compare_finish(v: &[u8]) -> bool {
+    let glyph = type1_to_type2::Type2Glyph {
+        number: 0,
+        len: string(v, 9).len(),
+        width: double(v, 1),
+        ran: 0,
+    };
+    let widths = after_string(v, 9);
+    let mut out = output();
+    finishes(glyph, v, widths, size(v, place(widths, 16)), &mut out)
+}
+
 // The most bytes of a charstring that is nothing but `09`.
 const LONG: usize = 1048577;
 
@@ -887,6 +927,7 @@ fn compare(kind: u64, v: &[u8]) -> bool {
         13 => compare_choose_widths(v),
         14 => compare_run(v),
         15 => compare_convert(v),
+        16 => compare_finish(v),
         17 => compare_closepaths(v),
         _ => false,
     }
@@ -1022,6 +1063,7 @@ fn main() {
     t = replay(b"choose_widths", b"choose_widths.vec", 13, t);
     t = replay(b"run", b"run.vec", 14, t);
     t = replay(b"convert", b"convert.vec", 15, t);
+    t = replay(b"finish", b"finish.vec", 16, t);
     t = replay(b"closepaths", b"closepaths.vec", 17, t);
     print(b"total", t);
 }

@@ -1045,6 +1045,34 @@ pub fn finish(r: &mut Random, to: &mut Vectors) {
     let worked = [0x95, 0x9F, 0x15, 0x90, 0x8B, 0x05, 0x0E];
     add(500.0, &worked, 500.0, 0.0);
     add(500.0, &worked, 0.0, 0.0);
+    // The default equal, NaN, infinite, with another sign of 0; a nominal far off; widths beyond range.
+    let inf = f64::INFINITY;
+    for (width, default, nominal) in [
+        (500.25, 500.25, 0.0),
+        (0.3, 0.3, 0.0),
+        (500.0, f64::NAN, 0.0),
+        (f64::NAN, f64::NAN, 0.0),
+        (500.0, 0.0, f64::NAN),
+        (inf, inf, 0.0),
+        (-inf, -inf, 0.0),
+        (inf, -inf, 0.0),
+        (500.0, inf, inf),
+        (0.0, -0.0, 0.0),
+        (-0.0, 0.0, 0.0),
+        (-0.0, 1.0, 0.0),
+        (500.0, 0.0, 40000.0),
+        (500.0, 0.0, -40000.0),
+        (500.0, 0.0, 1e300),
+        (32767.0, 0.0, 0.0),
+        (32768.0, 0.0, 0.0),
+        (32768.0, 0.0, 1.0),
+        (-32768.0, 0.0, 0.0),
+        (-32769.0, 0.0, 0.0),
+        (1e300, 0.0, 0.0),
+        (1e300, 1e300, 0.0),
+    ] {
+        add(width, &worked, default, nominal);
+    }
     for _ in 0..600 {
         let identity = Matrix::identity();
         let g = glyph(r, &LONG);

@@ -62,7 +62,7 @@ const KINDS: [Kind; 17] = [
     kind("choose_widths", 13, true, numbers::choose_widths),
     kind("run", 14, true, glyphs::run),
     kind("convert", 15, true, glyphs::convert),
-    kind("finish", 16, false, glyphs::finish),
+    kind("finish", 16, true, glyphs::finish),
     kind("closepaths", 17, true, glyphs::closepaths),
 ];
 
