@@ -1,28 +1,25 @@
 -- Laws: the stores' entries are the drawn list with each group's start where it stands. Assumes nothing.
 use mathlib.Core.Path.{_≡_, refl, sym, _∙_, ap, ap₂, subst}
-use Prim.Native.Nat.{ℕ, zero, suc, _+_, _-_, _*_, _<_, _≤_}
+use Prim.Native.Nat.{ℕ, zero, suc, _+_, _<_, _≤_}
 use native.Mathlib.Omega.{arith}
-use native.Mathlib.Numerals.{add-one}
-use mathlib.Core.Bool.{Bool, true, false, _&&_, cond}
+use mathlib.Core.Bool.{Bool, true, false, cond}
 use mathlib.Core.List.{List, [], _∷_, _++_, append-nil, append-assoc}
 use lib.ListN.{length, take, drop, length-append}
-use lib.Dec.{T, eqb, eqb→eq, eqb-refl, ltb}
-use lib.Ieee.{Float}
-use lib.Ieee.Scale.{finite}
+use lib.Dec.{T, eqb, eqb→eq, eqb-refl}
 use Rattle.geometry.specs.declared.Matrix.{Matrix}
 use Rattle.type1.specs.declared.Stem.{Stem}
 use Rattle.type1.specs.State.{Command, Group}
 use Rattle.type1.specs.Run.{pick}
 use Rattle.type1.specs.Sound.{All}
 use Rattle.type1.specs.Memory.{word, commandIn, drawnIn, groupIn, groupsIn}
-use Rattle.type1_to_type2.specs.Folding.{isIdentity, foldedCommand, foldedList, foldedStems, foldedGroup, foldedGroups, finiteStems, finiteGroups}
+use Rattle.type1_to_type2.specs.Folding.{foldedCommand, foldedList, foldedStems, foldedGroup, foldedGroups}
 use Rattle.type1_to_type2.specs.Stems.{allStems}
 use Rattle.type1_to_type2.specs.Emission.{Cmd, hints, shape, startsAt, commands}
 use Rattle.type1_to_type2.specs.Streaming.{cmdsIn, shapes}
 use Rattle.type1_to_type2.specs.Collecting.{firstOf, countOf}
-use Rattle.type1_to_type2.specs.Passes.{records, groupAt, stemsTo, cmdsFrom}
+use Rattle.type1_to_type2.specs.Passes.{groupAt, stemsTo, cmdsFrom}
 use Rattle.type1_to_type2.specs.Entry.{groupCount}
-use Rattle.type1_to_type2.proofs.PassLaws.{folded-append, folded-none}
+use Rattle.type1_to_type2.proofs.Folds.{folded-none, groups-join, all-join}
 
 no-eqb : (a b : ℕ) → (a ≡ b → ⊥) → eqb a b ≡ false
 no-eqb a b h = go (eqb a b) refl
@@ -91,11 +88,6 @@ group-end gs g (d ∷ ds) k e =
     ∙ sym (append-assoc (startsAt k gs) (shape d ∷ commands (suc k) gs ds) (hints (g .stems) ∷ []))
 
 -- ---- folded lists, one more
-groups-end : (m : Matrix) (gs hs : List Group) → foldedGroups m (gs ++ hs) ≡ foldedGroups m gs ++ foldedGroups m hs
-unfolding foldedGroups
-groups-end m [] hs = refl
-groups-end m (g ∷ gs) hs = ap (λ (x : List Group). foldedGroup m g ∷ x) (groups-end m gs hs)
-
 pub list-end : (m : Matrix) (cs ds : List Command) → foldedList m (cs ++ ds) ≡ foldedList m cs ++ foldedList m ds
 unfolding foldedList
 list-end m [] ds = refl
@@ -115,25 +107,6 @@ groups-at-most : (m : Matrix) (n : ℕ) (gs : List Group) → AtMost n gs → At
 unfolding foldedGroups All
 groups-at-most m n [] a = tt
 groups-at-most m n (g ∷ gs) a = (a .0, groups-at-most m n gs (a .1))
-
-all-end : (gs hs : List Group) → allStems (gs ++ hs) ≡ allStems gs ++ allStems hs
-unfolding allStems
-all-end [] hs = refl
-all-end (g ∷ gs) hs = ap (λ (x : List Stem). g .stems ++ x) (all-end gs hs) ∙ sym (append-assoc (g .stems) (allStems gs) (allStems hs))
-
-and-assoc : (a b c : Bool) → (a && (b && c)) ≡ ((a && b) && c)
-and-assoc true b c = refl
-and-assoc false b c = refl
-
-stems-finite : (l k : List Stem) → finiteStems (l ++ k) ≡ (finiteStems l && finiteStems k)
-unfolding finiteStems
-stems-finite [] k = refl
-stems-finite (s ∷ l) k = ap (λ (x : Bool). finite (s .pos) && (finite (s .width) && x)) (stems-finite l k) ∙ ap (λ (x : Bool). finite (s .pos) && x) (and-assoc (finite (s .width)) (finiteStems l) (finiteStems k)) ∙ and-assoc (finite (s .pos)) (finite (s .width) && finiteStems l) (finiteStems k)
-
-pub groups-finite : (gs : List Group) → finiteStems (allStems gs) ≡ finiteGroups gs
-unfolding allStems finiteGroups finiteStems
-groups-finite [] = refl
-groups-finite (g ∷ gs) = stems-finite (g .stems) (allStems gs) ∙ ap (λ (x : Bool). finiteStems (g .stems) && x) (groups-finite gs)
 
 -- ---- entries
 module _ (m : Matrix) (c : List ℕ) (z : List Stem) where
@@ -187,7 +160,7 @@ module _ (m : Matrix) (c : List ℕ) (z : List Stem) where
   unfolding foldedGroups
   group-case n q =
       let g : Group = record { stems = take (word c n 2) (drop (word c n 1) z); before = length (drawnIn n c) } in
-      ap₂ (λ (x : List Group) (y : List Command). commands 0 x y) (groups-end m (groupsIn n c z) (g ∷ [])) (ap (foldedList m) (ap (λ (x : List Command). drawnIn n c ++ x) (no-command n q) ∙ append-nil (drawnIn n c)))
+      ap₂ (λ (x : List Group) (y : List Command). commands 0 x y) (groups-join m (groupsIn n c z) (g ∷ [])) (ap (foldedList m) (ap (λ (x : List Command). drawnIn n c ++ x) (no-command n q) ∙ append-nil (drawnIn n c)))
       ∙ group-end (foldedGroups m (groupsIn n c z)) (foldedGroup m g) (foldedList m (drawnIn n c)) 0 (let l = list-length m (drawnIn n c) in let r : length (drawnIn n c) ≡ 0 + length (foldedList m (drawnIn n c)) = omega (arith, l) in r)
       ∙ ap (λ (x : List Stem). whole n ++ (hints x ∷ [])) (sym (group-stems n q))
 
@@ -234,8 +207,8 @@ module _ (m : Matrix) (c : List ℕ) (z : List Stem) where
   stems-are zero = unfold foldedGroups allStems in refl
   stems-are (suc n) =
       ap₂ (λ (x y : List Stem). x ++ y) (stems-are n) (sym (group-all n))
-      ∙ sym (all-end (foldedGroups m (groupsIn n c z)) (foldedGroups m (groupIn c z n (length (drawnIn n c)))))
-      ∙ ap allStems (sym (groups-end m (groupsIn n c z) (groupIn c z n (length (drawnIn n c)))))
+      ∙ sym (all-join (foldedGroups m (groupsIn n c z)) (foldedGroups m (groupIn c z n (length (drawnIn n c)))))
+      ∙ ap allStems (sym (groups-join m (groupsIn n c z) (groupIn c z n (length (drawnIn n c)))))
 
   pub count-is : (n : ℕ) → groupCount n c ≡ length (foldedGroups m (groupsIn n c z))
   unfolding groupCount groupsIn groupIn

@@ -1,7 +1,7 @@
 -- Laws: folding, test by test; of the stems and groups of a run.
 use mathlib.Core.Path.{_≡_, refl, sym, ap, _∙_}
 use mathlib.Core.Bool.{Bool, true, false, _&&_, _||_, cond}
-use mathlib.Core.List.{List, [], _∷_, _++_, append-assoc, append-nil}
+use mathlib.Core.List.{List, [], _∷_, _++_, append-assoc}
 use lib.Ieee.{Float, binary64, add, sub, mul, eq, lt}
 use lib.Ieee.Scale.{finite}
 use Rattle.geometry.specs.declared.Point.{Point}
@@ -149,19 +149,15 @@ module _ (m : Matrix) where
       choose false false e = refl
 
 -- ---- a group more
-groups-join : (m : Matrix) (l k : List Group) → foldedGroups m (l ++ k) ≡ foldedGroups m l ++ foldedGroups m k
+pub groups-join : (m : Matrix) (l k : List Group) → foldedGroups m (l ++ k) ≡ foldedGroups m l ++ foldedGroups m k
 unfolding foldedGroups
 groups-join m [] k = refl
 groups-join m (g ∷ l) k = ap (λ (q : List Group). record { stems = foldedStems m (g .stems); before = g .before } ∷ q) (groups-join m l k)
 
-all-join : (l k : List Group) → allStems (l ++ k) ≡ allStems l ++ allStems k
+pub all-join : (l k : List Group) → allStems (l ++ k) ≡ allStems l ++ allStems k
 unfolding allStems
 all-join [] k = refl
 all-join (g ∷ l) k = ap (λ (q : List Stem). g .stems ++ q) (all-join l k) ∙ sym (append-assoc (g .stems) (allStems l) (allStems k))
-
-pub all-more : (m : Matrix) (gs : List Group) (g : Group) → allStems (foldedGroups m (gs ++ (g ∷ []))) ≡ allStems (foldedGroups m gs) ++ foldedStems m (g .stems)
-unfolding allStems foldedGroups
-all-more m gs g = ap allStems (groups-join m gs (g ∷ [])) ∙ all-join (foldedGroups m gs) (record { stems = foldedStems m (g .stems); before = g .before } ∷ []) ∙ ap (λ (q : List Stem). allStems (foldedGroups m gs) ++ q) (append-nil (foldedStems m (g .stems)))
 
 -- ---- finite stems
 pub finite-join : (l k : List Stem) → finiteStems (l ++ k) ≡ (finiteStems l && finiteStems k)

@@ -1,6 +1,6 @@
 -- Laws: what the parts of `convert_run` answer is the conversion of what the run has left. Assumes nothing.
 use mathlib.Core.Path.{_≡_, refl, sym, _∙_, ap, ap₂, subst}
-use Prim.Native.Nat.{ℕ, zero, suc, _+_, _<_, _≤_}
+use Prim.Native.Nat.{ℕ, zero, suc, _<_}
 use native.Mathlib.Omega.{arith}
 use mathlib.Core.Bool.{Bool, true, false, not, _&&_}
 use mathlib.Core.List.{List, [], _∷_, _++_}
@@ -23,7 +23,7 @@ use Rattle.type1_to_type2.specs.declared.Collected.{Collected}
 use Rattle.type1_to_type2.specs.declared.Plan.{Plan}
 use Rattle.type1_to_type2.specs.declared.Writer.{Writer}
 use Rattle.type1_to_type2.specs.declared.Type2Glyph.{Type2Glyph}
-use Rattle.type1_to_type2.specs.Folding.{finiteMatrix, foldedWidth, foldedList, foldedGroups, finiteList, finiteStems, finiteGroups, foldsFinite}
+use Rattle.type1_to_type2.specs.Folding.{finiteMatrix, foldedWidth, foldedList, foldedGroups, finiteList, finiteGroups, foldsFinite}
 use Rattle.type1_to_type2.specs.Stems.{Declared, declared, allStems}
 use Rattle.type1_to_type2.specs.Emission.{Cmd, items, commands, program}
 use Rattle.type1_to_type2.specs.Writing as Writing
@@ -33,10 +33,11 @@ use Rattle.type1_to_type2.specs.Convert.{Conversion, instructions, write
 use Rattle.type1_to_type2.specs.Collecting.{Collects, Counted, noneCollected}
 use Rattle.type1_to_type2.specs.Streaming.{resumedAll}
 use Rattle.type1_to_type2.specs.Passes.{both, Gathers, stemsTo, cmdsFrom, Stored}
-use Rattle.type1_to_type2.specs.Entry.{Checks, noneOf, tables, Planned, opens, Opens, leftState, fromRun, Answers, Converts, firstNumber, groupCount}
+use Rattle.type1_to_type2.specs.Entry.{Checks, noneOf, tables, Planned, opens, Opens, leftState, fromRun, Answers, Converts, firstNumber}
 use Rattle.type1_to_type2.specs.Nonzero.{write-nonzero}
+use Rattle.type1_to_type2.proofs.Folds.{finite-all}
 use Rattle.type1_to_type2.proofs.Ordering.{collects-first, collects-group}
-use Rattle.type1_to_type2.proofs.EntryLaws.{groups-finite, commands-are, stems-are, count-is}
+use Rattle.type1_to_type2.proofs.EntryLaws.{commands-are, stems-are, count-is}
 
 and-right : (a b c : Bool) → (a && (b && c)) ≡ true → c ≡ true
 and-right true true c e = e
@@ -78,7 +79,7 @@ module _ (number : ℕ) (m : Matrix) (r : Interpreted) (c : List ℕ) (z : List 
       let fw = finite (foldedWidth m (r .width)) in
       let ds = foldedList m (drawnIn (r .entries) c) in
       let F = fw && (finiteList ds && finiteGroups gs) in
-      let same : (fw && (k .finite && cc .finite)) ≡ F = ap₂ (λ (x y : Bool). fw && (x && y)) (K .points) (C′ .fine ∙ groups-finite gs) in
+      let same : (fw && (k .finite && cc .finite)) ≡ F = ap₂ (λ (x y : Bool). fw && (x && y)) (K .points) (C′ .fine ∙ sym (finite-all gs)) in
       let counted : cc .groups ≡ length gs = G .1 .0 ∙ ap (λ (x : Collected). x .groups) e₀ ∙ K .groups ∙ count-is m c z (r .entries) in
       let left = nothing-left (p .masked) (both (p .across) (p .upright) ta₁ tu₁) v out₂ ∙ e ∙ ap (λ (x : List Stem). resumedAll (p .masked) (both (p .across) (p .upright) ta₁ tu₁) w out₁ (cmdsFrom m c x 0 (r .entries))) ez ∙ B .more (cmdsFrom m c z 0 (r .entries)) ∙ opens-is p ta₁ tu₁ room (cmdsFrom m c z 0 (r .entries)) in
       let x : writes (p .width) (r .ran) (resumedAll false [] v out₂ []) ≡ fromRun number m room r c z =
