@@ -26,7 +26,8 @@ ghost use Rattle.type1.specs.Cycle.{memOf, Ready, opD, runD};
 ghost use Rattle.type1.specs.Entry.{zeroSt, startFlow, numberOf, answerOf, Cleared};
 ghost use Rattle.type1.specs.Interpret.{outcome, refusedWith, Leaves};
 
-// A stem hint in absolute character-space coordinates.
+// A stem hint in absolute character-space coordinates, in C's layout.
+#[repr(C)]
 pub struct Stem {
     // A horizontal stem (`hstem`), which constrains y.
     pub horizontal: bool,
@@ -46,23 +47,25 @@ struct St {
     // the current point
     x: f64,
     y: f64,
-    // whether a subpath is open
-    opened: bool,
-    // whether a flex runs, and how many points it has collected: 8 at the most
-    flexing: bool,
+    // how many points a flex has collected: 8 at the most
     points: usize,
-    // stems in force, whether they changed, and stems of the last group
+    // stems in force, and stems of the last group
     hints: usize,
-    changed: bool,
     last: usize,
     // groups, records used, entries used
     groups: usize,
     stems: usize,
     entries: usize,
-    // whether a div ran
-    divided: bool,
     // bytes run
     ran: usize,
+    // whether a subpath is open
+    opened: bool,
+    // whether a flex runs
+    flexing: bool,
+    // whether the stems in force changed
+    changed: bool,
+    // whether a div ran
+    divided: bool,
 }
 
 // A step's or a run's state and flow: 0 goes on, 1 returns from a body, 2 ends the glyph, and any
@@ -1736,15 +1739,22 @@ fn keep_group(used: usize, n: usize, edges: &[f64; 1024], across: &[bool; 512], 
     }
 }
 
+// Every record becomes v. The record is made once, outside the loop: LLVM keeps it in registers there.
+fn fill(stems: &mut [Stem], v: Stem)
+    ensures { λ _. ⌜ now (stems .exit) ≡ replicate (length (now (stems .entry))) v ⌝ }
+{
+    let mut i = 0;
+    while i < stems.len() {
+        put(stems, i, v);
+        i += 1;
+    }
+}
+
 // Every record becomes the zero record.
 pub fn wipe(stems: &mut [Stem])
     ensures { λ _. ⌜ now (stems .exit) ≡ replicate (length (now (stems .entry))) Small.zeroStem ⌝ }
 {
-    let mut i = 0;
-    while i < stems.len() {
-        put(stems, i, blank());
-        i += 1;
-    }
+    fill(stems, blank());
 }
 
 // ---- the run

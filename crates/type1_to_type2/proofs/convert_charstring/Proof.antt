@@ -18,7 +18,7 @@ use prog.Wp.{Heap, Calls, Loops, WpFn, Tables}
 use ghost.Atoms.{Atoms}
 use contract.Monad.{Fun}
 use types.Kit.{Given, ‵, _⊛_, ⋆, _$_, _∵_, !, qed, by, move, keep, drop, split, join, rewrite, fsplit, fjoin, feqL, use1, suffices, frame, done}
-use types.Run.{look, init, forget, stop, hop, fld, from, load, addr, and-then, no-more, assigns, land, returns, enter, alloc1, alloc0, params1, pass1, pass0, free1, free0}
+use types.Run.{look, init, stop, hop, fld, from, load, addr, and-then, no-more, assigns, land, returns, enter, alloc1, alloc0, params1, pass1, pass0}
 use types.Part.{agg, whole, sub, look-in}
 use sound.WpLaws.{FmC, fmOf, WpFn-mono}
 use denote.RattleType.{owns}
@@ -48,6 +48,7 @@ use Rattle.type1_to_type2.proofs.Type2Glyph as G
 use Rattle.type1_to_type2.proofs.Type2Glyph.Laws as G′
 use Rattle.type1.proofs.Lent.{at-list, Own, lend}
 use Rattle.type1.proofs.LentWith.{returned}
+use Rattle.type1.proofs.Leaving.{filled, leave}
 use Rattle.type1.proofs.Many.{asks-all}
 use Rattle.type1_to_type2.proofs.Locals.{machZ, machG}
 use Rattle.geometry.specs.Transform.{identity}
@@ -145,8 +146,7 @@ module _ {M : Type 1} (𝓤 : URA M) (H : Heap 𝓤) (A : Atoms 𝓤) (W : Given
         -- `convert_charstring_transformed`
         use1 W (‵ (ShrSlice (named 0) κcharstring u8 .own xcharstring (sliceVal (xcharstring .ptr) (length (xcharstring .now)) ∷ [])) ⊛ ‵ (ShrSlice (named 0) κcharstring u8 .own xcharstring (sliceVal (xcharstring .ptr) (length (xcharstring .now)) ∷ []))) (shr-slice-copy 𝓤 H A W (named 0) κcharstring u8 .twice xcharstring (sliceVal (xcharstring .ptr) (length (xcharstring .now)) ∷ [])) $ split ! $ move ! (2 ∷ 1 ∷ []) $ join ! $ move ! (2 ∷ []) $ use1 W (‵ (ShrSlice (named 0) κbank u8 .own xbank (sliceVal (xbank .ptr) (length (xbank .now)) ∷ [])) ⊛ ‵ (ShrSlice (named 0) κbank u8 .own xbank (sliceVal (xbank .ptr) (length (xbank .now)) ∷ []))) (shr-slice-copy 𝓤 H A W (named 0) κbank u8 .twice xbank (sliceVal (xbank .ptr) (length (xbank .now)) ∷ [])) $ split ! $ move ! (4 ∷ 1 ∷ []) $ join ! $ move ! (4 ∷ 5 ∷ []) $ lend ! tt T.the-row mstems bstems ostems ysstems (refl) (λ νstems2 δstems2. move ! (6 ∷ 7 ∷ []) $ lend ! tt u64 mcommands bcommands ocommands yscommands (refl) (λ νcommands2 δcommands2. move ! (8 ∷ 9 ∷ []) $ lend ! tt u8 mout bout oout ysout (refl) (λ νout2 δout2. move ! (2 ∷ 0 ∷ []) $ join ! $ move ! (3 ∷ 0 ∷ []) $ join ! $ move ! (4 ∷ 0 ∷ []) $ join ! $ move ! (5 ∷ 0 ∷ []) $ join ! $ asks-all ! fm G.the-row (Is G.the-row) (shows 𝓤 H A G.the-row) (Unit {0} × (Unit {0} × (Unit {0} × (Unit {0} × (List Stem × (List ℕ × (List ℕ × Unit {0}))))))) (λ (r : G.the-row .Denot) (lasts : (Unit {0} × (Unit {0} × (Unit {0} × (Unit {0} × (List Stem × (List ℕ × (List ℕ × Unit {0})))))))). Converts (convert (xcharstring .now) (xbank .now) iv r1 (length ysstems) (length yscommands) (length ysout)) ysstems yscommands (length ysout) r (lasts .1 .1 .1 .1 .0) (lasts .1 .1 .1 .1 .1 .0) (lasts .1 .1 .1 .1 .1 .1 .0)) (λ (lasts : (Unit {0} × (Unit {0} × (Unit {0} × (Unit {0} × (List Stem × (List ℕ × (List ℕ × Unit {0})))))))). (fsep ftrue (fsep ftrue (fsep ftrue (fsep ftrue (fsep (fsep (finally T.the-row δstems2 (lasts .1 .1 .1 .1 .0)) (feq ℕ (length (lasts .1 .1 .1 .1 .0)) (length ysstems))) (fsep (fsep (finally u64 δcommands2 (lasts .1 .1 .1 .1 .1 .0)) (feq ℕ (length (lasts .1 .1 .1 .1 .1 .0)) (length yscommands))) (fsep (fsep (finally u8 δout2 (lasts .1 .1 .1 .1 .1 .1 .0)) (feq ℕ (length (lasts .1 .1 .1 .1 .1 .1 .0)) (length ysout))) ftrue)))))))) (‵ (flft κcharstring qcharstring) ⊛ (‵ (flft κbank qbank) ⊛ (‵ (flft (νstems2 ∷ []) fullShare) ⊛ (‵ (flft (νcommands2 ∷ []) fullShare) ⊛ (‵ (flft (νout2 ∷ []) fullShare) ⊛ ‵ ftrue))))) ((‵ (flft κcharstring qcharstring) ⊛ ‵ (ShrSlice (named 0) κcharstring u8 .own xcharstring (sliceVal (xcharstring .ptr) (length (xcharstring .now)) ∷ []))) ⊛ ((‵ (flft κbank qbank) ⊛ ‵ (ShrSlice (named 0) κbank u8 .own xbank (sliceVal (xbank .ptr) (length (xbank .now)) ∷ []))) ⊛ ((‵ (flft (νstems2 ∷ []) fullShare) ⊛ ‵ (Own T.the-row mstems bstems ostems (νstems2 ∷ []) δstems2 ysstems)) ⊛ ((‵ (flft (νcommands2 ∷ []) fullShare) ⊛ ‵ (Own u64 mcommands bcommands ocommands (νcommands2 ∷ []) δcommands2 yscommands)) ⊛ (‵ (flft (νout2 ∷ []) fullShare) ⊛ ‵ (Own u8 mout bout oout (νout2 ∷ []) δout2 ysout)))))) (sliceVal (xcharstring .ptr) (length (xcharstring .now)) ∷ sliceVal (xbank .ptr) (length (xbank .now)) ∷ vint w64 iv ∷ machZ r1 ∷ sliceVal (bstems, ostems) mstems ∷ sliceVal (bcommands, ocommands) mcommands ∷ sliceVal (bout, oout) mout ∷ []) (convert-charstring-transformed-as 𝓤 H A mem run′ W C known-convert-charstring-transformed κcharstring qcharstring xcharstring κbank qbank xbank (νstems2 ∷ []) fullShare mstems bstems ostems δstems2 ysstems (νcommands2 ∷ []) fullShare mcommands bcommands ocommands δcommands2 yscommands (νout2 ∷ []) fullShare mout bout oout δout2 ysout (iv) (r1) (iv-fits) (mineZ r1 w1 is1)) (and-then ! (load ! (from ! (stop !)) (look ! 30 refl)) (and-then ! (load ! (from ! (stop !)) (look ! 28 refl)) (and-then ! (load ! (from ! (stop !)) (look ! 26 refl)) (and-then ! (load ! (from ! (stop !)) (look ! 18 refl)) (and-then ! (load ! (from ! (stop !)) (look ! 14 refl)) (and-then ! (load ! (from ! (stop !)) (look ! 10 refl)) (and-then ! (load ! (from ! (stop !)) (look ! 6 refl)) (no-more !)))))))) (λ w2 r2 zs2 e2 is2. land ! (from ! (stop !)) (init ! 34 refl (typedG 𝓤 H A W r2 _ is2)) $ rewrite ! 34 (λ (u : Val). ‵ (fat fullShare tGt l₀ 0 u)) (ap only (LL.tells G.the-type G′.the-laws r2 (w2 ∷ []) is2)) refl $ drop ! $ split ! $ move ! (1 ∷ []) $ split ! $ move ! (1 ∷ []) $ split ! $ move ! (1 ∷ []) $ split ! $ move ! (1 ∷ []) $ split ! $ move ! (1 ∷ []) $ drop ! $ move ! (5 ∷ []) $ fsplit ! $ drop ! $ fsplit ! $ drop ! $ fsplit ! $ drop ! $ fsplit ! $ drop ! $ fsplit ! $ fsplit ! $ move ! (1 ∷ []) $ feqL ! (λ lstems2. move ! (1 ∷ []) $ fsplit ! $ fsplit ! $ move ! (1 ∷ []) $ feqL ! (λ lcommands2. move ! (1 ∷ []) $ fsplit ! $ fsplit ! $ move ! (1 ∷ []) $ feqL ! (λ lout2. move ! (1 ∷ []) $ drop ! $
         move ! (5 ∷ 10 ∷ 2 ∷ []) $ returned ! tt T.the-row mstems bstems ostems νstems2 δstems2 ysstems (zs2 .1 .1 .1 .1 .0) (refl) lstems2 fitstems (move ! (5 ∷ 9 ∷ 3 ∷ []) $ returned ! tt u64 mcommands bcommands ocommands νcommands2 δcommands2 yscommands (zs2 .1 .1 .1 .1 .1 .0) (refl) lcommands2 fitcommands (move ! (5 ∷ 8 ∷ 4 ∷ []) $ returned ! tt u8 mout bout oout νout2 δout2 ysout (zs2 .1 .1 .1 .1 .1 .1 .0) (refl) lout2 fitout (owned ! G.the-row (Is G.the-row) (LL.makes G.the-type G′.the-plain 𝓤 H A) r2 _ (mineG r2 w2 is2) $
-        returns ! (look ! 37 refl) $ forget ! 37 refl $ forget ! 35 refl $ forget ! 33 refl $ forget ! 31 refl $ forget ! 29 refl $ forget ! 27 refl $ forget ! 25 refl $ forget ! 23 refl $ forget ! 21 refl $ forget ! 19 refl $ forget ! 17 refl $ forget ! 15 refl $ forget ! 13 refl $ forget ! 11 refl $
-        move ! (37 ∷ 38 ∷ []) $ free1 ! $ move ! (35 ∷ 36 ∷ []) $ free1 ! $ move ! (33 ∷ 34 ∷ []) $ free1 ! $ move ! (31 ∷ 32 ∷ []) $ free1 ! $ move ! (29 ∷ 30 ∷ []) $ free1 ! $ move ! (27 ∷ 28 ∷ []) $ free1 ! $ move ! (25 ∷ 26 ∷ []) $ free1 ! $ move ! (23 ∷ 24 ∷ []) $ free1 ! $ move ! (21 ∷ 22 ∷ []) $ free1 ! $ move ! (19 ∷ 20 ∷ []) $ free1 ! $ move ! (17 ∷ 18 ∷ []) $ free1 ! $ move ! (15 ∷ 16 ∷ []) $ free1 ! $ move ! (13 ∷ 14 ∷ []) $ free1 ! $ move ! (11 ∷ 12 ∷ []) $ free1 ! $ free0 ! $ keep ! (0 ∷ 10 ∷ 8 ∷ 9 ∷ 7 ∷ 5 ∷ 6 ∷ 3 ∷ 4 ∷ 1 ∷ 2 ∷ []) $ by ! (exits r2 (machG r2) (zs2 .1 .1 .1 .1 .0) (zs2 .1 .1 .1 .1 .1 .0) (zs2 .1 .1 .1 .1 .1 .1 .0) (subst (λ (x : Matrix). Converts (convert (xcharstring .now) (xbank .now) iv x (length ysstems) (length yscommands) (length ysout)) ysstems yscommands (length ysout) r2 (zs2 .1 .1 .1 .1 .0) (zs2 .1 .1 .1 .1 .1 .0) (zs2 .1 .1 .1 .1 .1 .1 .0)) e1 e2) (lstems2) (lcommands2) (lout2)))))))))))))))))))))))))))
+        returns ! (look ! 37 refl) $ move ! (0 ∷ 10 ∷ 8 ∷ 9 ∷ 7 ∷ 5 ∷ 6 ∷ 3 ∷ 4 ∷ 1 ∷ 2 ∷ 11 ∷ 12 ∷ 13 ∷ 14 ∷ 15 ∷ 16 ∷ 17 ∷ 18 ∷ 19 ∷ 20 ∷ 21 ∷ 22 ∷ 23 ∷ 24 ∷ 25 ∷ 26 ∷ 27 ∷ 28 ∷ 29 ∷ 30 ∷ 31 ∷ 32 ∷ 33 ∷ 34 ∷ 35 ∷ 36 ∷ 37 ∷ 38 ∷ []) $ leave ! (_ ∷ _ ∷ _ ∷ _ ∷ _ ∷ _ ∷ _ ∷ _ ∷ _ ∷ _ ∷ _ ∷ []) (filled _ _ _ ∷ filled _ _ _ ∷ filled _ _ _ ∷ filled _ _ _ ∷ filled _ _ _ ∷ filled _ _ _ ∷ filled _ _ _ ∷ filled _ _ _ ∷ filled _ _ _ ∷ filled _ _ _ ∷ filled _ _ _ ∷ filled _ _ _ ∷ filled _ _ _ ∷ filled _ _ _ ∷ []) $ keep ! (0 ∷ 1 ∷ 2 ∷ 3 ∷ 4 ∷ 5 ∷ 6 ∷ 7 ∷ 8 ∷ 9 ∷ 10 ∷ []) $ by ! (exits r2 (machG r2) (zs2 .1 .1 .1 .1 .0) (zs2 .1 .1 .1 .1 .1 .0) (zs2 .1 .1 .1 .1 .1 .1 .0) (subst (λ (x : Matrix). Converts (convert (xcharstring .now) (xbank .now) iv x (length ysstems) (length yscommands) (length ysout)) ysstems yscommands (length ysout) r2 (zs2 .1 .1 .1 .1 .0) (zs2 .1 .1 .1 .1 .1 .0) (zs2 .1 .1 .1 .1 .1 .1 .0)) e1 e2) (lstems2) (lcommands2) (lout2)))))))))))))))))))))))))))
 
 module _ {M : Type 1} (𝓤 : URA M) (H : Heap 𝓤) (A : Atoms 𝓤) (W : Given 𝓤 H A) (mem : Memory → SProp 𝓤) (run′ : Routine → Fun 𝓤) where
   meets : (𝓣 : Tables 𝓤 H) → (let C : Calls 𝓤 H = 𝓣 .C in Triple 𝓤 (C #geometry·Matrix·identity) (IdentityC 𝓤 H A mem run′) → Triple 𝓤 (C #type1-to-type2·convert-charstring-transformed) (ConvertCharstringTransformedC 𝓤 H A mem run′) → Meets 𝓤 H A f.signature (WpFn 𝓤 H (𝓣 .C) (𝓣 .Λ) code.function) (f.spec 𝓤 H A mem run′))

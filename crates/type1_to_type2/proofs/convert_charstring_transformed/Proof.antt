@@ -20,7 +20,7 @@ use prog.Wp.{Heap, Calls, Loops, WpFn, Tables}
 use ghost.Atoms.{Atoms}
 use contract.Monad.{Fun}
 use types.Kit.{Given, ‵, _⊛_, ⋆, _$_, _∵_, !, qed, by, move, keep, drop, split, join, rewrite, fsplit, fjoin, feqL, use1, suffices, frame, done}
-use types.Run.{look, init, store, forget, stop, hop, fld, from, load, addr, of-opd, and-then, no-more, assigns, land, returns, enter, alloc1, alloc0, params1, pass1, pass0, free1, free0}
+use types.Run.{look, init, store, stop, hop, fld, from, load, addr, of-opd, and-then, no-more, assigns, land, returns, enter, alloc1, alloc0, params1, pass1, pass0}
 use types.Part.{agg, whole, sub, look-in}
 use sound.WpLaws.{FmC, fmOf, WpFn-mono}
 use denote.RattleType.{owns}
@@ -55,6 +55,7 @@ use Rattle.type1.proofs.Interpreted as I
 use Rattle.type1.proofs.Interpreted.Laws as I′
 use Rattle.type1.proofs.Lent.{at-list, Own, lend}
 use Rattle.type1.proofs.LentWith.{returned}
+use Rattle.type1.proofs.Leaving.{filled, leave}
 use Rattle.type1.proofs.Many.{OwnR, lend-ref, returned-ref, asks-all}
 use Rattle.type1.proofs.Locals.{word, machT, machI}
 use Rattle.type1_to_type2.proofs.Locals.{machZ, machG}
@@ -224,8 +225,7 @@ module _ {M : Type 1} (𝓤 : URA M) (H : Heap 𝓤) (A : Atoms 𝓤) (W : Given
         move ! (10 ∷ 11 ∷ []) $ lend ! tt u64 mcommands bcommands ocommands (zs3 .1 .1 .1 .1 .0) (lcommands3 ∙ lcommands1) (λ νcommands5 δcommands5. asks-all ! fm Nothing (Is Nothing) (shows 𝓤 H A Nothing) (List ℕ × Unit {0}) (λ (r : Nothing .Denot) (lasts : (List ℕ × Unit {0})). lasts .0 ≡ replicate (length (zs3 .1 .1 .1 .1 .0)) 0) (λ (lasts : (List ℕ × Unit {0})). (fsep (fsep (finally u64 δcommands5 (lasts .0)) (feq ℕ (length (lasts .0)) (length (zs3 .1 .1 .1 .1 .0)))) ftrue)) (‵ (flft (νcommands5 ∷ []) fullShare) ⊛ ‵ ftrue) (‵ (flft (νcommands5 ∷ []) fullShare) ⊛ ‵ (Own u64 mcommands bcommands ocommands (νcommands5 ∷ []) δcommands5 (zs3 .1 .1 .1 .1 .0))) (sliceVal (bcommands, ocommands) mcommands ∷ []) (wipe-words-as 𝓤 H A mem run′ W C known-wipe-words (νcommands5 ∷ []) fullShare mcommands bcommands ocommands δcommands5 (zs3 .1 .1 .1 .1 .0)) (and-then ! (load ! (from ! (stop !)) (look ! 19 refl)) (no-more !)) (λ w5 r5 zs5 e5 is5. land ! (from ! (stop !)) (store ! 29 refl (nothing-lawful 𝓤 H A W .typed r5 _ is5 .0)) $ drop ! $ split ! $ move ! (1 ∷ []) $ drop ! $ move ! (1 ∷ []) $ fsplit ! $ fsplit ! $ move ! (1 ∷ []) $ feqL ! (λ lcommands5. move ! (1 ∷ []) $ drop ! $
         move ! (1 ∷ 2 ∷ 0 ∷ []) $ returned ! tt u64 mcommands bcommands ocommands νcommands5 δcommands5 (zs3 .1 .1 .1 .1 .0) (zs5 .0) (lcommands3 ∙ lcommands1) lcommands5 fitcommands (
         assigns ! (of-opd ! (load ! (from ! (stop !)) (look ! 55 refl))) (from ! (stop !)) (init ! 78 refl (typedG 𝓤 H A W r3 _ (mineG r3 w3 is3))) $ move ! (10 ∷ 11 ∷ 18 ∷ []) $ local-back ! tt (Array f64 192) refl (zs3 .1 .1 .1 .1 .1 .0) (λ vacross. move ! (9 ∷ 10 ∷ 16 ∷ []) $ local-back ! tt (Array f64 192) refl (zs3 .1 .1 .1 .1 .1 .1 .0) (λ vupright. move ! (8 ∷ 9 ∷ 14 ∷ []) $ local-back ! tt (Array bool 96) refl (zs3 .1 .1 .1 .1 .1 .1 .1 .0) (λ vmask. owned ! G.the-row (Is G.the-row) (LL.makes G.the-type G′.the-plain 𝓤 H A) r3 _ (mineG r3 w3 is3) $
-        returns ! (look ! 73 refl) $ forget ! 73 refl $ forget ! 71 refl $ forget ! 69 refl $ forget ! 67 refl $ forget ! 65 refl $ forget ! 63 refl $ forget ! 61 refl $ forget ! 59 refl $ forget ! 3 refl $ forget ! 2 refl $ forget ! 1 refl $ forget ! 54 refl $ forget ! 52 refl $ forget ! 50 refl $ forget ! 48 refl $ forget ! 46 refl $ forget ! 44 refl $ forget ! 42 refl $ forget ! 40 refl $ forget ! 38 refl $ forget ! 36 refl $ forget ! 34 refl $ forget ! 32 refl $ forget ! 30 refl $ forget ! 28 refl $ forget ! 26 refl $ forget ! 24 refl $ forget ! 22 refl $ forget ! 20 refl $ forget ! 18 refl $ forget ! 16 refl $ forget ! 14 refl $
-        move ! (73 ∷ 74 ∷ []) $ free1 ! $ move ! (71 ∷ 72 ∷ []) $ free1 ! $ move ! (69 ∷ 70 ∷ []) $ free1 ! $ move ! (67 ∷ 68 ∷ []) $ free1 ! $ move ! (65 ∷ 66 ∷ []) $ free1 ! $ move ! (63 ∷ 64 ∷ []) $ free1 ! $ move ! (61 ∷ 62 ∷ []) $ free1 ! $ move ! (59 ∷ 60 ∷ []) $ free1 ! $ move ! (3 ∷ 58 ∷ []) $ free1 ! $ move ! (2 ∷ 56 ∷ []) $ free1 ! $ move ! (1 ∷ 54 ∷ []) $ free1 ! $ move ! (51 ∷ 52 ∷ []) $ free1 ! $ move ! (49 ∷ 50 ∷ []) $ free1 ! $ move ! (47 ∷ 48 ∷ []) $ free1 ! $ move ! (45 ∷ 46 ∷ []) $ free1 ! $ move ! (43 ∷ 44 ∷ []) $ free1 ! $ move ! (41 ∷ 42 ∷ []) $ free1 ! $ move ! (39 ∷ 40 ∷ []) $ free1 ! $ move ! (37 ∷ 38 ∷ []) $ free1 ! $ move ! (35 ∷ 36 ∷ []) $ free1 ! $ move ! (33 ∷ 34 ∷ []) $ free1 ! $ move ! (31 ∷ 32 ∷ []) $ free1 ! $ move ! (29 ∷ 30 ∷ []) $ free1 ! $ move ! (27 ∷ 28 ∷ []) $ free1 ! $ move ! (25 ∷ 26 ∷ []) $ free1 ! $ move ! (23 ∷ 24 ∷ []) $ free1 ! $ move ! (21 ∷ 22 ∷ []) $ free1 ! $ move ! (19 ∷ 20 ∷ []) $ free1 ! $ move ! (17 ∷ 18 ∷ []) $ free1 ! $ move ! (15 ∷ 16 ∷ []) $ free1 ! $ move ! (13 ∷ 14 ∷ []) $ free1 ! $ move ! (11 ∷ 12 ∷ []) $ free1 ! $ free0 ! $ keep ! (0 ∷ 10 ∷ 8 ∷ 9 ∷ 7 ∷ 3 ∷ 4 ∷ 1 ∷ 2 ∷ 5 ∷ 6 ∷ []) $ by ! (exits r3 (machG r3) (zs4 .0) (zs5 .0) (zs3 .1 .1 .1 .1 .1 .1 .1 .1 .0) (entry-answers (xcharstring .now) (xbank .now) iv m ysstems yscommands (length ysout) r1 (zs1 .1 .1 .1 .0) (zs1 .1 .1 .1 .1 .0) e1 r2 e2 r3 (zs3 .1 .1 .1 .0) (zs3 .1 .1 .1 .1 .0) (zs3 .1 .1 .1 .1 .1 .1 .1 .1 .0) (e3 .1 .1) (zs4 .0) (zs5 .0) (e4 ∙ ap (λ (k : ℕ). replicate k zeroStem) (lstems3 ∙ lstems1)) (e5 ∙ ap (λ (k : ℕ). replicate k 0) (lcommands3 ∙ lcommands1))) (lstems4 ∙ lstems3 ∙ lstems1) (lcommands5 ∙ lcommands3 ∙ lcommands1) (lout3))))))))))))))))))))))))))))))))))))))))))))))))))))))))))))))))))))))))
+        returns ! (look ! 73 refl) $ move ! (0 ∷ 13 ∷ 11 ∷ 12 ∷ 10 ∷ 6 ∷ 7 ∷ 4 ∷ 5 ∷ 8 ∷ 9 ∷ 14 ∷ 15 ∷ 16 ∷ 17 ∷ 18 ∷ 19 ∷ 20 ∷ 21 ∷ 22 ∷ 23 ∷ 24 ∷ 25 ∷ 26 ∷ 27 ∷ 28 ∷ 29 ∷ 30 ∷ 31 ∷ 32 ∷ 33 ∷ 34 ∷ 35 ∷ 36 ∷ 37 ∷ 38 ∷ 39 ∷ 40 ∷ 41 ∷ 42 ∷ 43 ∷ 44 ∷ 45 ∷ 46 ∷ 47 ∷ 48 ∷ 49 ∷ 50 ∷ 51 ∷ 52 ∷ 53 ∷ 54 ∷ 55 ∷ 1 ∷ 56 ∷ 2 ∷ 57 ∷ 3 ∷ 58 ∷ 59 ∷ 60 ∷ 61 ∷ 62 ∷ 63 ∷ 64 ∷ 65 ∷ 66 ∷ 67 ∷ 68 ∷ 69 ∷ 70 ∷ 71 ∷ 72 ∷ 73 ∷ 74 ∷ []) $ leave ! (_ ∷ _ ∷ _ ∷ _ ∷ _ ∷ _ ∷ _ ∷ _ ∷ _ ∷ _ ∷ _ ∷ []) (filled _ _ _ ∷ filled _ _ _ ∷ filled _ _ _ ∷ filled _ _ _ ∷ filled _ _ _ ∷ filled _ _ _ ∷ filled _ _ _ ∷ filled _ _ _ ∷ filled _ _ _ ∷ filled _ _ _ ∷ filled _ _ _ ∷ filled _ _ _ ∷ filled _ _ _ ∷ filled _ _ _ ∷ filled _ _ _ ∷ filled _ _ _ ∷ filled _ _ _ ∷ filled _ _ _ ∷ filled _ _ _ ∷ filled _ _ _ ∷ filled _ _ _ ∷ filled _ _ _ ∷ filled _ _ _ ∷ filled _ _ _ ∷ filled _ _ _ ∷ filled _ _ _ ∷ filled _ _ _ ∷ filled _ _ _ ∷ filled _ _ _ ∷ filled _ _ _ ∷ filled _ _ _ ∷ filled _ _ _ ∷ []) $ keep ! (0 ∷ 1 ∷ 2 ∷ 3 ∷ 4 ∷ 5 ∷ 6 ∷ 7 ∷ 8 ∷ 9 ∷ 10 ∷ []) $ by ! (exits r3 (machG r3) (zs4 .0) (zs5 .0) (zs3 .1 .1 .1 .1 .1 .1 .1 .1 .0) (entry-answers (xcharstring .now) (xbank .now) iv m ysstems yscommands (length ysout) r1 (zs1 .1 .1 .1 .0) (zs1 .1 .1 .1 .1 .0) e1 r2 e2 r3 (zs3 .1 .1 .1 .0) (zs3 .1 .1 .1 .1 .0) (zs3 .1 .1 .1 .1 .1 .1 .1 .1 .0) (e3 .1 .1) (zs4 .0) (zs5 .0) (e4 ∙ ap (λ (k : ℕ). replicate k zeroStem) (lstems3 ∙ lstems1)) (e5 ∙ ap (λ (k : ℕ). replicate k 0) (lcommands3 ∙ lcommands1))) (lstems4 ∙ lstems3 ∙ lstems1) (lcommands5 ∙ lcommands3 ∙ lcommands1) (lout3))))))))))))))))))))))))))))))))))))))))))))))))))))))))))))))))))))))))
 
 module _ {M : Type 1} (𝓤 : URA M) (H : Heap 𝓤) (A : Atoms 𝓤) (W : Given 𝓤 H A) (mem : Memory → SProp 𝓤) (run′ : Routine → Fun 𝓤) where
   meets : (𝓣 : Tables 𝓤 H) → (let C : Calls 𝓤 H = 𝓣 .C in Triple 𝓤 (C #type1·run-charstring) (RunCharstringC 𝓤 H A mem run′) → Triple 𝓤 (C #type1-to-type2·first-number) (FirstNumberC 𝓤 H A mem run′) → Triple 𝓤 (C #type1-to-type2·convert-run) (ConvertRunC 𝓤 H A mem run′) → Triple 𝓤 (C #type1·wipe) (WipeC 𝓤 H A mem run′) → Triple 𝓤 (C #type1-to-type2·wipe-words) (WipeWordsC 𝓤 H A mem run′) → Meets 𝓤 H A f.signature (WpFn 𝓤 H (𝓣 .C) (𝓣 .Λ) code.function) (f.spec 𝓤 H A mem run′))

@@ -20,7 +20,7 @@ use prog.Wp.{Heap, Calls, Loops, WpFn, Tables}
 use ghost.Atoms.{Atoms}
 use contract.Monad.{Fun}
 use types.Kit.{Given, ‵, _⊛_, ⋆, _$_, _∵_, !, qed, by, move, keep, drop, split, join, rewrite, fsplit, fjoin, feqL, suffices, frame, done}
-use types.Run.{look, init, forget, stop, hop, fld, from, load, addr, and-then, no-more, assigns, land, returns, enter, alloc1, alloc0, params1, pass1, pass0, free1, free0}
+use types.Run.{look, init, stop, hop, fld, from, load, addr, and-then, no-more, assigns, land, returns, enter, alloc1, alloc0, params1, pass1, pass0}
 use types.Part.{agg, whole, sub, look-in}
 use sound.WpLaws.{FmC, fmOf, WpFn-mono}
 use denote.RattleType.{owns}
@@ -67,6 +67,7 @@ use Rattle.type1_to_type2.proofs.Plan as Q
 use Rattle.type1_to_type2.proofs.Plan.Laws as Q′
 use Rattle.type1.proofs.Lent.{at-list, Own, lend}
 use Rattle.type1.proofs.LentWith.{returned}
+use Rattle.type1.proofs.Leaving.{filled, leave}
 use Rattle.type1_to_type2.proofs.LentShared.{lend-shared, returned-shared}
 use Rattle.type1.proofs.Many.{at-one, OwnR, lend-ref, returned-ref, lend-shr, returned-shr, asks-all}
 use Rattle.type1.proofs.Locals.{machT, machI}
@@ -274,8 +275,7 @@ module _ {M : Type 1} (𝓤 : URA M) (H : Heap 𝓤) (A : Atoms 𝓤) (W : Given
         -- `end_program`
         lend ! tt u8 mout bout oout (zs7 .1 .1 .1 .1 .1 .1 .1 .1 .1 .1 .1 .1 .0) (lout7 ∙ lout6) (λ νout8 δout8. asks-all ! fm G.the-row (Is G.the-row) (shows 𝓤 H A G.the-row) (Unit {0} × (Unit {0} × (Unit {0} × (List ℕ × Unit {0})))) (λ (r : G.the-row .Denot) (lasts : (Unit {0} × (Unit {0} × (Unit {0} × (List ℕ × Unit {0}))))). Answers (writes (r5 .width) (ri .ran) (resumedAll false [] r7 (zs7 .1 .1 .1 .1 .1 .1 .1 .1 .1 .1 .1 .1 .0) [])) (length (zs7 .1 .1 .1 .1 .1 .1 .1 .1 .1 .1 .1 .1 .0)) r (lasts .1 .1 .1 .0)) (λ (lasts : (Unit {0} × (Unit {0} × (Unit {0} × (List ℕ × Unit {0}))))). (fsep ftrue (fsep ftrue (fsep ftrue (fsep (fsep (finally u8 δout8 (lasts .1 .1 .1 .0)) (feq ℕ (length (lasts .1 .1 .1 .0)) (length (zs7 .1 .1 .1 .1 .1 .1 .1 .1 .1 .1 .1 .1 .0)))) ftrue))))) (‵ (flft (νout8 ∷ []) fullShare) ⊛ ‵ ftrue) (‵ (flft (νout8 ∷ []) fullShare) ⊛ ‵ (Own u8 mout bout oout (νout8 ∷ []) δout8 (zs7 .1 .1 .1 .1 .1 .1 .1 .1 .1 .1 .1 .1 .0))) (machQ r5 ∷ machI ri ∷ machR r7 ∷ sliceVal (bout, oout) mout ∷ []) (end-program-as 𝓤 H A mem run′ W C known-end-program (νout8 ∷ []) fullShare mout bout oout δout8 (zs7 .1 .1 .1 .1 .1 .1 .1 .1 .1 .1 .1 .1 .0) (r5) (ri) (r7) (mineQ r5 w5 is5) (ri-fits) (mineR r7 w7 is7)) (and-then ! (load ! (from ! (stop !)) (look ! 64 refl)) (and-then ! (load ! (from ! (stop !)) (look ! 88 refl)) (and-then ! (load ! (from ! (stop !)) (look ! 60 refl)) (and-then ! (load ! (from ! (stop !)) (look ! 12 refl)) (no-more !))))) (λ w8 r8 zs8 e8 is8. land ! (from ! (stop !)) (init ! 92 refl (typedG 𝓤 H A W r8 _ is8)) $ rewrite ! 92 (λ (u : Val). ‵ (fat fullShare tGt l₀ 0 u)) (ap only (LL.tells G.the-type G′.the-laws r8 (w8 ∷ []) is8)) refl $ drop ! $ split ! $ move ! (1 ∷ []) $ drop ! $ move ! (1 ∷ []) $ fsplit ! $ drop ! $ fsplit ! $ drop ! $ fsplit ! $ drop ! $ fsplit ! $ fsplit ! $ move ! (1 ∷ []) $ feqL ! (λ lout8. move ! (1 ∷ []) $ drop ! $
         move ! (1 ∷ 2 ∷ 0 ∷ []) $ returned ! tt u8 mout bout oout νout8 δout8 (zs7 .1 .1 .1 .1 .1 .1 .1 .1 .1 .1 .1 .1 .0) (zs8 .1 .1 .1 .0) (lout7 ∙ lout6) lout8 fitout (owned ! G.the-row (Is G.the-row) (LL.makes G.the-type G′.the-plain 𝓤 H A) r8 _ (mineG r8 w8 is8) $
-        returns ! (look ! 91 refl) $ forget ! 91 refl $ forget ! 89 refl $ forget ! 87 refl $ forget ! 85 refl $ forget ! 83 refl $ forget ! 81 refl $ forget ! 79 refl $ forget ! 77 refl $ forget ! 75 refl $ forget ! 73 refl $ forget ! 71 refl $ forget ! 69 refl $ forget ! 67 refl $ forget ! 65 refl $ forget ! 63 refl $ forget ! 61 refl $ forget ! 59 refl $ forget ! 57 refl $ forget ! 55 refl $ forget ! 53 refl $ forget ! 51 refl $ forget ! 49 refl $ forget ! 47 refl $ forget ! 45 refl $ forget ! 43 refl $ forget ! 41 refl $ forget ! 39 refl $ forget ! 37 refl $ forget ! 35 refl $ forget ! 33 refl $ forget ! 31 refl $ forget ! 29 refl $ forget ! 27 refl $ forget ! 25 refl $ forget ! 23 refl $ forget ! 21 refl $ forget ! 19 refl $ forget ! 17 refl $ forget ! 15 refl $ forget ! 13 refl $
-        move ! (91 ∷ 92 ∷ []) $ free1 ! $ move ! (89 ∷ 90 ∷ []) $ free1 ! $ move ! (87 ∷ 88 ∷ []) $ free1 ! $ move ! (85 ∷ 86 ∷ []) $ free1 ! $ move ! (83 ∷ 84 ∷ []) $ free1 ! $ move ! (81 ∷ 82 ∷ []) $ free1 ! $ move ! (79 ∷ 80 ∷ []) $ free1 ! $ move ! (77 ∷ 78 ∷ []) $ free1 ! $ move ! (75 ∷ 76 ∷ []) $ free1 ! $ move ! (73 ∷ 74 ∷ []) $ free1 ! $ move ! (71 ∷ 72 ∷ []) $ free1 ! $ move ! (69 ∷ 70 ∷ []) $ free1 ! $ move ! (67 ∷ 68 ∷ []) $ free1 ! $ move ! (65 ∷ 66 ∷ []) $ free1 ! $ move ! (63 ∷ 64 ∷ []) $ free1 ! $ move ! (61 ∷ 62 ∷ []) $ free1 ! $ move ! (59 ∷ 60 ∷ []) $ free1 ! $ move ! (57 ∷ 58 ∷ []) $ free1 ! $ move ! (55 ∷ 56 ∷ []) $ free1 ! $ move ! (53 ∷ 54 ∷ []) $ free1 ! $ move ! (51 ∷ 52 ∷ []) $ free1 ! $ move ! (49 ∷ 50 ∷ []) $ free1 ! $ move ! (47 ∷ 48 ∷ []) $ free1 ! $ move ! (45 ∷ 46 ∷ []) $ free1 ! $ move ! (43 ∷ 44 ∷ []) $ free1 ! $ move ! (41 ∷ 42 ∷ []) $ free1 ! $ move ! (39 ∷ 40 ∷ []) $ free1 ! $ move ! (37 ∷ 38 ∷ []) $ free1 ! $ move ! (35 ∷ 36 ∷ []) $ free1 ! $ move ! (33 ∷ 34 ∷ []) $ free1 ! $ move ! (31 ∷ 32 ∷ []) $ free1 ! $ move ! (29 ∷ 30 ∷ []) $ free1 ! $ move ! (27 ∷ 28 ∷ []) $ free1 ! $ move ! (25 ∷ 26 ∷ []) $ free1 ! $ move ! (23 ∷ 24 ∷ []) $ free1 ! $ move ! (21 ∷ 22 ∷ []) $ free1 ! $ move ! (19 ∷ 20 ∷ []) $ free1 ! $ move ! (17 ∷ 18 ∷ []) $ free1 ! $ move ! (15 ∷ 16 ∷ []) $ free1 ! $ move ! (13 ∷ 14 ∷ []) $ free1 ! $ free0 ! $ keep ! (0 ∷ 11 ∷ 12 ∷ 9 ∷ 10 ∷ 7 ∷ 8 ∷ 5 ∷ 6 ∷ 3 ∷ 4 ∷ 1 ∷ 2 ∷ []) $ by ! (exits r8 (machG r8) (zs7 .0) yscommands (zs4 .1 .1 .1 .1 .1 .1 .0) (zs4 .1 .1 .1 .1 .1 .1 .1 .0) (zs7 .1 .1 .1 .1 .1 .1 .1 .1 .1 .1 .0) (zs8 .1 .1 .1 .0) ((e7 .0 ∙ e4 .0, (refl, run-answers number m ri yscommands ysstems (length ysout) r2 r3 r4 ysacross ysupright (zs4 .1 .1 .1 .1 .1 .1 .0) (zs4 .1 .1 .1 .1 .1 .1 .1 .0) r5 r6 r7 (zs6 .1 .1 .1 .0) (zs7 .1 .1 .1 .1 .1 .1 .1 .1 .1 .1 .1 .1 .0) (zs8 .1 .1 .1 .0) r8 (zs4 .0) (need .1 .across-len) (need .1 .upright-len) e2 e3 (e4 .1) e5 e6 (e4 .0) (e7 .1) (lout7 ∙ lout6) e8))) (lstems7 ∙ lstems4) (refl) (lout8 ∙ lout7 ∙ lout6)))))))))))))))))))))))))))))))))))))))))))))))))))))))))))))))))))))))))))))))))))))
+        returns ! (look ! 91 refl) $ move ! (0 ∷ 11 ∷ 12 ∷ 9 ∷ 10 ∷ 7 ∷ 8 ∷ 5 ∷ 6 ∷ 3 ∷ 4 ∷ 1 ∷ 2 ∷ 13 ∷ 14 ∷ 15 ∷ 16 ∷ 17 ∷ 18 ∷ 19 ∷ 20 ∷ 21 ∷ 22 ∷ 23 ∷ 24 ∷ 25 ∷ 26 ∷ 27 ∷ 28 ∷ 29 ∷ 30 ∷ 31 ∷ 32 ∷ 33 ∷ 34 ∷ 35 ∷ 36 ∷ 37 ∷ 38 ∷ 39 ∷ 40 ∷ 41 ∷ 42 ∷ 43 ∷ 44 ∷ 45 ∷ 46 ∷ 47 ∷ 48 ∷ 49 ∷ 50 ∷ 51 ∷ 52 ∷ 53 ∷ 54 ∷ 55 ∷ 56 ∷ 57 ∷ 58 ∷ 59 ∷ 60 ∷ 61 ∷ 62 ∷ 63 ∷ 64 ∷ 65 ∷ 66 ∷ 67 ∷ 68 ∷ 69 ∷ 70 ∷ 71 ∷ 72 ∷ 73 ∷ 74 ∷ 75 ∷ 76 ∷ 77 ∷ 78 ∷ 79 ∷ 80 ∷ 81 ∷ 82 ∷ 83 ∷ 84 ∷ 85 ∷ 86 ∷ 87 ∷ 88 ∷ 89 ∷ 90 ∷ 91 ∷ 92 ∷ []) $ leave ! (_ ∷ _ ∷ _ ∷ _ ∷ _ ∷ _ ∷ _ ∷ _ ∷ _ ∷ _ ∷ _ ∷ _ ∷ _ ∷ []) (filled _ _ _ ∷ filled _ _ _ ∷ filled _ _ _ ∷ filled _ _ _ ∷ filled _ _ _ ∷ filled _ _ _ ∷ filled _ _ _ ∷ filled _ _ _ ∷ filled _ _ _ ∷ filled _ _ _ ∷ filled _ _ _ ∷ filled _ _ _ ∷ filled _ _ _ ∷ filled _ _ _ ∷ filled _ _ _ ∷ filled _ _ _ ∷ filled _ _ _ ∷ filled _ _ _ ∷ filled _ _ _ ∷ filled _ _ _ ∷ filled _ _ _ ∷ filled _ _ _ ∷ filled _ _ _ ∷ filled _ _ _ ∷ filled _ _ _ ∷ filled _ _ _ ∷ filled _ _ _ ∷ filled _ _ _ ∷ filled _ _ _ ∷ filled _ _ _ ∷ filled _ _ _ ∷ filled _ _ _ ∷ filled _ _ _ ∷ filled _ _ _ ∷ filled _ _ _ ∷ filled _ _ _ ∷ filled _ _ _ ∷ filled _ _ _ ∷ filled _ _ _ ∷ filled _ _ _ ∷ []) $ keep ! (0 ∷ 1 ∷ 2 ∷ 3 ∷ 4 ∷ 5 ∷ 6 ∷ 7 ∷ 8 ∷ 9 ∷ 10 ∷ 11 ∷ 12 ∷ []) $ by ! (exits r8 (machG r8) (zs7 .0) yscommands (zs4 .1 .1 .1 .1 .1 .1 .0) (zs4 .1 .1 .1 .1 .1 .1 .1 .0) (zs7 .1 .1 .1 .1 .1 .1 .1 .1 .1 .1 .0) (zs8 .1 .1 .1 .0) ((e7 .0 ∙ e4 .0, (refl, run-answers number m ri yscommands ysstems (length ysout) r2 r3 r4 ysacross ysupright (zs4 .1 .1 .1 .1 .1 .1 .0) (zs4 .1 .1 .1 .1 .1 .1 .1 .0) r5 r6 r7 (zs6 .1 .1 .1 .0) (zs7 .1 .1 .1 .1 .1 .1 .1 .1 .1 .1 .1 .1 .0) (zs8 .1 .1 .1 .0) r8 (zs4 .0) (need .1 .across-len) (need .1 .upright-len) e2 e3 (e4 .1) e5 e6 (e4 .0) (e7 .1) (lout7 ∙ lout6) e8))) (lstems7 ∙ lstems4) (refl) (lout8 ∙ lout7 ∙ lout6)))))))))))))))))))))))))))))))))))))))))))))))))))))))))))))))))))))))))))))))))))))
 
 module _ {M : Type 1} (𝓤 : URA M) (H : Heap 𝓤) (A : Atoms 𝓤) (W : Given 𝓤 H A) (mem : Memory → SProp 𝓤) (run′ : Routine → Fun 𝓤) where
   meets : (𝓣 : Tables 𝓤 H) → (let C : Calls 𝓤 H = 𝓣 .C in Triple 𝓤 (C #type1-to-type2·is-identity) (IsIdentityC 𝓤 H A mem run′) → Triple 𝓤 (C #type1-to-type2·check-entries) (CheckEntriesC 𝓤 H A mem run′) → Triple 𝓤 (C #type1-to-type2·none-collected) (NoneCollectedC 𝓤 H A mem run′) → Triple 𝓤 (C #type1-to-type2·collect-all) (CollectAllC 𝓤 H A mem run′) → Triple 𝓤 (C #type1-to-type2·make-plan) (MakePlanC 𝓤 H A mem run′) → Triple 𝓤 (C #type1-to-type2·begin-program) (BeginProgramC 𝓤 H A mem run′) → Triple 𝓤 (C #type1-to-type2·write-all) (WriteAllC 𝓤 H A mem run′) → Triple 𝓤 (C #type1-to-type2·end-program) (EndProgramC 𝓤 H A mem run′) → Meets 𝓤 H A f.signature (WpFn 𝓤 H (𝓣 .C) (𝓣 .Λ) code.function) (f.spec 𝓤 H A mem run′))

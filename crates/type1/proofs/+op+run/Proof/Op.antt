@@ -184,8 +184,8 @@ module _ {M : Type 1} (𝓤 : URA M) (H : Heap 𝓤) (A : Atoms 𝓤) (W : Given
         move ! (4 ∷ 5 ∷ []) $ lend-ref ! tt (Array f64 256) bops oops ysops (λ νops2 δops2. move ! (6 ∷ 7 ∷ []) $ lend-ref ! tt (Array f64 256) bps ops ysps (λ νps2 δps2. move ! (8 ∷ 9 ∷ []) $ lend-ref ! tt (Array f64 19) bcells ocells yscells (λ νcells2 δcells2. move ! (10 ∷ 11 ∷ []) $ lend-ref ! tt (Array f64 1024) bedges oedges ysedges (λ νedges2 δedges2. move ! (12 ∷ 13 ∷ []) $ lend-ref ! tt (Array bool 512) bacross oacross ysacross (λ νacross2 δacross2. move ! (14 ∷ 15 ∷ []) $ lend ! tt u64 mcmds bcmds ocmds yscmds (refl) (λ νcmds2 δcmds2. move ! (2 ∷ 0 ∷ []) $ join ! $ move ! (3 ∷ 0 ∷ []) $ join ! $ move ! (4 ∷ 0 ∷ []) $ join ! $ move ! (5 ∷ 0 ∷ []) $ join ! $ move ! (6 ∷ 0 ∷ []) $ join ! $ asks-two ! fm N.the-row (Is N.the-row) (shows 𝓤 H A N.the-row) (Unit {0} × (Unit {0} × (Unit {0} × (List Float × (List Float × (List Float × (List Float × (List Bool × (List ℕ × Unit {0}))))))))) (λ (r : N.the-row .Denot) (lasts : (Unit {0} × (Unit {0} × (Unit {0} × (List Float × (List Float × (List Float × (List Float × (List Bool × (List ℕ × Unit {0})))))))))). (m : Mem) (s : State) → length (m .stems) ≡ r1 → Holds st (withOps ysops (withPs ysps (withCells yscells (withPath ysedges ysacross yscmds m)))) s → Meets r (withOps (lasts .1 .1 .1 .0) (withPs (lasts .1 .1 .1 .1 .0) (withCells (lasts .1 .1 .1 .1 .1 .0) (after st r (lasts .1 .1 .1 .1 .1 .1 .0) (lasts .1 .1 .1 .1 .1 .1 .1 .0) (lasts .1 .1 .1 .1 .1 .1 .1 .1 .0) m)))) (operate (within r1 (length yscmds)) (refused 6) (operatorOf o) s)) (λ (r : N.the-row .Denot) (lasts : (Unit {0} × (Unit {0} × (Unit {0} × (List Float × (List Float × (List Float × (List Float × (List Bool × (List ℕ × Unit {0})))))))))). Space st (r .st) r1) (λ (lasts : (Unit {0} × (Unit {0} × (Unit {0} × (List Float × (List Float × (List Float × (List Float × (List Bool × (List ℕ × Unit {0})))))))))). (fsep ftrue (fsep ftrue (fsep ftrue (fsep (fres δops2 ((Array f64 256) .coded .code (lasts .1 .1 .1 .0))) (fsep (fres δps2 ((Array f64 256) .coded .code (lasts .1 .1 .1 .1 .0))) (fsep (fres δcells2 ((Array f64 19) .coded .code (lasts .1 .1 .1 .1 .1 .0))) (fsep (fres δedges2 ((Array f64 1024) .coded .code (lasts .1 .1 .1 .1 .1 .1 .0))) (fsep (fres δacross2 ((Array bool 512) .coded .code (lasts .1 .1 .1 .1 .1 .1 .1 .0))) (fsep (fsep (finally u64 δcmds2 (lasts .1 .1 .1 .1 .1 .1 .1 .1 .0)) (feq ℕ (length (lasts .1 .1 .1 .1 .1 .1 .1 .1 .0)) (length yscmds))) ftrue)))))))))) (‵ (flft (νops2 ∷ []) fullShare) ⊛ (‵ (flft (νps2 ∷ []) fullShare) ⊛ (‵ (flft (νcells2 ∷ []) fullShare) ⊛ (‵ (flft (νedges2 ∷ []) fullShare) ⊛ (‵ (flft (νacross2 ∷ []) fullShare) ⊛ (‵ (flft (νcmds2 ∷ []) fullShare) ⊛ ‵ ftrue)))))) ((‵ (flft (νops2 ∷ []) fullShare) ⊛ ‵ (OwnR (Array f64 256) bops oops (νops2 ∷ []) δops2 ysops)) ⊛ ((‵ (flft (νps2 ∷ []) fullShare) ⊛ ‵ (OwnR (Array f64 256) bps ops (νps2 ∷ []) δps2 ysps)) ⊛ ((‵ (flft (νcells2 ∷ []) fullShare) ⊛ ‵ (OwnR (Array f64 19) bcells ocells (νcells2 ∷ []) δcells2 yscells)) ⊛ ((‵ (flft (νedges2 ∷ []) fullShare) ⊛ ‵ (OwnR (Array f64 1024) bedges oedges (νedges2 ∷ []) δedges2 ysedges)) ⊛ ((‵ (flft (νacross2 ∷ []) fullShare) ⊛ ‵ (OwnR (Array bool 512) bacross oacross (νacross2 ∷ []) δacross2 ysacross)) ⊛ (‵ (flft (νcmds2 ∷ []) fullShare) ⊛ ‵ (Own u64 mcmds bcmds ocmds (νcmds2 ∷ []) δcmds2 yscmds))))))) (vint w16 o ∷ vint w64 r1 ∷ machS st ∷ vptr bops oops ∷ vptr bps ops ∷ vptr bcells ocells ∷ vptr bedges oedges ∷ vptr bacross oacross ∷ sliceVal (bcmds, ocmds) mcmds ∷ []) (plain-as 𝓤 H A mem run′ W C known-plain (νops2 ∷ []) fullShare bops oops δops2 ysops (νps2 ∷ []) fullShare bps ops δps2 ysps (νcells2 ∷ []) fullShare bcells ocells δcells2 yscells (νedges2 ∷ []) fullShare bedges oedges δedges2 ysedges (νacross2 ∷ []) fullShare bacross oacross δacross2 ysacross (νcmds2 ∷ []) fullShare mcmds bcmds ocmds δcmds2 yscmds (o) (r1) (st) (o-fits) (is1 .1) (st-fits) (need .1 .1 .fit .bounds) (subst (λ (k : ℕ). st .stems ≤ k) (sym (e1 .0)) (need .1 .1 .fit .stems)) (finite-of st (memOf ysops ysps yscells ysedges ysacross yscmds ysstems) (need .1 .1))) (and-then ! (load ! (from ! (stop !)) (look ! 103 refl)) (and-then ! (load ! (from ! (stop !)) (look ! 75 refl)) (and-then ! (load ! (from ! (stop !)) (look ! 95 refl)) (and-then ! (load ! (from ! (stop !)) (look ! 33 refl)) (and-then ! (load ! (from ! (stop !)) (look ! 31 refl)) (and-then ! (load ! (from ! (stop !)) (look ! 29 refl)) (and-then ! (load ! (from ! (stop !)) (look ! 27 refl)) (and-then ! (load ! (from ! (stop !)) (look ! 25 refl)) (and-then ! (load ! (from ! (stop !)) (look ! 21 refl)) (no-more !)))))))))) (λ w2 r2 zs2 e2 is2. land ! (from ! (stop !)) (init ! 75 refl (typedN 𝓤 H A W r2 _ is2)) $ rewrite ! 75 (λ (u : Val). ‵ (fat fullShare tNt l₁₆ 0 u)) (ap only (LL.tells N.the-type N′.the-laws r2 (w2 ∷ []) is2)) refl $ drop ! $ split ! $ move ! (1 ∷ []) $ split ! $ move ! (1 ∷ []) $ split ! $ move ! (1 ∷ []) $ split ! $ move ! (1 ∷ []) $ split ! $ move ! (1 ∷ []) $ split ! $ move ! (1 ∷ []) $ drop ! $ move ! (6 ∷ []) $ fsplit ! $ drop ! $ fsplit ! $ drop ! $ fsplit ! $ drop ! $ fsplit ! $ move ! (1 ∷ []) $ fsplit ! $ move ! (1 ∷ []) $ fsplit ! $ move ! (1 ∷ []) $ fsplit ! $ move ! (1 ∷ []) $ fsplit ! $ move ! (1 ∷ []) $ fsplit ! $ fsplit ! $ move ! (1 ∷ []) $ feqL ! (λ lcmds2. move ! (1 ∷ []) $ drop ! $
         move ! (11 ∷ 17 ∷ 5 ∷ []) $ returned-ref ! tt (Array f64 256) bops oops νops2 δops2 ysops (zs2 .1 .1 .1 .0) (move ! (11 ∷ 16 ∷ 6 ∷ []) $ returned-ref ! tt (Array f64 256) bps ops νps2 δps2 ysps (zs2 .1 .1 .1 .1 .0) (move ! (11 ∷ 15 ∷ 7 ∷ []) $ returned-ref ! tt (Array f64 19) bcells ocells νcells2 δcells2 yscells (zs2 .1 .1 .1 .1 .1 .0) (move ! (11 ∷ 14 ∷ 8 ∷ []) $ returned-ref ! tt (Array f64 1024) bedges oedges νedges2 δedges2 ysedges (zs2 .1 .1 .1 .1 .1 .1 .0) (move ! (11 ∷ 13 ∷ 9 ∷ []) $ returned-ref ! tt (Array bool 512) bacross oacross νacross2 δacross2 ysacross (zs2 .1 .1 .1 .1 .1 .1 .1 .0) (move ! (11 ∷ 12 ∷ 10 ∷ []) $ returned ! tt u64 mcmds bcmds ocmds νcmds2 δcmds2 yscmds (zs2 .1 .1 .1 .1 .1 .1 .1 .1 .0) (refl) lcmds2 fitcmds (
         assigns ! (of-opd ! (load ! (from ! (fld ! refl (stop !))) (look-in ! 78 (sub ! 0 refl (whole !))))) (from ! (stop !)) (init ! 76 refl (typedS 𝓤 H A W (r2 .st) _ ((LL.owed N.the-type N′.the-laws r2 (w2 ∷ []) is2) .0))) $
-        assigns ! (of-opd ! (load ! (from ! (fld ! refl (stop !))) (look-in ! 76 (sub ! 10 refl (whole !))))) (from ! (stop !)) (init ! 74 refl (tt, record { fits = (LL.owed S.the-type S′.the-laws (r2 .st) (machS (r2 .st) ∷ []) ((LL.owed N.the-type N′.the-laws r2 (w2 ∷ []) is2) .0)) .1 .1 .1 .1 .1 .1 .1 .1 .1 .1 .0 .1 })) $
-        assigns ! (of-opd ! (load ! (from ! (fld ! refl (stop !))) (look-in ! 100 (sub ! 10 refl (whole !))))) (from ! (stop !)) (init ! 72 refl (tt, record { fits = (LL.owed S.the-type S′.the-laws st (machS st ∷ []) st-fits) .1 .1 .1 .1 .1 .1 .1 .1 .1 .1 .0 .1 })) $
+        assigns ! (of-opd ! (load ! (from ! (fld ! refl (stop !))) (look-in ! 76 (sub ! 7 refl (whole !))))) (from ! (stop !)) (init ! 74 refl (tt, record { fits = (LL.owed S.the-type S′.the-laws (r2 .st) (machS (r2 .st) ∷ []) ((LL.owed N.the-type N′.the-laws r2 (w2 ∷ []) is2) .0)) .1 .1 .1 .1 .1 .1 .1 .0 .1 })) $
+        assigns ! (of-opd ! (load ! (from ! (fld ! refl (stop !))) (look-in ! 100 (sub ! 7 refl (whole !))))) (from ! (stop !)) (init ! 72 refl (tt, record { fits = (LL.owed S.the-type S′.the-laws st (machS st ∷ []) st-fits) .1 .1 .1 .1 .1 .1 .1 .0 .1 })) $
         assigns ! (bin ! (load ! (from ! (stop !)) (look ! 74 refl)) (load ! (from ! (stop !)) (look ! 72 refl)) tt) (from ! (stop !)) (init ! 70 refl (tt, tt)) $
         guards ! (load ! (from ! (stop !)) (look ! 70 refl))
         (λ new.
@@ -194,7 +194,7 @@ module _ {M : Type 1} (𝓤 : URA M) (H : Heap 𝓤) (A : Atoms 𝓤) (W : Given
         assigns ! (addr ! (from ! (fld ! refl (hop ! (look-in ! 86 (sub ! 0 refl (whole !))) (stop !))))) (from ! (stop !)) (init ! 18 refl (tt, tt)) $
         assigns ! (agg ! (and-then ! (load ! (from ! (stop !)) (look ! 18 refl)) (and-then ! (load ! (from ! (fld ! refl (stop !))) (look-in ! 86 (sub ! 1 refl (whole !)))) (no-more !)))) (from ! (stop !)) (init ! 16 refl (tt, (tt, (record { fits = fitstems .0 }, tt)))) $
         -- `keep_group`
-        move ! (4 ∷ 5 ∷ []) $ lend-shr ! tt (Array f64 1024) bedges oedges (zs2 .1 .1 .1 .1 .1 .1 .0) (λ νedges3 δedges3. move ! (4 ∷ 5 ∷ []) $ lend-shr ! tt (Array bool 512) bacross oacross (zs2 .1 .1 .1 .1 .1 .1 .1 .0) (λ νacross3 δacross3. move ! (12 ∷ 13 ∷ []) $ lend ! tt T.the-row mstems bstems ostems (zs1 .0) (lstems1) (λ νstems3 δstems3. move ! (2 ∷ 0 ∷ []) $ join ! $ move ! (3 ∷ 0 ∷ []) $ join ! $ asks-all ! fm Nothing (Is Nothing) (shows 𝓤 H A Nothing) (Unit {0} × (Unit {0} × (Unit {0} × (Unit {0} × (List Stem × Unit {0}))))) (λ (r : Nothing .Denot) (lasts : (Unit {0} × (Unit {0} × (Unit {0} × (Unit {0} × (List Stem × Unit {0})))))). lasts .1 .1 .1 .1 .0 ≡ paste (zs1 .0) (st .stems) (stemsAt 0 (st .hints) ((at-one (Array f64 1024) bedges oedges δedges3 (zs2 .1 .1 .1 .1 .1 .1 .0)) .now) ((at-one (Array bool 512) bacross oacross δacross3 (zs2 .1 .1 .1 .1 .1 .1 .1 .0)) .now)) (st .hints)) (λ (lasts : (Unit {0} × (Unit {0} × (Unit {0} × (Unit {0} × (List Stem × Unit {0})))))). (fsep ftrue (fsep ftrue (fsep ftrue (fsep ftrue (fsep (fsep (finally T.the-row δstems3 (lasts .1 .1 .1 .1 .0)) (feq ℕ (length (lasts .1 .1 .1 .1 .0)) (length (zs1 .0)))) ftrue)))))) (‵ (flft (νedges3 ∷ []) fullShare) ⊛ (‵ (flft (νacross3 ∷ []) fullShare) ⊛ (‵ (flft (νstems3 ∷ []) fullShare) ⊛ ‵ ftrue))) ((‵ (flft (νedges3 ∷ []) fullShare) ⊛ ‵ (ShrRef (named 0) (νedges3 ∷ []) (Array f64 1024) .own (at-one (Array f64 1024) bedges oedges δedges3 (zs2 .1 .1 .1 .1 .1 .1 .0)) (vptr ((at-one (Array f64 1024) bedges oedges δedges3 (zs2 .1 .1 .1 .1 .1 .1 .0)) .ptr .0) ((at-one (Array f64 1024) bedges oedges δedges3 (zs2 .1 .1 .1 .1 .1 .1 .0)) .ptr .1) ∷ []))) ⊛ ((‵ (flft (νacross3 ∷ []) fullShare) ⊛ ‵ (ShrRef (named 0) (νacross3 ∷ []) (Array bool 512) .own (at-one (Array bool 512) bacross oacross δacross3 (zs2 .1 .1 .1 .1 .1 .1 .1 .0)) (vptr ((at-one (Array bool 512) bacross oacross δacross3 (zs2 .1 .1 .1 .1 .1 .1 .1 .0)) .ptr .0) ((at-one (Array bool 512) bacross oacross δacross3 (zs2 .1 .1 .1 .1 .1 .1 .1 .0)) .ptr .1) ∷ []))) ⊛ (‵ (flft (νstems3 ∷ []) fullShare) ⊛ ‵ (Own T.the-row mstems bstems ostems (νstems3 ∷ []) δstems3 (zs1 .0))))) (vint w64 (st .stems) ∷ vint w64 (st .hints) ∷ vptr ((at-one (Array f64 1024) bedges oedges δedges3 (zs2 .1 .1 .1 .1 .1 .1 .0)) .ptr .0) ((at-one (Array f64 1024) bedges oedges δedges3 (zs2 .1 .1 .1 .1 .1 .1 .0)) .ptr .1) ∷ vptr ((at-one (Array bool 512) bacross oacross δacross3 (zs2 .1 .1 .1 .1 .1 .1 .1 .0)) .ptr .0) ((at-one (Array bool 512) bacross oacross δacross3 (zs2 .1 .1 .1 .1 .1 .1 .1 .0)) .ptr .1) ∷ sliceVal (bstems, ostems) mstems ∷ []) (keep-group-as 𝓤 H A mem run′ W C known-keep-group (νedges3 ∷ []) fullShare (at-one (Array f64 1024) bedges oedges δedges3 (zs2 .1 .1 .1 .1 .1 .1 .0)) (νacross3 ∷ []) fullShare (at-one (Array bool 512) bacross oacross δacross3 (zs2 .1 .1 .1 .1 .1 .1 .1 .0)) (νstems3 ∷ []) fullShare mstems bstems ostems δstems3 (zs1 .0) ((st .stems)) ((st .hints)) ((LL.owed S.the-type S′.the-laws st (machS st ∷ []) st-fits) .1 .1 .1 .1 .1 .1 .1 .1 .1 .1 .1 .0 .1) ((LL.owed S.the-type S′.the-laws st (machS st ∷ []) st-fits) .1 .1 .1 .1 .1 .1 .1 .0 .1) (need .1 .1 .fit .bounds .hints, subst (λ (k : ℕ). st .stems + st .hints ≤ k) (e1 .0 ∙ ap length (sym (e1 .1))) (e2 .1 (new-group st (r2 .st) new)))) (and-then ! (load ! (from ! (fld ! refl (stop !))) (look-in ! 98 (sub ! 11 refl (whole !)))) (and-then ! (load ! (from ! (fld ! refl (stop !))) (look-in ! 98 (sub ! 7 refl (whole !)))) (and-then ! (load ! (from ! (stop !)) (look ! 20 refl)) (and-then ! (load ! (from ! (stop !)) (look ! 18 refl)) (and-then ! (load ! (from ! (stop !)) (look ! 14 refl)) (no-more !)))))) (λ w3 r3 zs3 e3 is3. land ! (from ! (stop !)) (init ! 24 refl (nothing-lawful 𝓤 H A W .typed r3 _ is3 .0)) $ drop ! $ split ! $ move ! (1 ∷ []) $ split ! $ move ! (1 ∷ []) $ split ! $ move ! (1 ∷ []) $ drop ! $ move ! (3 ∷ []) $ fsplit ! $ drop ! $ fsplit ! $ drop ! $ fsplit ! $ drop ! $ fsplit ! $ drop ! $ fsplit ! $ fsplit ! $ move ! (1 ∷ []) $ feqL ! (λ lstems3. move ! (1 ∷ []) $ drop ! $
+        move ! (4 ∷ 5 ∷ []) $ lend-shr ! tt (Array f64 1024) bedges oedges (zs2 .1 .1 .1 .1 .1 .1 .0) (λ νedges3 δedges3. move ! (4 ∷ 5 ∷ []) $ lend-shr ! tt (Array bool 512) bacross oacross (zs2 .1 .1 .1 .1 .1 .1 .1 .0) (λ νacross3 δacross3. move ! (12 ∷ 13 ∷ []) $ lend ! tt T.the-row mstems bstems ostems (zs1 .0) (lstems1) (λ νstems3 δstems3. move ! (2 ∷ 0 ∷ []) $ join ! $ move ! (3 ∷ 0 ∷ []) $ join ! $ asks-all ! fm Nothing (Is Nothing) (shows 𝓤 H A Nothing) (Unit {0} × (Unit {0} × (Unit {0} × (Unit {0} × (List Stem × Unit {0}))))) (λ (r : Nothing .Denot) (lasts : (Unit {0} × (Unit {0} × (Unit {0} × (Unit {0} × (List Stem × Unit {0})))))). lasts .1 .1 .1 .1 .0 ≡ paste (zs1 .0) (st .stems) (stemsAt 0 (st .hints) ((at-one (Array f64 1024) bedges oedges δedges3 (zs2 .1 .1 .1 .1 .1 .1 .0)) .now) ((at-one (Array bool 512) bacross oacross δacross3 (zs2 .1 .1 .1 .1 .1 .1 .1 .0)) .now)) (st .hints)) (λ (lasts : (Unit {0} × (Unit {0} × (Unit {0} × (Unit {0} × (List Stem × Unit {0})))))). (fsep ftrue (fsep ftrue (fsep ftrue (fsep ftrue (fsep (fsep (finally T.the-row δstems3 (lasts .1 .1 .1 .1 .0)) (feq ℕ (length (lasts .1 .1 .1 .1 .0)) (length (zs1 .0)))) ftrue)))))) (‵ (flft (νedges3 ∷ []) fullShare) ⊛ (‵ (flft (νacross3 ∷ []) fullShare) ⊛ (‵ (flft (νstems3 ∷ []) fullShare) ⊛ ‵ ftrue))) ((‵ (flft (νedges3 ∷ []) fullShare) ⊛ ‵ (ShrRef (named 0) (νedges3 ∷ []) (Array f64 1024) .own (at-one (Array f64 1024) bedges oedges δedges3 (zs2 .1 .1 .1 .1 .1 .1 .0)) (vptr ((at-one (Array f64 1024) bedges oedges δedges3 (zs2 .1 .1 .1 .1 .1 .1 .0)) .ptr .0) ((at-one (Array f64 1024) bedges oedges δedges3 (zs2 .1 .1 .1 .1 .1 .1 .0)) .ptr .1) ∷ []))) ⊛ ((‵ (flft (νacross3 ∷ []) fullShare) ⊛ ‵ (ShrRef (named 0) (νacross3 ∷ []) (Array bool 512) .own (at-one (Array bool 512) bacross oacross δacross3 (zs2 .1 .1 .1 .1 .1 .1 .1 .0)) (vptr ((at-one (Array bool 512) bacross oacross δacross3 (zs2 .1 .1 .1 .1 .1 .1 .1 .0)) .ptr .0) ((at-one (Array bool 512) bacross oacross δacross3 (zs2 .1 .1 .1 .1 .1 .1 .1 .0)) .ptr .1) ∷ []))) ⊛ (‵ (flft (νstems3 ∷ []) fullShare) ⊛ ‵ (Own T.the-row mstems bstems ostems (νstems3 ∷ []) δstems3 (zs1 .0))))) (vint w64 (st .stems) ∷ vint w64 (st .hints) ∷ vptr ((at-one (Array f64 1024) bedges oedges δedges3 (zs2 .1 .1 .1 .1 .1 .1 .0)) .ptr .0) ((at-one (Array f64 1024) bedges oedges δedges3 (zs2 .1 .1 .1 .1 .1 .1 .0)) .ptr .1) ∷ vptr ((at-one (Array bool 512) bacross oacross δacross3 (zs2 .1 .1 .1 .1 .1 .1 .1 .0)) .ptr .0) ((at-one (Array bool 512) bacross oacross δacross3 (zs2 .1 .1 .1 .1 .1 .1 .1 .0)) .ptr .1) ∷ sliceVal (bstems, ostems) mstems ∷ []) (keep-group-as 𝓤 H A mem run′ W C known-keep-group (νedges3 ∷ []) fullShare (at-one (Array f64 1024) bedges oedges δedges3 (zs2 .1 .1 .1 .1 .1 .1 .0)) (νacross3 ∷ []) fullShare (at-one (Array bool 512) bacross oacross δacross3 (zs2 .1 .1 .1 .1 .1 .1 .1 .0)) (νstems3 ∷ []) fullShare mstems bstems ostems δstems3 (zs1 .0) ((st .stems)) ((st .hints)) ((LL.owed S.the-type S′.the-laws st (machS st ∷ []) st-fits) .1 .1 .1 .1 .1 .1 .1 .1 .0 .1) ((LL.owed S.the-type S′.the-laws st (machS st ∷ []) st-fits) .1 .1 .1 .1 .1 .0 .1) (need .1 .1 .fit .bounds .hints, subst (λ (k : ℕ). st .stems + st .hints ≤ k) (e1 .0 ∙ ap length (sym (e1 .1))) (e2 .1 (new-group st (r2 .st) new)))) (and-then ! (load ! (from ! (fld ! refl (stop !))) (look-in ! 98 (sub ! 8 refl (whole !)))) (and-then ! (load ! (from ! (fld ! refl (stop !))) (look-in ! 98 (sub ! 5 refl (whole !)))) (and-then ! (load ! (from ! (stop !)) (look ! 20 refl)) (and-then ! (load ! (from ! (stop !)) (look ! 18 refl)) (and-then ! (load ! (from ! (stop !)) (look ! 14 refl)) (no-more !)))))) (λ w3 r3 zs3 e3 is3. land ! (from ! (stop !)) (init ! 24 refl (nothing-lawful 𝓤 H A W .typed r3 _ is3 .0)) $ drop ! $ split ! $ move ! (1 ∷ []) $ split ! $ move ! (1 ∷ []) $ split ! $ move ! (1 ∷ []) $ drop ! $ move ! (3 ∷ []) $ fsplit ! $ drop ! $ fsplit ! $ drop ! $ fsplit ! $ drop ! $ fsplit ! $ drop ! $ fsplit ! $ fsplit ! $ move ! (1 ∷ []) $ feqL ! (λ lstems3. move ! (1 ∷ []) $ drop ! $
         move ! (3 ∷ 6 ∷ []) $ returned-shr ! tt (Array f64 1024) bedges oedges νedges3 (zs2 .1 .1 .1 .1 .1 .1 .0) (move ! (4 ∷ 6 ∷ []) $ returned-shr ! tt (Array bool 512) bacross oacross νacross3 (zs2 .1 .1 .1 .1 .1 .1 .1 .0) (move ! (5 ∷ 6 ∷ 4 ∷ []) $ returned ! tt T.the-row mstems bstems ostems νstems3 δstems3 (zs1 .0) (zs3 .1 .1 .1 .1 .0) (lstems1) lstems3 fitstems (
         assigns ! (of-opd ! (load ! (from ! (stop !)) (look ! 78 refl))) (from ! (stop !)) (init ! 110 refl (typedN 𝓤 H A W r2 _ (mineN r2 w2 is2))) $ owned ! N.the-row (Is N.the-row) (LL.makes N.the-type N′.the-plain 𝓤 H A) r2 _ (mineN r2 w2 is2) $
         returns-within ! (Post) refl (look ! 111 refl) $ leave ! (_ ∷ _ ∷ _ ∷ _ ∷ _ ∷ _ ∷ _ ∷ _ ∷ _ ∷ _ ∷ _ ∷ _ ∷ _ ∷ _ ∷ _ ∷ _ ∷ _ ∷ []) (filled _ _ _ ∷ filled _ _ _ ∷ filled _ _ _ ∷ filled _ _ _ ∷ filled _ _ _ ∷ filled _ _ _ ∷ filled _ _ _ ∷ filled _ _ _ ∷ filled _ _ _ ∷ filled _ _ _ ∷ filled _ _ _ ∷ filled _ _ _ ∷ filled _ _ _ ∷ bare _ _ ∷ bare _ _ ∷ filled _ _ _ ∷ filled _ _ _ ∷ filled _ _ _ ∷ filled _ _ _ ∷ filled _ _ _ ∷ filled _ _ _ ∷ bare _ _ ∷ bare _ _ ∷ bare _ _ ∷ bare _ _ ∷ bare _ _ ∷ bare _ _ ∷ bare _ _ ∷ bare _ _ ∷ bare _ _ ∷ bare _ _ ∷ bare _ _ ∷ bare _ _ ∷ bare _ _ ∷ filled _ _ _ ∷ filled _ _ _ ∷ filled _ _ _ ∷ filled _ _ _ ∷ filled _ _ _ ∷ filled _ _ _ ∷ filled _ _ _ ∷ filled _ _ _ ∷ filled _ _ _ ∷ filled _ _ _ ∷ filled _ _ _ ∷ filled _ _ _ ∷ filled _ _ _ ∷ filled _ _ _ ∷ []) $ keep ! (0 ∷ 15 ∷ 16 ∷ 13 ∷ 14 ∷ 11 ∷ 12 ∷ 9 ∷ 10 ∷ 5 ∷ 6 ∷ 3 ∷ 4 ∷ 7 ∷ 8 ∷ 1 ∷ 2 ∷ []) $ by ! (exits r2 (machN r2) (zs2 .1 .1 .1 .0) (zs2 .1 .1 .1 .1 .0) (zs2 .1 .1 .1 .1 .1 .0) (zs2 .1 .1 .1 .1 .1 .1 .0) (zs2 .1 .1 .1 .1 .1 .1 .1 .0) (zs2 .1 .1 .1 .1 .1 .1 .1 .1 .0) (zs3 .1 .1 .1 .1 .0) (subst (λ (z : List Stem). Meets r2 (memOf (zs2 .1 .1 .1 .0) (zs2 .1 .1 .1 .1 .0) (zs2 .1 .1 .1 .1 .1 .0) (zs2 .1 .1 .1 .1 .1 .1 .0) (zs2 .1 .1 .1 .1 .1 .1 .1 .0) (zs2 .1 .1 .1 .1 .1 .1 .1 .1 .0) z) (opD (xbank .now) iv levels o st (memOf ysops ysps yscells ysedges ysacross yscmds ysstems))) (kept-new st (r2 .st) (zs2 .1 .1 .1 .1 .1 .1 .0) (zs2 .1 .1 .1 .1 .1 .1 .1 .0) ysstems new ∙ sym (e3 ∙ ap (λ (l : List Stem). paste l (st .stems) (stemsAt 0 (st .hints) (zs2 .1 .1 .1 .1 .1 .1 .0) (zs2 .1 .1 .1 .1 .1 .1 .1 .0)) (st .hints)) (e1 .1))) (plained (xbank .now) iv levels o st (memOf ysops ysps yscells ysedges ysacross yscmds ysstems) not-call r1 (e1 .0) r2 (memOf (zs2 .1 .1 .1 .0) (zs2 .1 .1 .1 .1 .0) (zs2 .1 .1 .1 .1 .1 .0) (zs2 .1 .1 .1 .1 .1 .1 .0) (zs2 .1 .1 .1 .1 .1 .1 .1 .0) (zs2 .1 .1 .1 .1 .1 .1 .1 .1 .0) (kept st (r2 .st) (zs2 .1 .1 .1 .1 .1 .1 .0) (zs2 .1 .1 .1 .1 .1 .1 .1 .0) ysstems)) (e2 .0 (memOf ysops ysps yscells ysedges ysacross yscmds ysstems) (abs st (memOf ysops ysps yscells ysedges ysacross yscmds ysstems)) (sym (e1 .0)) (record { is = refl; fit = need .1 .1 .fit })))) (lcmds2) (lstems3 ∙ lstems1)))))))))))
