@@ -1,0 +1,290 @@
+//! Cribstork from Rust: a safe wrapper of the five functions of include/cribstork.h.
+//!
+//! The caller lends the stores and the output; nothing is allocated here but by [`bank`].
+//! Stores may hold anything before a call and are all zeros after it. An output holds the result's bytes and then
+//! zeros; after a refusal zeros only.
+
+mod ffi;
+
+#[cfg(test)]
+mod tests;
+
+use std::fmt;
+
+pub use ffi::Stem;
+
+/// This lenIV means that nothing is encrypted.
+pub const NOT_ENCRYPTED: usize = usize::MAX;
+
+/// Words of the command store to an entry. A remainder is unused.
+pub const ENTRY_WORDS: usize = 14;
+
+/// The matrix that leaves a glyph as it is.
+pub const IDENTITY: [f64; 6] = [1.0, 0.0, 0.0, 1.0, 0.0, 0.0];
+
+/// A bank with no subroutines.
+pub const NO_SUBRS: [u8; 6] = [0; 6];
+
+/// Why a call was refused, with the number that the board logs.
+#[derive(Clone, Copy, Debug, PartialEq, Eq, Hash)]
+#[repr(u64)]
+pub enum Refusal {
+    MatrixNotFinite = 1,
+    BankLayout = 2,
+    BytesRun = 3,
+    Depth = 4,
+    Cut = 5,
+    UnknownOperator = 6,
+    OperandsMissing = 7,
+    NoSuchSubroutine = 8,
+    Flex = 9,
+    DivByZero = 10,
+    NothingToPop = 11,
+    Seac = 12,
+    NumberRange = 13,
+    NotFinite = 14,
+    StackFull = 15,
+    StemsFull = 16,
+    CommandsFull = 17,
+    OutputShort = 18,
+    WidthNotFinite = 19,
+    ScratchShort = 20,
+}
+
+use Refusal::*;
+
+const REFUSALS: [(Refusal, &str); 20] = [
+    (MatrixNotFinite, "a matrix entry is not finite"),
+    (BankLayout, "the bank breaks its layout"),
+    (BytesRun, "bytes run over 1,048,576"),
+    (Depth, "subroutines 11 deep"),
+    (Cut, "a number or an escape is cut"),
+    (UnknownOperator, "an unknown operator"),
+    (OperandsMissing, "operands missing"),
+    (NoSuchSubroutine, "no such subroutine"),
+    (Flex, "a flex not started, or not of seven points"),
+    (DivByZero, "div by 0"),
+    (NothingToPop, "pop, and nothing left for it"),
+    (Seac, "seac"),
+    (NumberRange, "a number not from -32768 to below 32768 once rounded"),
+    (NotFinite, "a quotient, point, stem edge or folded value is not finite"),
+    (StackFull, "the 257th operand, or a PostScript stack over 256"),
+    (StemsFull, "the 257th stem in force or group, or the stem store is full"),
+    (CommandsFull, "the command store is full"),
+    (OutputShort, "the output is short"),
+    (WidthNotFinite, "a listed width is not finite"),
+    (ScratchShort, "the width scratch is shorter than the list"),
+];
+
+impl Refusal {
+    /// The number that the board logs.
+    pub fn number(self) -> u64 {
+        self as u64
+    }
+
+    /// The refusal with this number; none for 0 and for numbers beyond 20.
+    pub fn from_number(number: u64) -> Option<Self> {
+        let at = usize::try_from(number).ok()?.checked_sub(1)?;
+        REFUSALS.get(at).map(|&(refusal, _)| refusal)
+    }
+}
+
+impl fmt::Display for Refusal {
+    fn fmt(&self, f: &mut fmt::Formatter<'_>) -> fmt::Result {
+        write!(f, "{}: {}", self.number(), REFUSALS[*self as usize - 1].1)
+    }
+}
+
+impl std::error::Error for Refusal {}
+
+/// A number as a result. The archive gives no number beyond 20.
+fn accepted(number: u64) -> Result<(), Refusal> {
+    match number {
+        0 => Ok(()),
+        _ => Err(Refusal::from_number(number).expect("a number of the header")),
+    }
+}
+
+/// The front part of an output.
+fn front(out: &[u8], len: u64) -> &[u8] {
+    &out[..usize::try_from(len).expect("a length within the output")]
+}
+
+/// What is converted: a charstring and the font's bank, both as the font has them, and the matrix to fold in.
+#[derive(Clone, Copy, Debug)]
+pub struct Input<'a> {
+    pub charstring: &'a [u8],
+    /// See [`bank`].
+    pub bank: &'a [u8],
+    /// Plain bytes dropped at the start of every charstring, or [`NOT_ENCRYPTED`].
+    pub len_iv: usize,
+    pub matrix: [f64; 6],
+}
+
+/// The stores that converting is lent.
+#[derive(Debug)]
+pub struct Stores<'a> {
+    /// One record for each stem of each group.
+    pub stems: &'a mut [Stem],
+    /// [`ENTRY_WORDS`] for each move, line, curve, flex and start of a group.
+    pub commands: &'a mut [u64],
+}
+
+/// A font's default and nominal width.
+#[derive(Clone, Copy, Debug, PartialEq)]
+pub struct Widths {
+    pub default: f64,
+    pub nominal: f64,
+}
+
+/// A converted glyph.
+#[derive(Clone, Copy, Debug, PartialEq)]
+pub struct Glyph<'a> {
+    pub width: f64,
+    /// Bytes run, each subroutine counted every time that it is called.
+    pub bytes_run: u64,
+    /// The program, or the finished charstring: the front part of the output.
+    pub program: &'a [u8],
+}
+
+/// The subroutine bank of these bodies; none where there are over 65,535 or their bytes are over 4,294,967,295.
+pub fn bank<B: AsRef<[u8]>>(bodies: &[B]) -> Option<Vec<u8>> {
+    let mut all = u16::try_from(bodies.len()).ok()?.to_be_bytes().to_vec();
+    let mut end: u32 = 0;
+    all.extend(end.to_be_bytes());
+    for body in bodies {
+        end = end.checked_add(u32::try_from(body.as_ref().len()).ok()?)?;
+        all.extend(end.to_be_bytes());
+    }
+    for body in bodies {
+        all.extend(body.as_ref());
+    }
+    Some(all)
+}
+
+/// Converts a Type 1 charstring; the program is without its width.
+pub fn convert<'a>(input: &Input, stores: Stores, out: &'a mut [u8]) -> Result<Glyph<'a>, Refusal> {
+    let mut answer = [0; 4];
+    // SAFETY: every pointer comes from a slice or an array of the length that goes with it, and no two that are
+    // written overlap, as they are borrowed as mutable.
+    let number = unsafe {
+        ffi::cribstork_convert(
+            input.charstring.as_ptr(),
+            input.charstring.len(),
+            input.bank.as_ptr(),
+            input.bank.len(),
+            input.len_iv,
+            &input.matrix,
+            stores.stems.as_mut_ptr(),
+            stores.stems.len(),
+            stores.commands.as_mut_ptr(),
+            stores.commands.len(),
+            out.as_mut_ptr(),
+            out.len(),
+            &mut answer,
+        )
+    };
+    accepted(number)?;
+    Ok(Glyph {
+        width: f64::from_bits(answer[2]),
+        bytes_run: answer[3],
+        program: front(out, answer[1]),
+    })
+}
+
+/// The charstring of a converted program: its width first, unless it is the default.
+pub fn finish<'a>(width: f64, program: &[u8], widths: Widths, out: &'a mut [u8]) -> Result<&'a [u8], Refusal> {
+    let mut answer = [0; 2];
+    // SAFETY: as in `convert`.
+    let number = unsafe {
+        ffi::cribstork_finish(
+            width,
+            program.as_ptr(),
+            program.len(),
+            widths.default,
+            widths.nominal,
+            out.as_mut_ptr(),
+            out.len(),
+            &mut answer,
+        )
+    };
+    accepted(number)?;
+    Ok(front(out, answer[1]))
+}
+
+/// Converts and finishes. `program` is a store for the program.
+pub fn convert_finished<'a>(
+    input: &Input,
+    stores: Stores,
+    program: &mut [u8],
+    widths: Widths,
+    out: &'a mut [u8],
+) -> Result<Glyph<'a>, Refusal> {
+    let mut answer = [0; 4];
+    // SAFETY: as in `convert`.
+    let number = unsafe {
+        ffi::cribstork_convert_finished(
+            input.charstring.as_ptr(),
+            input.charstring.len(),
+            input.bank.as_ptr(),
+            input.bank.len(),
+            input.len_iv,
+            &input.matrix,
+            stores.stems.as_mut_ptr(),
+            stores.stems.len(),
+            stores.commands.as_mut_ptr(),
+            stores.commands.len(),
+            program.as_mut_ptr(),
+            program.len(),
+            widths.default,
+            widths.nominal,
+            out.as_mut_ptr(),
+            out.len(),
+            &mut answer,
+        )
+    };
+    accepted(number)?;
+    Ok(Glyph {
+        width: f64::from_bits(answer[2]),
+        bytes_run: answer[3],
+        program: front(out, answer[1]),
+    })
+}
+
+/// The default and the nominal width of a font whose glyphs have these widths. The scratch is as long as the list.
+pub fn choose_widths(widths: &[f64], scratch: &mut [f64]) -> Result<Widths, Refusal> {
+    let mut pair = [0.0; 2];
+    // SAFETY: as in `convert`.
+    let number = unsafe {
+        ffi::cribstork_choose_widths(
+            widths.as_ptr(),
+            widths.len(),
+            scratch.as_mut_ptr(),
+            scratch.len(),
+            &mut pair,
+        )
+    };
+    accepted(number)?;
+    Ok(Widths {
+        default: pair[0],
+        nominal: pair[1],
+    })
+}
+
+/// The plain bytes of a charstring, the first `len_iv` dropped.
+pub fn decrypt<'a>(data: &[u8], len_iv: usize, out: &'a mut [u8]) -> Result<&'a [u8], Refusal> {
+    let mut answer = [0; 2];
+    // SAFETY: as in `convert`.
+    let number = unsafe {
+        ffi::cribstork_decrypt(
+            data.as_ptr(),
+            data.len(),
+            len_iv,
+            out.as_mut_ptr(),
+            out.len(),
+            &mut answer,
+        )
+    };
+    accepted(number)?;
+    Ok(front(out, answer[1]))
+}

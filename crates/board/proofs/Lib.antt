@@ -1,0 +1,2 @@
+pub mod EntryCallees
+pub mod Words

@@ -1,0 +1,55 @@
+-- Definitions: what the C interface reads and writes: a matrix of six entries, the words of each answer. Document 01, "Numbers the board logs": "An answer is the number (0 if none), program length, width and count".
+use Prim.Native.Nat.{ℕ}
+use mathlib.Core.Path.{_≡_}
+use mathlib.Core.List.{List, [], _∷_}
+use lib.ListN.{length, getD}
+use lib.Ieee.{Float, nan, binary64, toBits}
+use Rattle.charstring.specs.declared.Decrypted.{Decrypted}
+use Rattle.geometry.specs.declared.Matrix.{Matrix}
+use Rattle.type1.specs.declared.Stem.{Stem}
+use Rattle.type1_to_type2.specs.declared.Type2Glyph.{Type2Glyph}
+use Rattle.type1_to_type2.specs.declared.Finished.{Finished}
+use Rattle.type1_to_type2.specs.Convert.{Conversion, answer}
+use Rattle.type1_to_type2.specs.Entry.{Converts}
+use Rattle.agreement.specs.declared.Widths.{Widths}
+use Rattle.agreement.specs.Finished.{finished, ConvertsFinished}
+use Rattle.widths.specs.declared.Chosen.{Chosen}
+
+-- a, b, c, d, tx, ty
+abbrev pub matrixOf : List Float → Matrix
+matrixOf m = record { a = getD m 0 nan; b = getD m 1 nan; c = getD m 2 nan; d = getD m 3 nan; tx = getD m 4 nan; ty = getD m 5 nan }
+
+abbrev pub widthsOf : Float → Float → Widths
+widthsOf d n = record { «default_width_x» = d; «nominal_width_x» = n }
+
+-- an array of n elements is written whole. Its length at the call is what its type says; the borrow checker does not tell it of an array behind a reference
+abbrev pub Filled : {A : Type 0} → ℕ → List A → List A → List A → Type 0
+Filled n before after xs = length before ≡ n → after ≡ xs
+
+-- number, length, the width's bits, bytes run
+abbrev pub glyphWords : Type2Glyph → List ℕ
+glyphWords g = g .number ∷ g .len ∷ toBits binary64 (g .width) ∷ g .ran ∷ []
+
+-- number, length
+abbrev pub finishedWords : Finished → List ℕ
+finishedWords f = f .number ∷ f .len ∷ []
+
+-- number, length
+abbrev pub decryptedWords : Decrypted → List ℕ
+decryptedWords d = d .number ∷ d .length ∷ []
+
+-- the default width, the nominal width
+abbrev pub pairOf : Chosen → List Float
+pairOf c = c .«default_width_x» ∷ c .«nominal_width_x» ∷ []
+
+-- what `cribstork_convert` leaves: what converting leaves, the number, and the answer's words
+pub record BoardConverts (x : Conversion) (stems : List Stem) (commands : List ℕ) (room : ℕ) (r : ℕ) (stems′ : List Stem) (commands′ out words words′ : List ℕ) : Type 0 where
+  pub converts : Converts x stems commands room (answer x) stems′ commands′ out
+  pub number-is : r ≡ answer x .number
+  pub words-are : Filled 4 words words′ (glyphWords (answer x))
+
+-- what `cribstork_convert_finished` leaves: what converting and finishing leave, the number, and the answer's words
+pub record BoardFinishes (charstring bank : List ℕ) (lenIV : ℕ) (m : Matrix) (p : Widths) (x : Conversion) (stems : List Stem) (commands program : List ℕ) (room : ℕ) (r : ℕ) (stems′ : List Stem) (commands′ program′ out words words′ : List ℕ) : Type 0 where
+  pub finishes : ConvertsFinished charstring bank lenIV m p x stems commands program room (answer (finished p room x)) stems′ commands′ program′ out
+  pub number-is : r ≡ answer (finished p room x) .number
+  pub words-are : Filled 4 words words′ (glyphWords (answer (finished p room x)))

@@ -1,0 +1,170 @@
+// The C interface of the board: each function wraps one entry, has its contract, writes what the entry
+// answers to lent words and returns the number. `include/cribstork.h` declares them.
+ghost use mathlib.Core.Path.{_≡_};
+ghost use lib.ListN.{length, replicate};
+ghost use lib.Dec.{T};
+ghost use lib.Ieee.Scale.{finite};
+ghost use Rattle.charstring.specs.Charstring.{decrypted, written};
+ghost use Rattle.type1_to_type2.specs.Convert as Convert;
+ghost use Rattle.type1_to_type2.specs.Finish.{finish};
+ghost use Rattle.type1_to_type2.specs.FinishAnswer.{finishedAnswer, finishedOutput};
+ghost use Rattle.widths.specs.Widths.{chosen, zeroWidth};
+ghost use Rattle.board.specs.Answers.{Filled, matrixOf, widthsOf, glyphWords, finishedWords, decryptedWords, pairOf, BoardConverts, BoardFinishes};
+use agreement::Widths;
+use geometry::Matrix;
+use type1::Stem;
+use type1_to_type2::Type2Glyph;
+
+// The matrix of six entries: a, b, c, d, tx, ty.
+fn matrix_of(m: &[f64; 6]) -> Matrix
+    ensures { λ r. ⌜ r ≡ matrixOf (now (m .entry)) ⌝ }
+{
+    Matrix {
+        a: m[0],
+        b: m[1],
+        c: m[2],
+        d: m[3],
+        tx: m[4],
+        ty: m[5],
+    }
+}
+
+fn widths_of(default_width: f64, nominal_width: f64) -> Widths
+    ensures { λ r. ⌜ r ≡ widthsOf «default_width» «nominal_width» ⌝ }
+{
+    Widths {
+        default_width_x: default_width,
+        nominal_width_x: nominal_width,
+    }
+}
+
+// The glyph's words into the answer; the number.
+fn put_glyph(g: Type2Glyph, answer: &mut [u64; 4]) -> u64
+    requires { ⌜ T (finite (g .width)) ⌝ }
+    ensures { λ r. ⌜ (r ≡ g .number) × Filled 4 (now (answer .entry)) (now (answer .exit)) (glyphWords g) ⌝ }
+{
+    answer[0] = g.number;
+    answer[1] = g.len as u64;
+    answer[2] = f64::to_bits(g.width);
+    answer[3] = g.ran as u64;
+    g.number
+}
+
+// `type1_to_type2::convert_charstring_transformed`. The answer: number, length, the width's bits, bytes run.
+#[no_mangle]
+pub extern "C" fn cribstork_convert(
+    charstring: &[u8],
+    bank: &[u8],
+    len_iv: usize,
+    matrix: &[f64; 6],
+    stems: &mut [Stem],
+    commands: &mut [u64],
+    out: &mut [u8],
+    answer: &mut [u64; 4],
+) -> u64
+    ensures { λ r. ⌜ BoardConverts (Convert.convert (now (charstring .entry)) (now (bank .entry)) «len_iv» (matrixOf (now (matrix .entry))) (length (now (stems .entry))) (length (now (commands .entry))) (length (now (out .entry)))) (now (stems .entry)) (now (commands .entry)) (length (now (out .entry))) r (now (stems .exit)) (now (commands .exit)) (now (out .exit)) (now (answer .entry)) (now (answer .exit)) ⌝ }
+{
+    let g = type1_to_type2::convert_charstring_transformed(
+        charstring,
+        bank,
+        len_iv,
+        matrix_of(matrix),
+        stems,
+        commands,
+        out,
+    );
+    put_glyph(g, answer)
+}
+
+// `Type2Glyph::charstring` of a glyph with this width and program. The answer: number, length.
+#[no_mangle]
+pub extern "C" fn cribstork_finish(
+    width: f64,
+    program: &[u8],
+    default_width: f64,
+    nominal_width: f64,
+    out: &mut [u8],
+    answer: &mut [u64; 2],
+) -> u64
+    ensures { λ r. ⌜ r ≡ finishedAnswer (finish width (now (program .entry)) «default_width» «nominal_width» (length (now (out .entry)))) .number ⌝ }
+    ensures { λ _. ⌜ Filled 2 (now (answer .entry)) (now (answer .exit)) (finishedWords (finishedAnswer (finish width (now (program .entry)) «default_width» «nominal_width» (length (now (out .entry)))))) ⌝ }
+    ensures { λ _. ⌜ now (out .exit) ≡ finishedOutput (length (now (out .entry))) (finish width (now (program .entry)) «default_width» «nominal_width» (length (now (out .entry)))) ⌝ }
+{
+    let glyph = Type2Glyph {
+        number: 0,
+        len: program.len(),
+        width,
+        ran: 0,
+    };
+    let f = glyph.charstring(program, default_width, nominal_width, out);
+    answer[0] = f.number;
+    answer[1] = f.len as u64;
+    f.number
+}
+
+// `agreement::convert_finished`. `program` is a working store for the program. The answer: number, length,
+// the width's bits, bytes run. Where the number is 0, demand 3 holds of the bytes in the output.
+#[no_mangle]
+pub extern "C" fn cribstork_convert_finished(
+    charstring: &[u8],
+    bank: &[u8],
+    len_iv: usize,
+    matrix: &[f64; 6],
+    stems: &mut [Stem],
+    commands: &mut [u64],
+    program: &mut [u8],
+    default_width: f64,
+    nominal_width: f64,
+    out: &mut [u8],
+    answer: &mut [u64; 4],
+) -> u64
+    ensures { λ r. ⌜ BoardFinishes (now (charstring .entry)) (now (bank .entry)) «len_iv» (matrixOf (now (matrix .entry))) (widthsOf «default_width» «nominal_width») (Convert.convert (now (charstring .entry)) (now (bank .entry)) «len_iv» (matrixOf (now (matrix .entry))) (length (now (stems .entry))) (length (now (commands .entry))) (length (now (program .entry)))) (now (stems .entry)) (now (commands .entry)) (now (program .entry)) (length (now (out .entry))) r (now (stems .exit)) (now (commands .exit)) (now (program .exit)) (now (out .exit)) (now (answer .entry)) (now (answer .exit)) ⌝ }
+{
+    let g = agreement::convert_finished(
+        charstring,
+        bank,
+        len_iv,
+        matrix_of(matrix),
+        widths_of(default_width, nominal_width),
+        stems,
+        commands,
+        program,
+        out,
+    );
+    put_glyph(g, answer)
+}
+
+// `widths::choose_widths`. The pair: the default and the nominal width, 0 and 0 on a refusal.
+#[no_mangle]
+pub extern "C" fn cribstork_choose_widths(
+    widths: &[f64],
+    scratch: &mut [f64],
+    pair: &mut [f64; 2],
+) -> u64
+    ensures { λ r. ⌜ r ≡ chosen (now (widths .entry)) (length (now (scratch .entry))) .number ⌝ }
+    ensures { λ _. ⌜ Filled 2 (now (pair .entry)) (now (pair .exit)) (pairOf (chosen (now (widths .entry)) (length (now (scratch .entry))))) ⌝ }
+    ensures { λ _. ⌜ now (scratch .exit) ≡ replicate (length (now (scratch .entry))) zeroWidth ⌝ }
+{
+    let c = widths::choose_widths(widths, scratch);
+    pair[0] = c.default_width_x;
+    pair[1] = c.nominal_width_x;
+    c.number
+}
+
+// `charstring::decrypt_charstring`. The answer: number, length.
+#[no_mangle]
+pub extern "C" fn cribstork_decrypt(
+    data: &[u8],
+    len_iv: usize,
+    out: &mut [u8],
+    answer: &mut [u64; 2],
+) -> u64
+    ensures { λ r. ⌜ r ≡ decrypted «len_iv» (now («data» .entry)) (length (now (out .entry))) .number ⌝ }
+    ensures { λ _. ⌜ Filled 2 (now (answer .entry)) (now (answer .exit)) (decryptedWords (decrypted «len_iv» (now («data» .entry)) (length (now (out .entry))))) ⌝ }
+    ensures { λ _. ⌜ now (out .exit) ≡ written «len_iv» (now («data» .entry)) (length (now (out .entry))) ⌝ }
+{
+    let d = charstring::decrypt_charstring(data, len_iv, out);
+    answer[0] = d.number;
+    answer[1] = d.length as u64;
+    d.number
+}

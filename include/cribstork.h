@@ -1,0 +1,140 @@
+/*
+ * Cribstork: Type 1 charstrings made Type 2, for print boards.
+ * C interface of the archive libboard.a (rt staticlib board), for x86-64.
+ *
+ * Every function returns on every input, and returns a number: 0, or why it refused.
+ *
+ *   number  given when
+ *        1  a matrix entry is not finite
+ *        2  the bank breaks its layout
+ *        3  bytes run over 1,048,576
+ *        4  subroutines 11 deep
+ *        5  a number or an escape is cut
+ *        6  an unknown operator
+ *        7  operands missing
+ *        8  no such subroutine
+ *        9  a flex not started, or not of seven points
+ *       10  div by 0
+ *       11  pop, and nothing left for it
+ *       12  seac
+ *       13  a number not from -32768 to below 32768 once rounded
+ *       14  a quotient, point, stem edge or folded value is not finite
+ *       15  the 257th operand, or a PostScript stack over 256
+ *       16  the 257th stem in force or group, or the stem store is full
+ *       17  the command store is full
+ *       18  the output is short
+ *       19  a listed width is not finite
+ *       20  the width scratch is shorter than the list
+ *
+ * An answer's first word is the number again; on a refusal its other words are 0.
+ *
+ * Pointers: each is not null, aligned for its type and valid for its length. For a length of 0 any aligned address
+ * that is not null will do. What a function writes overlaps nothing else that it is given.
+ * Lent stores may hold any values of their types before a call (a bool is 0 or 1). After every call they are all zeros;
+ * the bytes between a stem record's fields may be anything.
+ * An output holds the result's bytes and then zeros, to its end; on a refusal zeros only.
+ */
+#ifndef CRIBSTORK_H
+#define CRIBSTORK_H
+
+#include <stdbool.h>
+#include <stddef.h>
+#include <stdint.h>
+
+#ifdef __cplusplus
+extern "C" {
+#endif
+
+/* This lenIV means that nothing is encrypted. */
+#define CRIBSTORK_NOT_ENCRYPTED SIZE_MAX
+
+/* Words of the command store to an entry. A remainder is unused. */
+#define CRIBSTORK_ENTRY_WORDS 14
+
+/* A record of the stem store. A horizontal stem is hstem's. */
+typedef struct cribstork_stem {
+    bool horizontal;
+    double pos;
+    double width;
+} cribstork_stem;
+
+/*
+ * Converts a Type 1 charstring under a matrix: the program, without its width.
+ *
+ * charstring  as the font has it: encrypted, its first len_iv plain bytes dropped
+ * bank        the font's subroutines: a count n (16 bits), n + 1 offsets (32 bits each) from the table's end, the first
+ *             0, none below the one before, the last equal to the bytes that follow; then the bodies, encrypted like
+ *             the charstring. All numbers are big-endian. No subroutines: 00 00 00 00 00 00
+ * matrix      a b c d tx ty; 1 0 0 1 0 0 leaves the glyph as it is
+ * stems       the stem store: one record for each stem of each group
+ * commands    the command store: 14 words to an entry, one entry for each move, line, curve, flex and start of a group
+ * out         the output
+ * answer      number, length of the program, bits of the width (a double), bytes run
+ */
+uint64_t cribstork_convert(
+    const uint8_t *charstring, size_t charstring_len,
+    const uint8_t *bank, size_t bank_len,
+    size_t len_iv,
+    const double matrix[6],
+    cribstork_stem *stems, size_t stems_len,
+    uint64_t *commands, size_t commands_len,
+    uint8_t *out, size_t out_len,
+    uint64_t answer[4]);
+
+/*
+ * Finishes a program: no width if the rounded width is the default, else the rounded width less the nominal one first.
+ *
+ * width, program  as cribstork_convert answered them
+ * answer          number, length of the charstring
+ */
+uint64_t cribstork_finish(
+    double width,
+    const uint8_t *program, size_t program_len,
+    double default_width, double nominal_width,
+    uint8_t *out, size_t out_len,
+    uint64_t answer[2]);
+
+/*
+ * Converts and finishes. `program` is a lent store for the program; it is all zeros after the call.
+ *
+ * answer  number, length of the charstring, bits of the width (a double), bytes run
+ */
+uint64_t cribstork_convert_finished(
+    const uint8_t *charstring, size_t charstring_len,
+    const uint8_t *bank, size_t bank_len,
+    size_t len_iv,
+    const double matrix[6],
+    cribstork_stem *stems, size_t stems_len,
+    uint64_t *commands, size_t commands_len,
+    uint8_t *program, size_t program_len,
+    double default_width, double nominal_width,
+    uint8_t *out, size_t out_len,
+    uint64_t answer[4]);
+
+/*
+ * The default and the nominal width of a font whose glyphs have these widths.
+ *
+ * scratch  a lent store of at least n doubles
+ * pair     default, nominal; both 0 on a refusal
+ */
+uint64_t cribstork_choose_widths(
+    const double *widths, size_t n,
+    double *scratch, size_t scratch_len,
+    double pair[2]);
+
+/*
+ * The plain bytes of a charstring, the first len_iv dropped.
+ *
+ * answer  number, length
+ */
+uint64_t cribstork_decrypt(
+    const uint8_t *data, size_t n,
+    size_t len_iv,
+    uint8_t *out, size_t out_len,
+    uint64_t answer[2]);
+
+#ifdef __cplusplus
+}
+#endif
+
+#endif
