@@ -121,25 +121,71 @@ pub mod oracle {
 
     /// The document's limits that the Rust has not, looked for after each step of the Rust's.
     pub fn first_limit(charstring: &[u8], subrs: &[Vec<u8>], len_iv: usize) -> Option<Vec<u64>> {
+        watched(charstring, subrs, len_iv, &Matrix::identity(), &NO_STORES).limit
+    }
+
+    /// The lent stores: stem records, entries of the command store.
+    pub struct Lent {
+        pub records: usize,
+        pub entries: usize,
+    }
+
+    const NO_STORES: Lent = Lent {
+        records: usize::MAX,
+        entries: usize::MAX,
+    };
+
+    /// What a run that is watched step by step came to.
+    pub struct Watched {
+        /// The limits that were passed first, all in one step.
+        pub limit: Option<Vec<u64>>,
+        /// Which of them the step comes to first.
+        pub first: u64,
+        pub bytes_run: usize,
+        pub records: usize,
+        pub entries: usize,
+        /// The run ended and was not refused.
+        pub completed: bool,
+        /// As in `Run`.
+        pub folds_finite: bool,
+    }
+
+    pub fn watched(charstring: &[u8], subrs: &[Vec<u8>], len_iv: usize, m: &Matrix, lent: &Lent) -> Watched {
         let mut interp = start(subrs, len_iv);
-        if interp.charge(charstring.len()).is_err() {
-            return None;
+        let stop = if interp.charge(charstring.len()).is_err() {
+            Stop::Refused
+        } else {
+            watch(&mut interp, &decrypt_charstring(charstring, len_iv), 0, lent)
+        };
+        let completed = matches!(stop, Stop::Next | Stop::End);
+        let (limit, first) = match stop {
+            Stop::Limit(numbers, first) => (Some(numbers), first),
+            _ => (None, 0),
+        };
+        Watched {
+            folds_finite: completed && folds_finite(&interp, m),
+            completed,
+            limit,
+            first,
+            bytes_run: interp.bytes_run,
+            records: records(&interp),
+            entries: interp.cmds.len(),
         }
-        match watch(&mut interp, &decrypt_charstring(charstring, len_iv), 0) {
-            Stop::Limit(numbers) => Some(numbers),
-            _ => None,
-        }
+    }
+
+    fn records(interp: &Interp) -> usize {
+        interp.groups.iter().map(Vec::len).sum()
     }
 
     enum Stop {
         Next,
         End,
         Refused,
-        Limit(Vec<u64>),
+        Limit(Vec<u64>, u64),
     }
 
     /// Runs `data` one number or operator at a time.
-    fn watch(interp: &mut Interp, data: &[u8], depth: usize) -> Stop {
+    fn watch(interp: &mut Interp, data: &[u8], depth: usize, lent: &Lent) -> Stop {
         if depth > MAX_SUBR_DEPTH {
             return Stop::Refused;
         }
@@ -166,7 +212,7 @@ pub mod oracle {
                         return Stop::Refused;
                     }
                     let plain = decrypt_charstring(body, interp.len_iv);
-                    match watch(interp, &plain, depth + 1) {
+                    match watch(interp, &plain, depth + 1, lent) {
                         Stop::Next => {}
                         stop => return stop,
                     }
@@ -174,12 +220,18 @@ pub mod oracle {
                 11 => return Stop::Next,
                 14 => return Stop::End,
                 _ => {
+                    let before = Before {
+                        closed: interp.need_move,
+                        groups: interp.groups.len(),
+                        entries: interp.cmds.len(),
+                    };
                     if interp.run(token, depth).is_err() {
                         return Stop::Refused;
                     }
-                    let over = limits(interp);
+                    let over = limits(interp, lent);
                     if !over.is_empty() {
-                        return Stop::Limit(over);
+                        let first = first_of(&over, interp, token, &before, lent);
+                        return Stop::Limit(over, first);
                     }
                 }
             }
@@ -187,7 +239,44 @@ pub mod oracle {
         Stop::Next
     }
 
-    fn limits(interp: &Interp) -> Vec<u64> {
+    /// What a step found.
+    struct Before {
+        /// No subpath was open.
+        closed: bool,
+        groups: usize,
+        entries: usize,
+    }
+
+    /// The limit that a step comes to first, in the Rust's order: a move's point is computed before it is listed; a line
+    /// or curve opens a subpath, computes its points and is listed; a flex is listed before its end point is left for
+    /// pop; a group is stored before it is listed; stems are added one by one.
+    fn first_of(over: &[u64], interp: &Interp, token: &[u8], before: &Before, lent: &Lent) -> u64 {
+        let listed = if over.contains(&16) { 16 } else { 17 };
+        if over.len() == 1 {
+            return over[0];
+        }
+        match token {
+            [1 | 3] | [12, 1 | 2] => {
+                let passed = |(at, stem): (usize, &Stem)| {
+                    if !stem.pos.is_finite() {
+                        Some(14)
+                    } else {
+                        (at >= 256).then_some(16)
+                    }
+                };
+                interp.hints.iter().enumerate().find_map(passed).unwrap_or(over[0])
+            }
+            [4 | 21 | 22] if over.contains(&14) => 14,
+            [5..=8 | 30 | 31] if over.contains(&14) => {
+                let group = usize::from(interp.groups.len() > before.groups);
+                let full = over.contains(&16) || before.entries + group + 1 > lent.entries;
+                if before.closed && full { listed } else { 14 }
+            }
+            _ => listed,
+        }
+    }
+
+    fn limits(interp: &Interp, lent: &Lent) -> Vec<u64> {
         let finite = interp.x.is_finite()
             && interp.y.is_finite()
             && interp.stack.iter().all(|v| v.is_finite())
@@ -199,8 +288,11 @@ pub mod oracle {
         if interp.stack.len() > 256 || interp.ps_stack.len() > 256 {
             over.push(15);
         }
-        if interp.hints.len() > 256 || interp.groups.len() > 256 {
+        if interp.hints.len() > 256 || interp.groups.len() > 256 || records(interp) > lent.records {
             over.push(16);
+        }
+        if interp.cmds.len() > lent.entries {
+            over.push(17);
         }
         over
     }

@@ -15,6 +15,7 @@ mod type1_to_type2;
 
 mod cipher;
 mod doubles;
+mod generate;
 mod glyphs;
 mod numbers;
 mod random;
