@@ -2,36 +2,36 @@
 ghost use Prim.Native.Nat.{_≤_};
 
 // The byte at a place; 0 beyond the end.
-pub fn byte(v: &[u8], at: usize) -> u8 {
+pub(crate) fn byte(v: &[u8], at: usize) -> u8 {
     if at < v.len() { v[at] } else { 0 }
 }
 
 // Writes a byte at a place; nothing beyond the end.
-pub fn put(v: &mut [u8], at: usize, b: u8) {
+pub(crate) fn put(v: &mut [u8], at: usize, b: u8) {
     if at < v.len() {
         v[at] = b;
     }
 }
 
 // The word at a place; 0 beyond the end.
-pub fn word(v: &[u64], at: usize) -> u64 {
+pub(crate) fn word(v: &[u64], at: usize) -> u64 {
     if at < v.len() { v[at] } else { 0 }
 }
 
-pub fn put_word(v: &mut [u64], at: usize, n: u64) {
+pub(crate) fn put_word(v: &mut [u64], at: usize, n: u64) {
     if at < v.len() {
         v[at] = n;
     }
 }
 
-pub fn put_double(v: &mut [f64], at: usize, x: f64) {
+pub(crate) fn put_double(v: &mut [f64], at: usize, x: f64) {
     if at < v.len() {
         v[at] = x;
     }
 }
 
 // at + n; the largest number where the sum is larger.
-pub fn place(at: usize, n: usize) -> usize {
+pub(crate) fn place(at: usize, n: usize) -> usize {
     if at <= usize::MAX - n {
         at + n
     } else {
@@ -39,27 +39,27 @@ pub fn place(at: usize, n: usize) -> usize {
     }
 }
 
-pub fn sum(a: u64, b: u64) -> u64 {
+pub(crate) fn sum(a: u64, b: u64) -> u64 {
     if a <= u64::MAX - b { a + b } else { u64::MAX }
 }
 
 // a - b; 0 where b is larger.
-pub fn less(a: usize, b: usize) -> usize {
+pub(crate) fn less(a: usize, b: usize) -> usize {
     if b <= a { a - b } else { 0 }
 }
 
-pub fn larger(a: usize, b: usize) -> usize {
+pub(crate) fn larger(a: usize, b: usize) -> usize {
     if a < b { b } else { a }
 }
 
-pub fn smaller(a: usize, b: usize) -> usize
+pub(crate) fn smaller(a: usize, b: usize) -> usize
     ensures { λ r. ⌜ (r ≤ a) × (r ≤ b) ⌝ }
 {
     if a < b { a } else { b }
 }
 
 // 4 times a number; the largest number where that is too large.
-pub fn four_times(n: usize) -> usize {
+pub(crate) fn four_times(n: usize) -> usize {
     if n < 0x1000_0000_0000_0000 {
         4 * n
     } else {
@@ -68,7 +68,7 @@ pub fn four_times(n: usize) -> usize {
 }
 
 // 14 times a number, which is at most 2^32.
-pub fn fourteen_times(n: usize) -> usize {
+pub(crate) fn fourteen_times(n: usize) -> usize {
     if n < 0x1_0000_0000 {
         14 * n
     } else {
@@ -77,7 +77,7 @@ pub fn fourteen_times(n: usize) -> usize {
 }
 
 // n bytes from a place on; none where they are not all there.
-pub fn part(v: &[u8], at: usize, n: usize) -> &[u8] {
+pub(crate) fn part(v: &[u8], at: usize, n: usize) -> &[u8] {
     if v.len() < at {
         return &v[..0];
     }
@@ -89,7 +89,7 @@ pub fn part(v: &[u8], at: usize, n: usize) -> &[u8] {
 }
 
 // The first n doubles; all where there are fewer.
-pub fn front(v: &[f64], n: usize) -> &[f64] {
+pub(crate) fn front(v: &[f64], n: usize) -> &[f64] {
     if v.len() < n {
         return v;
     }
@@ -97,7 +97,7 @@ pub fn front(v: &[f64], n: usize) -> &[f64] {
 }
 
 // The bytes of a word stand at a place.
-pub fn starts(v: &[u8], at: usize, word: &[u8]) -> bool {
+pub(crate) fn starts(v: &[u8], at: usize, word: &[u8]) -> bool {
     let mut i: usize = 0;
     while i < word.len() {
         if byte(v, place(at, i)) != word[i] {
@@ -109,12 +109,12 @@ pub fn starts(v: &[u8], at: usize, word: &[u8]) -> bool {
 }
 
 // Two slices hold the same bytes.
-pub fn same(a: &[u8], b: &[u8]) -> bool {
+pub(crate) fn same(a: &[u8], b: &[u8]) -> bool {
     a.len() == b.len() && starts(a, 0, b)
 }
 
 // The first place from `from` on where the bytes of a word stand; the end where there is none.
-pub fn find(v: &[u8], from: usize, word: &[u8]) -> usize {
+pub(crate) fn find(v: &[u8], from: usize, word: &[u8]) -> usize {
     let mut at = from;
     while at < v.len() {
         if starts(v, at, word) {
@@ -126,12 +126,12 @@ pub fn find(v: &[u8], from: usize, word: &[u8]) -> usize {
 }
 
 // PostScript's white space.
-pub fn is_space(b: u8) -> bool {
+pub(crate) fn is_space(b: u8) -> bool {
     b == 32 || b == 10 || b == 13 || b == 9 || b == 12 || b == 0
 }
 
 // A byte that ends a name or a number.
-pub fn is_delimiter(b: u8) -> bool {
+pub(crate) fn is_delimiter(b: u8) -> bool {
     is_space(b)
         || b == b'/'
         || b == b'['
@@ -146,7 +146,7 @@ pub fn is_delimiter(b: u8) -> bool {
 }
 
 // The first place from `from` on that is no white space.
-pub fn skip_space(v: &[u8], from: usize) -> usize {
+pub(crate) fn skip_space(v: &[u8], from: usize) -> usize {
     let mut at = from;
     while at < v.len() {
         if !is_space(v[at]) {
@@ -158,7 +158,7 @@ pub fn skip_space(v: &[u8], from: usize) -> usize {
 }
 
 // The first place from `from` on that ends a name.
-pub fn name_end(v: &[u8], from: usize) -> usize {
+pub(crate) fn name_end(v: &[u8], from: usize) -> usize {
     let mut at = from;
     while at < v.len() {
         if is_delimiter(v[at]) {
@@ -170,7 +170,7 @@ pub fn name_end(v: &[u8], from: usize) -> usize {
 }
 
 // The place after the token at `at`: a name with its slash, a word or a number, or one byte.
-pub fn token_end(v: &[u8], at: usize) -> usize {
+pub(crate) fn token_end(v: &[u8], at: usize) -> usize {
     let first = byte(v, at);
     if is_delimiter(first) && first != b'/' {
         return place(at, 1);
@@ -184,7 +184,7 @@ fn next_line(v: &[u8], from: usize) -> usize {
 }
 
 // Line n of a text; none beyond its end.
-pub fn line(v: &[u8], n: usize) -> &[u8] {
+pub(crate) fn line(v: &[u8], n: usize) -> &[u8] {
     let mut at: usize = 0;
     let mut left = n;
     while left > 0 {
@@ -195,7 +195,7 @@ pub fn line(v: &[u8], n: usize) -> &[u8] {
 }
 
 // The number of the line that is a word; `most` where no line before that one is.
-pub fn line_number(v: &[u8], most: usize, word: &[u8]) -> usize {
+pub(crate) fn line_number(v: &[u8], most: usize, word: &[u8]) -> usize {
     let mut n: usize = 0;
     while n < most {
         if same(line(v, n), word) {
@@ -207,7 +207,7 @@ pub fn line_number(v: &[u8], most: usize, word: &[u8]) -> usize {
 }
 
 // n bytes move from one place down to another.
-pub fn copy_down(v: &mut [u8], to: usize, from: usize, n: usize) {
+pub(crate) fn copy_down(v: &mut [u8], to: usize, from: usize, n: usize) {
     let mut i: usize = 0;
     while i < n {
         let b = byte(v, place(from, i));
@@ -217,7 +217,7 @@ pub fn copy_down(v: &mut [u8], to: usize, from: usize, n: usize) {
 }
 
 // n bytes of one slice are copied into another.
-pub fn copy(from: &[u8], at: usize, n: usize, v: &mut [u8], to: usize) {
+pub(crate) fn copy(from: &[u8], at: usize, n: usize, v: &mut [u8], to: usize) {
     let mut i: usize = 0;
     while i < n {
         put(v, place(to, i), byte(from, place(at, i)));

@@ -18,50 +18,50 @@ use crate::bytes::word;
 use crate::number::read_whole;
 
 // What can be wrong with a file.
-pub const NOT_OPENED: usize = 1;
+pub(crate) const NOT_OPENED: usize = 1;
 
-pub const EMPTY: usize = 2;
+pub(crate) const EMPTY: usize = 2;
 
-pub const TOO_LARGE: usize = 3;
+pub(crate) const TOO_LARGE: usize = 3;
 
-pub const NO_SEGMENT: usize = 4;
+pub(crate) const NO_SEGMENT: usize = 4;
 
-pub const SEGMENT_CUT: usize = 5;
+pub(crate) const SEGMENT_CUT: usize = 5;
 
-pub const NO_EEXEC: usize = 6;
+pub(crate) const NO_EEXEC: usize = 6;
 
-pub const NO_CHARSTRINGS: usize = 7;
+pub(crate) const NO_CHARSTRINGS: usize = 7;
 
-pub const NO_GLYPHS: usize = 8;
+pub(crate) const NO_GLYPHS: usize = 8;
 
-pub const NO_END: usize = 9;
+pub(crate) const NO_END: usize = 9;
 
-pub const NO_LENGTH: usize = 10;
+pub(crate) const NO_LENGTH: usize = 10;
 
-pub const CUT: usize = 11;
+pub(crate) const CUT: usize = 11;
 
-pub const BAD_SUBROUTINE: usize = 12;
+pub(crate) const BAD_SUBROUTINE: usize = 12;
 
-pub const NO_SUCH_PLACE: usize = 13;
+pub(crate) const NO_SUCH_PLACE: usize = 13;
 
-pub const TOO_MANY_SUBROUTINES: usize = 14;
+pub(crate) const TOO_MANY_SUBROUTINES: usize = 14;
 
-pub const TOO_LARGE_BANK: usize = 15;
+pub(crate) const TOO_LARGE_BANK: usize = 15;
 
-pub const TOO_MANY_GLYPHS: usize = 16;
+pub(crate) const TOO_MANY_GLYPHS: usize = 16;
 
 // What is wrong, 0 where nothing is, and the byte where it was seen.
-pub struct Trouble {
+pub(crate) struct Trouble {
     pub what: usize,
     pub at: usize,
 }
 
-pub fn no_trouble() -> Trouble {
+pub(crate) fn no_trouble() -> Trouble {
     Trouble { what: 0, at: 0 }
 }
 
 // A file made one text: the clear part, and the private part, decrypted, from `private` to `len`.
-pub struct Opened {
+pub(crate) struct Opened {
     pub what: usize,
     pub at: usize,
     pub len: usize,
@@ -271,7 +271,7 @@ fn open_text(v: &mut [u8], n: usize) -> Opened {
 }
 
 // Makes a file of n bytes one text, in place.
-pub fn open_font(v: &mut [u8], n: usize) -> Opened {
+pub(crate) fn open_font(v: &mut [u8], n: usize) -> Opened {
     if byte(v, 0) != 128 {
         return open_text(v, n);
     }
@@ -283,7 +283,7 @@ pub fn open_font(v: &mut [u8], n: usize) -> Opened {
 }
 
 // The bytes that a charstring drops; the largest number where charstrings are not encrypted.
-pub fn len_iv(v: &[u8], private: usize) -> usize {
+pub(crate) fn len_iv(v: &[u8], private: usize) -> usize {
     let at = find(v, private, b"/lenIV");
     if at == v.len() {
         return 4;
@@ -439,13 +439,13 @@ fn list_subroutines(
 }
 
 // The subroutines of a font: how many, and where they stand.
-pub struct Subroutines {
+pub(crate) struct Subroutines {
     pub what: usize,
     pub at: usize,
     pub count: usize,
 }
 
-pub fn read_subroutines(
+pub(crate) fn read_subroutines(
     v: &[u8],
     private: usize,
     starts: &mut [u64],
@@ -492,7 +492,7 @@ fn put_u32(v: &mut [u8], at: usize, n: usize) {
 }
 
 // The bytes that a bank of these subroutines has.
-pub fn bank_length(lens: &[u64], count: usize) -> usize {
+pub(crate) fn bank_length(lens: &[u64], count: usize) -> usize {
     let mut n = place(6, four_times(count));
     let mut i: usize = 0;
     while i < count {
@@ -503,7 +503,7 @@ pub fn bank_length(lens: &[u64], count: usize) -> usize {
 }
 
 // The bank: a count, the offsets, the bodies. Its length is bank_length's.
-pub fn build_bank(v: &[u8], starts: &[u64], lens: &[u64], count: usize, bank: &mut [u8]) {
+pub(crate) fn build_bank(v: &[u8], starts: &[u64], lens: &[u64], count: usize, bank: &mut [u8]) {
     let table = place(6, four_times(count));
     let mut offset: usize = 0;
     let mut i: usize = 0;
@@ -519,7 +519,7 @@ pub fn build_bank(v: &[u8], starts: &[u64], lens: &[u64], count: usize, bank: &m
 }
 
 // The place of the charstrings' first entry, or of the text's end.
-pub fn charstrings(v: &[u8], private: usize) -> usize {
+pub(crate) fn charstrings(v: &[u8], private: usize) -> usize {
     let at = find(v, private, b"/CharStrings");
     if at == v.len() {
         return at;
@@ -528,7 +528,7 @@ pub fn charstrings(v: &[u8], private: usize) -> usize {
 }
 
 // A glyph: where its name and its charstring stand. With none left `found` is false.
-pub struct Glyph {
+pub(crate) struct Glyph {
     pub what: usize,
     pub at: usize,
     pub found: bool,
@@ -573,7 +573,7 @@ fn glyph_at(v: &[u8], at: usize) -> Glyph {
 }
 
 // The next glyph from a place on: the next name begins it, and the word `end` ends the charstrings.
-pub fn next_glyph(v: &[u8], from: usize) -> Glyph {
+pub(crate) fn next_glyph(v: &[u8], from: usize) -> Glyph {
     let mut at = from;
     let mut turns = v.len();
     while turns > 0 {
@@ -595,7 +595,7 @@ pub fn next_glyph(v: &[u8], from: usize) -> Glyph {
 }
 
 // The text after a name, up to the end of its line or its closing bracket.
-pub struct Span {
+pub(crate) struct Span {
     pub at: usize,
     pub len: usize,
 }
@@ -613,7 +613,7 @@ fn closing(v: &[u8], from: usize) -> usize {
 }
 
 // The six numbers of the font's matrix; none where it has no matrix.
-pub fn font_matrix(v: &[u8]) -> Span {
+pub(crate) fn font_matrix(v: &[u8]) -> Span {
     let at = find(v, 0, b"/FontMatrix");
     let open = skip_space(v, place(at, 11));
     let first = place(open, 1);
@@ -628,6 +628,6 @@ pub fn font_matrix(v: &[u8]) -> Span {
 }
 
 // How many subroutines a bank has.
-pub fn bank_count(bank: &[u8]) -> usize {
+pub(crate) fn bank_count(bank: &[u8]) -> usize {
     256 * wide(byte(bank, 0)) + wide(byte(bank, 1))
 }

@@ -3,12 +3,12 @@ use crate::bytes::byte;
 use crate::bytes::place;
 
 // A whole number, and the place after it; next is the place asked where none stands there.
-pub struct Whole {
+pub(crate) struct Whole {
     pub value: u64,
     pub next: usize,
 }
 
-pub fn is_digit(b: u8) -> bool {
+pub(crate) fn is_digit(b: u8) -> bool {
     48 <= b && b <= 57
 }
 
@@ -49,12 +49,12 @@ fn digits(v: &[u8], from: usize, before: u64) -> Whole {
     Whole { value, next: at }
 }
 
-pub fn read_whole(v: &[u8], from: usize) -> Whole {
+pub(crate) fn read_whole(v: &[u8], from: usize) -> Whole {
     digits(v, from, 0)
 }
 
 // A decimal number, and the place after it; next is the place asked where none stands there.
-pub struct Decimal {
+pub(crate) struct Decimal {
     pub value: f64,
     pub next: usize,
 }
@@ -147,7 +147,7 @@ fn unsigned(v: &[u8], from: usize) -> Decimal {
 }
 
 // The decimal number at a place, with its sign.
-pub fn read_decimal(v: &[u8], from: usize) -> Decimal {
+pub(crate) fn read_decimal(v: &[u8], from: usize) -> Decimal {
     if byte(v, from) != b'-' {
         return unsigned(v, from);
     }

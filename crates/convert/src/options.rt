@@ -7,7 +7,7 @@ use geometry::Matrix;
 
 // What the arguments ask. `wrong` is the place of an argument that cannot be understood, `glyph` that of a
 // glyph's name, and `matrix` that of --matrix or --font-matrix; each is 0 where there is none.
-pub struct Options {
+pub(crate) struct Options {
     pub wrong: usize,
     pub fonts: usize,
     pub table: bool,
@@ -19,7 +19,7 @@ pub struct Options {
     pub output: usize,
 }
 
-pub fn none() -> Options {
+pub(crate) fn none() -> Options {
     Options {
         wrong: 0,
         fonts: 0,
@@ -73,7 +73,7 @@ fn kind(i: usize) -> usize {
 }
 
 // How many arguments an option takes, its name among them; 0 for a font's name.
-pub fn words(i: usize) -> usize {
+pub(crate) fn words(i: usize) -> usize {
     match kind(i) {
         FONT => 0,
         HEX => 1,
@@ -112,7 +112,7 @@ fn read_real(i: usize) -> f64 {
 }
 
 // The six numbers after --matrix; NaN for one that is none.
-pub fn read_matrix(i: usize) -> Matrix {
+pub(crate) fn read_matrix(i: usize) -> Matrix {
     Matrix {
         a: read_real(place(i, 1)),
         b: read_real(place(i, 2)),
@@ -135,7 +135,7 @@ fn has_matrix(i: usize) -> bool {
 }
 
 // The argument is --font-matrix.
-pub fn is_font_matrix(i: usize) -> bool {
+pub(crate) fn is_font_matrix(i: usize) -> bool {
     kind(i) == FONT_MATRIX
 }
 
@@ -200,7 +200,7 @@ fn with(i: usize, o: Options) -> Options {
 }
 
 // The place of the argument after the one at a place.
-pub fn after(i: usize) -> usize {
+pub(crate) fn after(i: usize) -> usize {
     let n = words(i);
     if n == 0 {
         return place(i, 1);
@@ -209,7 +209,7 @@ pub fn after(i: usize) -> usize {
 }
 
 // Reads all arguments, up to the first that is wrong.
-pub fn read() -> Options {
+pub(crate) fn read() -> Options {
     let n = os::arg_count();
     let mut o = none();
     let mut i: usize = 1;

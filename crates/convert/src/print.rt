@@ -5,29 +5,29 @@ use crate::bytes::place;
 use crate::bytes::smaller;
 use libc::STDOUT_FILENO;
 
-pub fn text(s: &[u8]) {
+pub(crate) fn text(s: &[u8]) {
     io::write_all(STDOUT_FILENO, s);
 }
 
 // A line's end.
-pub fn end() {
+pub(crate) fn end() {
     text(b"\n");
 }
 
-pub fn tab() {
+pub(crate) fn tab() {
     text(b"\t");
 }
 
-pub fn whole(n: u64) {
+pub(crate) fn whole(n: u64) {
     io::print_decimal(STDOUT_FILENO, n);
 }
 
-pub fn count(n: usize) {
+pub(crate) fn count(n: usize) {
     whole(n as u64);
 }
 
 // Up to 40 spaces.
-pub fn spaces(n: usize) {
+pub(crate) fn spaces(n: usize) {
     text(part(
         b"                                        ",
         0,
@@ -36,20 +36,20 @@ pub fn spaces(n: usize) {
 }
 
 // A text, and spaces up to a width.
-pub fn left(s: &[u8], width: usize) {
+pub(crate) fn left(s: &[u8], width: usize) {
     text(s);
     spaces(less(width, s.len()));
 }
 
 // A number at the right of its column.
-pub fn whole_right(n: u64, width: usize) {
+pub(crate) fn whole_right(n: u64, width: usize) {
     let mut digits = [0u8; 20];
     let k = io::decimal(n, &mut digits);
     spaces(less(width, k));
     text(&digits[..k]);
 }
 
-pub fn count_right(n: usize, width: usize) {
+pub(crate) fn count_right(n: usize, width: usize) {
     whole_right(n as u64, width);
 }
 
@@ -130,11 +130,11 @@ fn fixed_text(f: Fixed) {
 }
 
 // A double to five places, with no zeros at its end.
-pub fn double(x: f64) {
+pub(crate) fn double(x: f64) {
     fixed_text(to_fixed(x));
 }
 
-pub fn double_right(x: f64, width: usize) {
+pub(crate) fn double_right(x: f64, width: usize) {
     let f = to_fixed(x);
     spaces(less(width, fixed_length(f)));
     fixed_text(f);
@@ -154,7 +154,7 @@ fn hex_bytes(v: &[u8]) {
 }
 
 // Bytes on a line of their own; nothing where there are none.
-pub fn hex_line(v: &[u8]) {
+pub(crate) fn hex_line(v: &[u8]) {
     if v.len() == 0 {
         return;
     }

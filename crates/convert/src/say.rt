@@ -5,7 +5,7 @@ use crate::print::count;
 use crate::print::text;
 
 // Document 01's numbers, each on its line.
-pub fn refusal(number: usize) {
+pub(crate) fn refusal(number: usize) {
     text(line(
         b"\nmatrix entry not finite\nbank breaks its layout\nmore than 1048576 bytes run\nsubroutine calls over 10 deep\nnumber or escape cut\nunknown operator\noperands missing\nno such subroutine\nflex not started, or not seven points\ndiv by 0\npop, nothing left for it\nseac\nnumber not -32768 to below 32768 once rounded\nquotient, point, stem edge or folded value not finite\n257th operand, or PostScript stack over 256\n257th stem in force or group, or stem store full\ncommand store full\noutput short\na width not finite\nwidth scratch short",
         number,
@@ -13,7 +13,7 @@ pub fn refusal(number: usize) {
 }
 
 // The words between numbers, each on its line.
-pub fn label(n: usize) {
+pub(crate) fn label(n: usize) {
     text(line(
         b"glyphs: \n; converted: \n; refused: \ndefault width: \n; nominal width: \nlargest stores needed: stems \n, commands \n, output \n  refused with \n, glyphs: \n; \nFontMatrix: \n; lenIV: \n; not encrypted\n; subroutines: \n; bytes of the bank: \nglyph                       number  bytes       width    run\nno glyph of that name\nfont\tglyphs\tconverted\trefused\tnumbers\tdefault\tnominal\tstems\tcommands\toutput\ncannot understand argument \nconvert FONT.. [--table] [--hex] [--glyph NAME] [--font-matrix] [--matrix A B C D TX TY] [--stems N] [--commands N] [--output N]",
         n,
@@ -60,7 +60,7 @@ fn place(what: usize, at: usize) {
 }
 
 // What is wrong with a file.
-pub fn trouble(t: font::Trouble) {
+pub(crate) fn trouble(t: font::Trouble) {
     form(t.what);
     place(t.what, t.at);
 }
