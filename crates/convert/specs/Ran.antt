@@ -1,4 +1,4 @@
--- Definitions: what a run leaves, with stem stores of its own.
+-- Definitions: what a run leaves, with stem stores of its own. Document 01, "Bytes run", "What each entry is held to" (a).
 use Prim.Native.Nat.{ℕ}
 use mathlib.Core.List.{List}
 use Rattle.type1.specs.declared.Stem.{Stem}
