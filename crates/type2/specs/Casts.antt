@@ -1,14 +1,14 @@
--- Laws: what `push_number` computes from a double that is in range: its units above -2 ^ 32, as a `u64`.
+-- Laws: what `push_delta` computes from a double that is in range: its units above -2 ^ 32, as a `u64`.
 use mathlib.Core.Path.{_≡_, refl, sym, ap, ap₂, _∙_, subst}
 use Prim.Native.Nat.{ℕ, _+_, _-_, _*_, _/_, _%_, _^_, _≤_, _<_, min}
-use native.Mathlib.Nat.{lt-of-lt-of-le, lt-of-le-of-lt, mul-div-cancel, mul-mod-left, mul-right-comm, eq-of-mul-eq-mul-right, mul-le-mul-right, add-mul}
+use native.Mathlib.Nat.{le-trans, lt-of-lt-of-le, lt-of-le-of-lt, mul-div-cancel, mul-mod-left, mul-right-comm, eq-of-mul-eq-mul-right, mul-le-mul-right, add-mul}
 use native.Mathlib.Omega.{arith}
 use mathlib.Core.Bool.{Bool, true, false, not, _&&_, cond, true≢false}
 use mathlib.Core.List.{List}
 use lib.Dec.{T, leb, ltb, eqb, ltb→lt, lt→ltb, le→leb, lit<, lit≤}
 use lib.IntN.{ℤ, subℕ}
 use lib.Pow.{pow-pos}
-use lib.Ieee.{Float, nan, inf, fin, Format, binary64, low, up, down, add, mul, fits, whole, inUnsigned, toUnsigned}
+use lib.Ieee.{Float, nan, inf, fin, Format, binary64, low, up, down, add, mul, div, fits, whole, inUnsigned, toUnsigned}
 use lib.Ieee.Fits.{and-i, down-pos, eq→eqb, mul-fits, add-fits}
 use lib.Ieee.Exact.{HasValue}
 use lib.Ieee.Scale.{finite}
@@ -18,10 +18,10 @@ use Rattle.binary64.specs.Units.{own, mag-of, sign-of, finite-of}
 use Rattle.binary64.specs.Sums.{add-multiples, sub-mul}
 use Rattle.binary64.specs.Scaling.{two}
 use Rattle.binary64.specs.Away.{away-fits}
-use Rattle.type2.specs.Number.{zp, zm, units, inRange, numberBytes, gave, put, pushNumber}
+use Rattle.type2.specs.Number.{zp, zm, quantized, units, inRange, numberBytes, gave, put, pushNumber}
 use Rattle.type2.specs.Bools.{yes, and-both}
 use Rattle.type2.specs.Signed.{sub-is}
-use Rattle.type2.specs.Quantize.{scaled}
+use Rattle.type2.specs.Quantize.{scaled, rounded-once}
 use Rattle.type2.specs.Fixed.{count, units-parts, below-count}
 
 abbrev F : Format
@@ -51,6 +51,21 @@ in-range-finite nan t = absurd t
 in-range-finite (inf s) t = absurd t
 in-range-finite (fin s m e) t = tt
 
+pub in-range-small : (v : Float) → T (inRange (units v)) → mag F v ≤ 4294967298 * 2 ^ 1058
+in-range-small v r =
+    let u = units v in
+    let w = and-both (ltb (zp u) 2147483648) (ltb (zm u) 2147483649) r in
+    let x = units-parts v (in-range-finite v r) in
+    let c : count v < 2147483649 = few (sign v) (count v) (zp u) (zm u) (x .0) (x .1) (ltb→lt (zp u) 2147483648 (w .0)) (ltb→lt (zm u) 2147483649 (w .1)) in
+    half (mag F v) (2 ^ 1058) (below-count 2147483649 (2 ^ 1058) (mag F v) (pow-pos 1058) c)
+  where
+    few : (s : Bool) (N p m : ℕ) → p ≡ cond s 0 N → m ≡ cond s N 0 → p < 2147483648 → m < 2147483649 → N < 2147483649
+    few true N p m e f h k = omega arith
+    few false N p m e f h k = omega arith
+
+    half : (A W : ℕ) → A * 2 + W < 2147483649 * W * 2 → A ≤ 4294967298 * W
+    half A W h = omega arith
+
 lit-fits : T (fits F (two 32))
 unfolding fits
 lit-fits = tt
@@ -77,9 +92,7 @@ raised-is v a r =
     let x = units-parts v b in
     let N = count v in
     let L = 2 ^ 1074 in
-    let c : N < 2147483649 = few (sign v) N (zp u) (zm u) (x .0) (x .1) lo hi in
-    let small : mag F v ≤ 4294967298 * 2 ^ 1058 = half (mag F v) (2 ^ 1058) (below-count 2147483649 (2 ^ 1058) (mag F v) (pow-pos 1058) c) in
-    let h = scaled F 1058 16 v refl a b (lt-of-le-of-lt (mul-le-mul-right (2 ^ 16) small) (lit< tt)) in
+    let h = scaled F 1058 16 v refl a b (lt-of-le-of-lt (mul-le-mul-right (2 ^ 16) (in-range-small v r)) (lit< tt)) in
     let n = roundAway (mul F v (two 16)) in
     let fn = away-fits F (mul F v (two 16)) (mul-fits F v (two 16)) in
     let bn = finite-of n (sign v) (N * L) (2 ^ low F) h in
@@ -94,13 +107,6 @@ raised-is v a r =
     let g = own F z (add-fits F n (two 32)) (E .fine) in
     cast-whole z (above u) (room (zp u) (zm u) lo) (subst (λ (k : ℕ). HasValue z false k (2 ^ low F)) (q .1) (subst (λ (s : Bool). HasValue z s (mag F z) (2 ^ low F)) (q .0) g))
   where
-    few : (s : Bool) (N p m : ℕ) → p ≡ cond s 0 N → m ≡ cond s N 0 → p < 2147483648 → m < 2147483649 → N < 2147483649
-    few true N p m e f h k = omega arith
-    few false N p m e f h k = omega arith
-
-    half : (A W : ℕ) → A * 2 + W < 2147483649 * W * 2 → A ≤ 4294967298 * W
-    half A W h = omega arith
-
     times : (s : Bool) (N L : ℕ) → (cond s 0 (N * L) ≡ cond s 0 N * L) × (cond s (N * L) 0 ≡ cond s N 0 * L)
     times true N L = (omega arith, refl)
     times false N L = (refl, omega arith)
@@ -125,7 +131,10 @@ raised-is v a r =
 pub raised-by : (v n : Float) → T (fits F v) → T (inRange (units v)) → n ≡ roundAway (mul F v (two 16)) → T (inUnsigned F 64 (add F n (two 32))) × (toUnsigned 64 (add F n (two 32)) ≡ above (units v))
 raised-by v n a r e = subst (λ (x : Float). T (inUnsigned F 64 (add F x (two 32))) × (toUnsigned 64 (add F x (two 32)) ≡ above (units v))) (sym e) (raised-is v a r)
 
--- ---- what `push_number` returns, with what its tests and its callee gave
+-- ---- what `push_delta` returns, with what its tests and its callees gave
+pub delta-value : (v n : Float) → T (fits F v) → T (inRange (units v)) → n ≡ roundAway (mul F v (two 16)) → div F n (two 16) ≡ quantized v
+delta-value v n a r e = ap (λ (x : Float). div F x (two 16)) e ∙ rounded-once v a (in-range-finite v r) (le-trans (in-range-small v r) (lit≤ tt))
+
 pub bounds : (v : Float) (n : ℕ) → T (inRange (units v)) → n ≡ above (units v) → (2147483648 ≤ n) × (n < 6442450944)
 bounds v n r e =
     let u = units v in

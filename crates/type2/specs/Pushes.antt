@@ -8,7 +8,7 @@ use mathlib.Core.Bool.{Bool, true, false, not, _&&_, cond, true≢false}
 use mathlib.Core.List.{List}
 use lib.ListN.{length}
 use lib.IntN.{ℤ, pos}
-use lib.Dec.{T, not-T, leb, ltb, ltb→lt, lt→ltb, nltb→le}
+use lib.Dec.{T, not-T, leb, ltb, ltb→lt, lt→ltb, nltb→le, lit<}
 use lib.Pow.{pow-pos}
 use lib.Ieee.{Float, nan, inf, fin, Format, binary64, sub, add, neg, mul, div, lt, fits}
 use lib.Ieee.Scale.{finite}
@@ -100,6 +100,12 @@ range-rounded (fin s m e) a =
     let v = fin s m e in
     let i = rounded-is v a tt in
     ap₂ _&&_ (sym (under-top (units v) (quantized v) i)) (sym (not-under-bottom (units v) (quantized v) i))
+
+-- a push's number is 0, 13 or 18
+pub push-number-few : (out : List ℕ) (at : ℕ) (v : Float) → pushNumber out at v .number < 19
+unfolding pushNumber put
+push-number-few out at v =
+    choose (inRange (units v)) (λ (p : Push). p .number < 19) _ _ (λ t. choose (leb (at + length (numberBytes (units v))) (length out)) (λ (p : Push). p .number < 19) _ _ (λ u. lit< tt) (λ u. lit< tt)) (λ t. lit< tt)
 
 pub refused-13 : (out : List ℕ) (at : ℕ) (v : Float) → (pushNumber out at v .number ≡ 13 → inRange (units v) ≡ false) × (inRange (units v) ≡ false → pushNumber out at v ≡ gave 13 0 out)
 unfolding pushNumber put

@@ -1,4 +1,4 @@
--- Laws: `quantized` is the nearest multiple of 1/65536, within half of that, and leaves such a multiple as it is.
+-- Laws: `quantized` is the nearest multiple of 1/65536, within half of that, and leaves such a multiple as it is; one rounding gives it.
 use mathlib.Core.Path.{_≡_, refl, sym, ap, ap₂, _∙_, subst}
 use Prim.Native.Nat.{ℕ, zero, suc, _+_, _-_, _*_, _^_, _≤_, _<_}
 use native.Mathlib.Nat.{le-trans, le-of-eq, lt-of-lt-of-le, lt-of-le-of-lt, zero-mul, add-mul, mul-assoc, mul-right-comm, mul-comm, lt-of-mul-lt-mul-right, le-of-mul-le-mul-right, le-mul-of-pos-right, mul-le-mul-right, div-le-self}
@@ -130,16 +130,19 @@ second-arm f w t v lw a b o =
 nano-value : HasValue nano false (4835703278458517 * 2 ^ 992) (2 ^ low F)
 nano-value = (refl, refl)
 
-bounded : (v : Float) → T (fits F v) → T (finite v) → mag F v ≤ 2 ^ 2080 → Nearest F 1058 v (quantized v)
-unfolding quantized
-bounded v a b h = go (lt (abs (sub F v (roundAway v))) nano) refl
+grid-arm : (v : Float) → T (fits F v) → T (finite v) → mag F v ≤ 2 ^ 2080 → Nearest F 1058 v (div F (roundAway (mul F v (two 16))) (two 16))
+grid-arm v a b h = second-arm F 1058 16 v refl a b (room (mag F v * 2 ^ 16) (2 ^ 1074) (2 ^ 2080 * 2 ^ 16) (overflow F) (mul-le-mul-right (2 ^ 16) h) (lit< tt))
   where
     room : (x y m o : ℕ) → x ≤ m → m + y < o → x + y < o
     room x y m o g k = omega arith
 
+bounded : (v : Float) → T (fits F v) → T (finite v) → mag F v ≤ 2 ^ 2080 → Nearest F 1058 v (quantized v)
+unfolding quantized
+bounded v a b h = go (lt (abs (sub F v (roundAway v))) nano) refl
+  where
     go : (c : Bool) → lt (abs (sub F v (roundAway v))) nano ≡ c → Nearest F 1058 v (cond c (roundAway v) (div F (roundAway (mul F v (two 16))) (two 16)))
     go true e = first-arm F 1058 16 nano (4835703278458517 * 2 ^ 992) v refl a b (lit< tt) nano-value (lit≤ tt) e
-    go false e = second-arm F 1058 16 v refl a b (room (mag F v * 2 ^ 16) (2 ^ 1074) (2 ^ 2080 * 2 ^ 16) (overflow F) (mul-le-mul-right (2 ^ 16) h) (lit< tt))
+    go false e = grid-arm v a b h
 
 -- a whole number less itself is 0, so the first arm takes it
 self-sub : (x : Float) → T (fits F x) → T (finite x) → T (finite (sub F x x)) × (mag F (sub F x x) ≡ 0)
@@ -198,6 +201,14 @@ pub quantized-fits : (v : Float) → T (fits binary64 v) → T (fits binary64 (q
 unfolding quantized
 quantized-fits v a =
     cond-fits binary64 (lt (abs (sub binary64 v (roundAway v))) nano) (roundAway v) (div binary64 (roundAway (mul binary64 v (two 16))) (two 16)) (away-fits binary64 v a) (div-fits binary64 (roundAway (mul binary64 v (two 16))) (two 16))
+
+-- ---- ONE ROUNDING IS ENOUGH: up to 2 ^ 1006, v * 65536 rounded gives what either arm gives, a zero's sign too
+pub rounded-once : (v : Float) → T (fits F v) → T (finite v) → mag F v ≤ 2 ^ 2080 → div F (roundAway (mul F v (two 16))) (two 16) ≡ quantized v
+rounded-once v a b h =
+    let y = roundAway (mul F v (two 16)) in
+    let p = grid-arm v a b h in
+    let q = quantized-nearest v a b in
+    unique F (div F y (two 16)) (quantized v) (div-fits F y (two 16)) (quantized-fits v a) (p .fine) (q .fine) (p .signs ∙ sym (q .signs)) (p .size ∙ sym (q .size))
 
 -- ---- a multiple of 1/65536 comes back as it is, so `quantized` twice is `quantized` once
 same-multiple : (i k u : ℕ) → 0 < u → dist (i * u) (k * u) * 2 ≤ u → i * u ≡ k * u

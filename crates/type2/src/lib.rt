@@ -152,20 +152,46 @@ fn push_units(out: &mut [u8], at: usize, n: u64) -> Pushed
     put3(out, at, 28, (w / 256 % 256) as u8, (w % 256) as u8)
 }
 
+// What a pushed delta gave: a push's number and place, and the delta that the bytes stand for.
+pub struct Delta {
+    pub number: u64,
+    pub next: usize,
+    pub value: f64,
+}
+
 // v to the nearest 1/65536, a tie away from zero, into `out` at `at`: the shortest form of a whole
 // number, else 16.16. Refused with 13 where the rounded number is not -32768 to below 32768, which the
 // two tests decide half of 1/65536 further out, and with 18 where `out` has no room; `out` is then as it was.
-pub fn push_number(out: &mut [u8], at: usize, v: f64) -> Pushed
+// `value` is `quantize(v)`: by `Quantize.rounded-once`, one rounding gives both.
+pub fn push_delta(out: &mut [u8], at: usize, v: f64) -> Delta
     ensures { λ r. ⌜ gave (r .number) (r .next) (now (out .exit)) ≡ pushNumber (now (out .entry)) at v ⌝ }
+    ensures { λ r. ⌜ r .value ≡ quantized v ⌝ }
 {
     if v < 32767.99999237060546875 {
         if -32768.00000762939453125 < v {
             let n = nearest(v * 65536.0);
-            return push_units(out, at, (n + 4294967296.0) as u64);
+            let p = push_units(out, at, (n + 4294967296.0) as u64);
+            return Delta {
+                number: p.number as u64,
+                next: p.next,
+                value: n / 65536.0,
+            };
         }
     }
-    Pushed {
+    Delta {
         number: 13,
         next: 0,
+        value: quantize(v),
+    }
+}
+
+// The push that `push_delta` makes, without the value.
+pub fn push_number(out: &mut [u8], at: usize, v: f64) -> Pushed
+    ensures { λ r. ⌜ gave (r .number) (r .next) (now (out .exit)) ≡ pushNumber (now (out .entry)) at v ⌝ }
+{
+    let d = push_delta(out, at, v);
+    Pushed {
+        number: d.number as u32,
+        next: d.next,
     }
 }

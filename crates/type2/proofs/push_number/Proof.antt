@@ -1,68 +1,23 @@
--- `type2::push_number` meets its contract: its two tests are the range, and the cast counts the rounded number from -2 ^ 32.
-use mathlib.Core.Path.{_≡_, sym, ap, ap₂, _∙_, subst}
-use mathlib.Core.Bool.{Bool, true, _&&_}
-use lib.Dec.{T}
-use lib.Ieee.{Float, binary64, fits, ofBits, neg, lt, add, inUnsigned, toUnsigned}
-use borrow.Author.Needs.{needs}
-use Rattle.binary64.specs.Scaling.{two}
-use Rattle.type2.specs.Number.{units, inRange}
-use Rattle.type2.specs.Fixed.{top, bottom, range-tests}
-use Rattle.type2.specs.Casts.{above, raised-by, bounds, accepted, refused}
+-- `type2::push_number` meets its contract: a push's number is at most 18.
+use mathlib.Core.Path.{sym, subst}
+use Prim.Native.Nat.{_<_}
+use borrow.Author.Needs.{needs, fits-under}
+use Rattle.type2.specs.Number.{Push}
+use Rattle.type2.specs.Pushes.{push-number-few}
 use Rattle.type2.proofs.push_number.Statement.{statement}
 use Rattle.type2.proofs.push_number.Tie as tie
 
--- what owning an `f64` tells: the format holds it
-held : (c : tie.Start) → T (fits binary64 (c .args .v))
-held c = subst T (sym (c .good .1 .1 .0 .1)) tt
+push-delta-requires : tie.Need-push-delta-requires
+push-delta-requires c κs = search needs
 
--- both tests hold
-in-range : (v : Float) → T (fits binary64 v) → lt v top ≡ true → lt bottom v ≡ true → T (inRange (units v))
-in-range v a t b = subst T (sym (range-tests v a ∙ ap₂ _&&_ t b)) tt
-
--- where the cast stands: the number is in range, and the cast counts it
-counted : (c : tie.After-row-known) → let v = c .before .before .before .before .before .before .args .v in let n = c .before .before .nearest .result in
-    T (inRange (units v)) × T (inUnsigned binary64 64 (add binary64 n (two 32))) × (toUnsigned 64 (add binary64 n (two 32)) ≡ above (units v))
-unfolding ofBits neg
-counted c =
-    let s = c .before .before .before .before .before .before in
-    let r = in-range (s .args .v) (held s) (c .before .before .before .before .if1 .taken) (c .before .before .before .if2 .taken) in
-    let t = raised-by (s .args .v) (c .before .before .nearest .result) (held s) r (c .before .before .nearest .ensures) in
-    (r, t .0, t .1)
-
-nearest-requires : tie.Need-nearest-requires
-nearest-requires c κs = search needs
-
-float-to-int-push-units : tie.Need-float-to-int-push-units
-unfolding ofBits
-float-to-int-push-units c = counted c .1
-
-push-units-requires : tie.Need-push-units-requires
-unfolding ofBits
-push-units-requires c κs = let t = counted c in bounds _ _ (t .0) (t .2)
+cast-t7 : tie.Need-cast-t7
+cast-t7 c = fits-under _ _ 19 (subst (λ (p : Push). p .number < 19) (sym (c .before .before .before .push-delta .ensures .0)) (push-number-few _ _ _)) tt
 
 same-length : tie.Need-same-length
 same-length c = search needs
 
 returns : tie.Need-returns
-unfolding ofBits
-returns c = let t = counted (c .before .before .before) in c .before .before .push-units .ensures ∙ accepted _ _ _ _ (t .0) (t .2)
-
-returns-2 : tie.Need-returns-2
-unfolding ofBits neg
-returns-2 c = let s = c .before .before .before in refused (s .args .out .now) (s .args .at) (s .args .v) (range-tests (s .args .v) (held s) ∙ ap₂ _&&_ (c .before .if1 .taken) (c .if2 .left))
-
-returns-3 : tie.Need-returns-3
-unfolding ofBits neg
-returns-3 c = let s = c .before .before in refused (s .args .out .now) (s .args .at) (s .args .v) (range-tests (s .args .v) (held s) ∙ ap (λ (b : Bool). b && lt bottom (s .args .v)) (c .if1 .left))
+returns c = search needs
 
 pub push-number-spec : {M : Type 1} → statement M
-push-number-spec =
-    tie.close
-    (tie.spec
-    nearest-requires
-    float-to-int-push-units
-    push-units-requires
-    same-length
-    returns
-    returns-2
-    returns-3)
+push-number-spec = tie.close (tie.spec push-delta-requires cast-t7 same-length returns)
