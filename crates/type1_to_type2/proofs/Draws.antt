@@ -11,7 +11,7 @@ use lib.Dec.{T, eqb, leb, leb→le, le→leb, eqb→eq}
 use lib.IntN.{ℤ}
 use lib.Pow.{pow-pos}
 use lib.Ieee.{Float, nan, inf, fin, binary64, sub, add, neg, mul, div, lt, fits, eq}
-use lib.Ieee.Fits.{eq→eqb}
+use lib.Ieee.Fits.{eq→eqb, sub-fits}
 use borrow.Author.Tests.{eq-eqb, ne-eqb, le-leb, lt-leb}
 use Rattle.binary64.specs.Units.{bool-iff}
 use Rattle.binary64.specs.Value.{mag, pl, mi}
@@ -21,17 +21,17 @@ use Rattle.geometry.specs.declared.Point.{Point}
 use Rattle.type1.specs.declared.Stem.{Stem}
 use Rattle.type1.specs.State.{Command, move, line, curve, flex, plusZero}
 use Rattle.type1.specs.Run.{pick, pointAt}
-use Rattle.type2.specs.Number.{quantized, units, zp, zm}
+use Rattle.type2.specs.Number.{quantized, units, zp, zm, gave, pushNumber}
 use Rattle.type2.specs.Signed.{one-sided}
 use Rattle.type2.specs.Fixed.{units-quantized}
 use Rattle.type2.specs.Pushes.{rounded-is}
 use Rattle.type2.specs.Instruction.{Instr, instr, isZero, moveInstr}
 use Rattle.type2.specs.Machine.{Kind, lines, curves}
-use Rattle.type1_to_type2.proofs.Writes.{not-before, put-cons}
+use Rattle.type1_to_type2.proofs.Writes.{not-before, put-cons, pair-refused, pair-pushed}
 use Rattle.type1_to_type2.specs.declared.Writer.{Writer}
 use Rattle.type1_to_type2.specs.Emission.{Cmd, shape, Item, go, items, codeOf, most, deltas, arrives, pointsOf, heightOf, kindOf, written}
 use Rattle.type1_to_type2.specs.Writing.{Written, refused, wrote, put, putNumbers}
-use Rattle.type1_to_type2.specs.Streaming.{resumed, resumedItems, resumedAll, pointOf, closed, joined, streamed, putInstr, shares, PutsAt, Puts, Still, Flushed, Batched, Goes, Draws, Ends}
+use Rattle.type1_to_type2.specs.Streaming.{resumed, resumedItems, resumedAll, pointOf, closed, joined, streamed, putInstr, shares, Puts, Still, Flushed, Batched, Goes, Draws, Ends}
 
 -- ---- one after the other
 pub in-turn : {g h : (ℕ → Written) → ℕ → Written} {w r s : Writer} {b a z : List ℕ} → Puts g w b r a → Puts h r a s z → Puts (λ f. g (h f)) w b s z
@@ -77,12 +77,30 @@ shared-none w b op limit t f = ap (λ (x : Bool). resumed (w .number) (w .next) 
 pub first-closed : (w : Writer) (op limit : ℕ) → shares op limit w ≡ false → (f : ℕ → Written) (left : ℕ) → closed (w .waits) left f ≡ pick (shares op limit w) (f left) (closed (w .waits) left f)
 first-closed w op limit t f left = ap (λ (x : Bool). pick x (f left) (closed (w .waits) left f)) (sym t)
 
--- ---- the two deltas of a point
-pub delta-put : (w : Writer) (b : List ℕ) (n k : ℕ) (a : List ℕ) (px py dx dy : Float) → dx ≡ quantized (sub binary64 px (w .x)) → dy ≡ quantized (sub binary64 py (w .y)) → w .number ≡ 0 →
-    PutsAt (λ f left. putNumbers (units dx ∷ units dy ∷ []) left f) 0 (w .next) b n k a → (f : ℕ → Written) → resumed n k a f ≡ resumed (w .number) (w .next) b (λ left. putNumbers (deltas (pointOf w) (pointAt px py ∷ [])) left f)
-unfolding deltas
-delta-put w b n k a px py dx dy e d z p f =
-    not-before _ _ _ _ _ z (p .then f ∙ ap₂ (λ (x y : Float). resumed 0 (w .next) b (λ left. putNumbers (units x ∷ units y ∷ []) left f)) e d)
+-- ---- the two deltas of a point: the first is refused, or neither is
+module _ (w : Writer) (b : List ℕ) (px py : Float) (n k : ℕ) (a : List ℕ) (z : w .number ≡ 0) (e : gave n k a ≡ pushNumber b (w .next) (sub binary64 px (w .x))) where
+  abbrev dx : Float
+  dx = sub binary64 px (w .x)
+
+  abbrev dy : Float
+  dy = sub binary64 py (w .y)
+
+  rounded : (v u : Float) → units (quantized (sub binary64 v u)) ≡ units (sub binary64 v u)
+  rounded v u = units-quantized (sub binary64 v u) (sub-fits binary64 v u)
+
+  pub delta-refused : (n ≡ 0 → ⊥) → (f : ℕ → Written) → resumed n k a f ≡ resumed (w .number) (w .next) b (λ left. putNumbers (deltas (pointOf w) (pointAt px py ∷ [])) left f)
+  unfolding deltas
+  delta-refused h f =
+      not-before _ _ _ _ _ z (pair-refused b (w .next) dx (units (quantized dy)) n k a f e h ∙ ap (λ (u : ℤ). resumed 0 (w .next) b (λ left. putNumbers (u ∷ units (quantized dy) ∷ []) left f)) (sym (rounded px (w .x))))
+
+  pub delta-pushed : (m j : ℕ) (c : List ℕ) → n ≡ 0 → gave m j c ≡ pushNumber a k dy → (f : ℕ → Written) → resumed m j c f ≡ resumed (w .number) (w .next) b (λ left. putNumbers (deltas (pointOf w) (pointAt px py ∷ [])) left f)
+  unfolding deltas
+  delta-pushed m j c h d f =
+      not-before _ _ _ _ _ z (pair-pushed b (w .next) dx dy n k a m j c f e h d ∙ ap₂ (λ (u v : ℤ). resumed 0 (w .next) b (λ left. putNumbers (u ∷ v ∷ []) left f)) (sym (rounded px (w .x))) (sym (rounded py (w .y))))
+
+pub delta-at : (w : Writer) (px py dx dy : Float) → dx ≡ quantized (sub binary64 px (w .x)) → dy ≡ quantized (sub binary64 py (w .y)) → pointAt (add binary64 (w .x) dx) (add binary64 (w .y) dy) ≡ arrives (pointOf w) (pointAt px py ∷ [])
+unfolding arrives
+delta-at w px py dx dy e d = ap₂ (λ (x y : Float). pointAt (add binary64 (w .x) x) (add binary64 (w .y) y)) e d
 
 -- ---- points in turn
 pub goes-one : {w r s : Writer} {b a z : List ℕ} {p : Point} {ps : List Point} → Goes (p ∷ []) w b r a → Goes ps r a s z → Goes (p ∷ ps) w b s z

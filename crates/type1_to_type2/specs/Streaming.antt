@@ -86,11 +86,6 @@ cmdsIn m c e g = pick (eqb (word c e 0) 5) (hints g ∷ []) (shapes m (commandIn
 
 -- ---- what a function has written: g of what follows
 
--- by numbers of refusals and places
-pub record PutsAt (g : (ℕ → Written) → ℕ → Written) (number next : ℕ) (before : List ℕ) (number' next' : ℕ) (after : List ℕ) : Type 0 where
-  pub then : (f : ℕ → Written) → resumed number' next' after f ≡ resumed number next before (g f)
-  pub same : length after ≡ length before
-
 pub record Puts (g : (ℕ → Written) → ℕ → Written) (w : Writer) (before : List ℕ) (r : Writer) (after : List ℕ) : Type 0 where
   pub then : (f : ℕ → Written) → resumed (r .number) (r .next) after f ≡ resumed (w .number) (w .next) before (g f)
   pub same : length after ≡ length before

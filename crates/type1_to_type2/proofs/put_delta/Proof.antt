@@ -1,9 +1,6 @@
 -- `type1_to_type2::put_delta` meets its contract.
-use Rattle.type1.specs.Run.{pointAt}
-use lib.Ieee.{Float, binary64, add}
-use mathlib.Core.Path.{refl, ap₂}
-use Rattle.type1_to_type2.specs.Emission.{arrives}
-use Rattle.type1_to_type2.proofs.Draws.{delta-put}
+use mathlib.Core.Path.{refl}
+use Rattle.type1_to_type2.proofs.Draws.{delta-refused, delta-pushed, delta-at}
 use Rattle.type1_to_type2.proofs.Writes.{refused-stays}
 use borrow.Author.Needs.{needs}
 use Rattle.type1_to_type2.proofs.put_delta.Statement.{statement}
@@ -16,23 +13,37 @@ quantize-requires-2 : tie.Need-quantize-requires-2
 quantize-requires-2 c κs = search needs
 
 returns : tie.Need-returns
-unfolding arrives
 returns c =
-    record { puts = record { then = λ f. refused-stays _ _ _ _ _ _ _ (c .if1 .taken); same = refl }; at = ap₂ (λ (d e : Float). pointAt (add binary64 (c .before .before .before .before .before .before .before .before .before .args .w .x) d) (add binary64 (c .before .before .before .before .before .before .before .before .before .args .w .y) e)) (c .before .before .before .before .before .before .quantize .ensures) (c .before .before .before .before .quantize2 .ensures); waits = refl; held = refl }
+    let w = c .before .before .before .before .before .before .before .before .before .args .w in
+    record { puts = record { then = λ f. refused-stays _ _ _ _ _ _ _ (c .before .before .before .before .before .before .if1 .taken); same = refl }; at = delta-at w _ _ _ _ (c .before .before .before .before .quantize .ensures) (c .before .quantize2 .ensures); waits = refl; held = refl }
 
-put-pair-requires : tie.Need-put-pair-requires
-put-pair-requires c κs = search needs
+push-delta-requires : tie.Need-push-delta-requires
+push-delta-requires c κs = search needs
 
-cast-r : tie.Need-cast-r
-cast-r c = search needs
+quantize-requires-3 : tie.Need-quantize-requires-3
+quantize-requires-3 c κs = search needs
 
 same-length : tie.Need-same-length
 same-length c = search needs
 
 returns-2 : tie.Need-returns-2
-unfolding arrives
 returns-2 c =
-    record { puts = record { then = delta-put (c .before .before .before .before .before .before .before .before .before .before .before .before .before .before .args .w) _ _ _ _ _ _ _ _ (c .before .before .before .before .before .before .before .before .before .before .before .quantize .ensures) (c .before .before .before .before .before .before .before .before .before .quantize2 .ensures) (c .before .before .before .before .before .if1 .left) (c .before .before .before .put-pair .ensures); same = c .before .before .before .put-pair .ensures .same }; at = ap₂ (λ (d e : Float). pointAt (add binary64 (c .before .before .before .before .before .before .before .before .before .before .before .before .before .before .args .w .x) d) (add binary64 (c .before .before .before .before .before .before .before .before .before .before .before .before .before .before .args .w .y) e)) (c .before .before .before .before .before .before .before .before .before .before .before .quantize .ensures) (c .before .before .before .before .before .before .before .before .before .quantize2 .ensures); waits = refl; held = refl }
+    let s = c .before .before .before .before .before .before .before .before .before .before .before .before .before .before .before in
+    let p = c .before .before .before .before .before .before .before .before .before .push-delta .ensures in
+    record { puts = record { then = delta-refused (s .args .w) _ _ (s .args .py) _ _ _ (c .before .before .before .before .before .before .before .before .before .before .before .before .if1 .left) (p .0) (c .before .before .before .if2 .taken); same = search needs }; at = delta-at (s .args .w) _ _ _ _ (p .1) (c .before .quantize3 .ensures); waits = refl; held = refl }
+
+push-delta-requires-2 : tie.Need-push-delta-requires-2
+push-delta-requires-2 c κs = search needs
+
+same-length-2 : tie.Need-same-length-2
+same-length-2 c = search needs
+
+returns-3 : tie.Need-returns-3
+returns-3 c =
+    let w = c .before .before .before .before .before .before .before .before .before .before .before .before .before .before .before .before .before .before .before .args .w in
+    let p = c .before .before .before .before .before .before .before .before .before .before .before .before .before .push-delta .ensures in
+    let q = c .before .before .before .before .push-delta2 .ensures in
+    record { puts = record { then = delta-pushed w _ _ _ _ _ _ (c .before .before .before .before .before .before .before .before .before .before .before .before .before .before .before .before .if1 .left) (p .0) _ _ _ (c .before .before .before .before .before .before .before .if2 .left) (q .0); same = search needs }; at = delta-at w _ _ _ _ (p .1) (q .1); waits = refl; held = refl }
 
 pub put-delta-spec : {M : Type 1} → statement M
 put-delta-spec =
@@ -41,7 +52,10 @@ put-delta-spec =
     quantize-requires
     quantize-requires-2
     returns
-    put-pair-requires
-    cast-r
+    push-delta-requires
+    quantize-requires-3
     same-length
-    returns-2)
+    returns-2
+    push-delta-requires-2
+    same-length-2
+    returns-3)
