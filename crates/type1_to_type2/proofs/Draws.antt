@@ -1,7 +1,7 @@
 -- Laws: operators that wait, deltas, and the commands that they draw.
 use mathlib.Core.Path.{_≡_, refl, sym, ap, ap₂, _∙_, subst, fun-ext}
 use mathlib.Core.Logic.{_⊎_, inl, inr}
-use Prim.Native.Nat.{ℕ, zero, suc, _+_, _-_, _*_, _^_, _≤_, _<_}
+use Prim.Native.Nat.{ℕ, zero, suc, _+_, _-_, _*_, _%_, _^_, _≤_, _<_}
 use native.Mathlib.Nat.{sub-zero, pos-of-ne-zero}
 use native.Mathlib.Omega.{arith}
 use mathlib.Core.Bool.{Bool, true, false, _&&_}
@@ -52,7 +52,7 @@ pub no-waiting : (k : ℕ) → k ≡ 0 → (left : ℕ) (f : ℕ → Written) �
 unfolding closed
 no-waiting k e left f = rw (eq-eqb k 0 e)
 
-pub waiting : (k : ℕ) → (k ≡ 0 → ⊥) → (f : ℕ → Written) (left : ℕ) → put left (k ∷ []) f ≡ closed k left f
+pub waiting : (k : ℕ) → (k ≡ 0 → ⊥) → (f : ℕ → Written) (left : ℕ) → put left (k % 256 ∷ []) f ≡ closed k left f
 unfolding closed
 waiting k e f left = rw (ne-eqb k 0 e)
 

@@ -1,6 +1,6 @@
 -- Definitions: a program written as its parts come, an operator once no more operands share it; and what the code has yet to write.
 use mathlib.Core.Path.{_≡_}
-use Prim.Native.Nat.{ℕ, zero, suc, _+_, _-_, _≤_, _<_}
+use Prim.Native.Nat.{ℕ, zero, suc, _+_, _-_, _%_, _≤_, _<_}
 use mathlib.Core.Bool.{Bool, _&&_}
 use mathlib.Core.List.{List, [], _∷_, _++_}
 use lib.ListN.{length, take, replicate}
@@ -33,10 +33,10 @@ resumed number next out f = pick (eqb number 0) (rest (take next out) f (length 
 abbrev pub putInstr : Instr → ℕ → (ℕ → Written) → Written
 putInstr i room f = putNumbers (i .operands) room (λ left. put left (i .code) f)
 
--- ---- an operator k waits, with n operands written for it; 0 where none waits
+-- ---- an operator k waits, with n operands written for it; 0 where none waits. Its byte is k % 256, which is k for lines and curves (`Packing.code-closed`).
 
 unfoldable pub closed : ℕ → ℕ → (ℕ → Written) → Written
-closed k room f = pick (eqb k 0) (f room) (put room (k ∷ []) f)
+closed k room f = pick (eqb k 0) (f room) (put room (k % 256 ∷ []) f)
 
 unfoldable pub joined : Kind → List ℤ → ℕ → ℕ → ℕ → (ℕ → ℕ → ℕ → Written) → Written
 joined j l k n room f =
