@@ -5,24 +5,27 @@ use native.Mathlib.Numerals.{add-one}
 use native.Mathlib.Omega.{arith}
 use mathlib.Core.Bool.{Bool, true, false, cond, true≢false}
 use mathlib.Core.List.{List, [], _∷_, _++_}
-use borrow.Author.Tests.{lt-ltb, le-ltb, eq-eqb, ne-eqb, le-leb, lt-leb, eqb-true, eqb-false}
-use lib.Dec.{eqb, ltb, leb, lit≤, lit<}
+use borrow.Author.Tests.{lt-ltb, le-ltb, ne-eqb, le-leb, lt-leb, eqb-true, eqb-false}
+use lib.Dec.{eqb, ltb, leb, lit≤}
 use lib.IntN.{ℤ}
 use lib.ListN.{length, getD, take, drop, set, length-set, length-take}
 use lib.Seq.{take-suc-set}
 use lib.Arith.{lt-of-le-ne}
 use lib.Ieee.{Float}
-use Rattle.charstring.specs.Cursor.{rest, after, byteAt}
+use Rattle.charstring.specs.Cursor.{after, byteAt}
 use Rattle.charstring.specs.Laws.{rest-more, rest-none, rest-length}
 use Rattle.type1.specs.declared.St.{St}
 use Rattle.type1.specs.declared.Tok.{Tok}
 use Rattle.type1.specs.declared.Num.{Num}
+use Rattle.type1.specs.declared.Ran.{Ran}
+use Rattle.type1.specs.declared.Drawn.{Drawn}
 use Rattle.type1.specs.Operator.{Operator, ofByte, ofEscape}
 use Rattle.type1.specs.Number.{Token, cut, number, operator, token, tokenTwo, tokenFive, tokenEscape, oneByte, twoBytes, twoBytesBelow, fourBytes, double}
 use Rattle.type1.specs.State.{State, withOperands}
-use Rattle.type1.specs.Run.{Limits, Outcome, going, returning, ending, refused, andThen, check, push, consume, runBytes}
-use Rattle.type1.specs.Memory.{operatorOf}
-use Rattle.type1.specs.Reading.{cursorOf, byteOf, keyOf, withCount, tokOf, held, left, goesOn, Numbered, Operated, Reads}
+use Rattle.type1.specs.Run.{pick, Limits, within, Outcome, going, returning, ending, refused, andThen, check, push, consume, operate, runBytes}
+use Rattle.type1.specs.Memory.{Mem, abs, Fit, Meets, operatorOf}
+use Rattle.type1.specs.Small.{ranOf}
+use Rattle.type1.specs.Reading.{cursorOf, byteOf, keyOf, placed, tokOf, left, isQuick, drawnTo, Draws, DrawsAs, readMem, goesOn, Numbered, Operated, Reads}
 
 -- ---- one byte more
 pub left-more : (code : List ℕ) (i key : ℕ) (e : Bool) → i < length code → left code i key e ≡ byteOf (getD code i 0) key e ∷ left code (i + 1) (keyOf (getD code i 0) key e) e
@@ -55,27 +58,27 @@ operator-high : (n : ℕ) → operatorOf (256 + n) ≡ ofEscape n
 unfolding operatorOf
 operator-high n = simp (le-ltb (256 + n) 256 (omega arith)) (ap ofEscape (let z : 256 + n - 256 ≡ n = omega arith in z))
 
-module _ (code : List ℕ) (i key : ℕ) (e : Bool) (v n : ℕ) (st : St) where
-  pub plain-op : (t : Tok) (w : ℕ) → t ≡ tokOf st n i key 0 w → w ≡ v → v < 32 → (v ≡ 12 → ⊥) → i ≤ length code → Operated code i key e v n st t
-  plain-op t w p q h ne l = subst (Operated code i key e v n st) (sym (p ∙ ap (tokOf st n i key 0) q)) (record {
+module _ (code : List ℕ) (i key : ℕ) (e : Bool) (v : ℕ) (st : St) where
+  pub plain-op : (t : Tok) (w : ℕ) → t ≡ tokOf st i key 0 w → w ≡ v → v < 32 → (v ≡ 12 → ⊥) → i ≤ length code → Operated code i key e v st t
+  plain-op t w p q h ne l = subst (Operated code i key e v st) (sym (p ∙ ap (tokOf st i key 0) q)) (record {
     operator = λ z. (0, token-op v (left code i key e) h ne ∙ ap (operator 0) (sym (operator-low v (omega arith))), refl);
     cut = λ z. absurd (z refl);
     state = refl;
     on = (omega arith, l);
   })
 
-  pub cut-op : (t : Tok) → t ≡ tokOf st n i key 5 0 → v ≡ 12 → length code ≤ i → i ≤ length code → Operated code i key e v n st t
-  cut-op t p h l m = subst (Operated code i key e v n st) (sym p) (record {
+  pub cut-op : (t : Tok) → t ≡ tokOf st i key 5 0 → v ≡ 12 → length code ≤ i → i ≤ length code → Operated code i key e v st t
+  cut-op t p h l m = subst (Operated code i key e v st) (sym p) (record {
     operator = λ z. absurd (let y : ⊥ = omega arith in y);
     cut = λ z. (refl, token-escape v (left code i key e) h ∙ ap tokenEscape (left-none code i key e l));
     state = refl;
     on = (omega arith, m);
   })
 
-  pub escape-op : (t : Tok) (c b w k : ℕ) → t ≡ tokOf st n (i + 1) k 0 (256 + w) → w ≡ b → v ≡ 12 → i < length code → c ≡ getD code i 0 → b ≡ byteOf c key e → k ≡ keyOf c key e → Operated code i key e v n st t
+  pub escape-op : (t : Tok) (c b w k : ℕ) → t ≡ tokOf st (i + 1) k 0 (256 + w) → w ≡ b → v ≡ 12 → i < length code → c ≡ getD code i 0 → b ≡ byteOf c key e → k ≡ keyOf c key e → Operated code i key e v st t
   escape-op t c b w k p q h l a d f =
       let m = left-read code i key e c b k l a d f in
-      subst (Operated code i key e v n st) (sym (p ∙ ap (λ (x : ℕ). tokOf st n (i + 1) k 0 (256 + x)) q)) (record {
+      subst (Operated code i key e v st) (sym (p ∙ ap (λ (x : ℕ). tokOf st (i + 1) k 0 (256 + x)) q)) (record {
         operator = λ z. (1, token-escape v (left code i key e) h ∙ ap tokenEscape m ∙ ap (operator 1) (sym (operator-high b)), ap (drop 1) m);
         cut = λ z. absurd (z refl);
         state = refl;
@@ -152,115 +155,194 @@ and-same (returning s) k k' h = refl
 and-same (ending s) k k' h = refl
 and-same (refused n) k k' h = refl
 
--- what was read so far: what is left does what the whole does
-pub record Going (code : List ℕ) (from start : ℕ) (e : Bool) (n₀ : ℕ) (ops₀ : List Float) (ops : List Float) (i key n : ℕ) : Type 0 where
-  pub same : length ops₀ ≡ 256 → (lim : Limits) (f : Operator → State → Outcome) (s : State) → ((k : ℕ) → lim .operands k ≡ leb k 256)
-      → runBytes lim f (left code from start e) 0 (held n₀ ops₀ s) ≡ runBytes lim f (left code i key e) 0 (held n ops s)
-  pub few : n ≤ 256
-  pub within : i ≤ length code
-  pub on : from ≤ i
-  pub whole : length ops ≡ length ops₀
+-- a step that goes on
+step-on : (r : Ran) (M : Mem) (o : Outcome) (k : State → Outcome) → Meets r M o → r .flow ≡ 0 → (andThen o k ≡ k (abs (r .st) M)) × Fit (r .st) M
+step-on r M (going s) k h z = (ap k (sym (h .1 .is)), h .1 .fit)
+step-on r M (returning s) k h z = absurd (let y : 1 ≡ 0 = sym (h .0) ∙ z in let x : ⊥ = omega arith in x)
+step-on r M (ending s) k h z = absurd (let y : 2 ≡ 0 = sym (h .0) ∙ z in let x : ⊥ = omega arith in x)
+step-on r M (refused i) k h z = absurd (let a = h .0 in let b = h .1 in let x : ⊥ = omega arith in x)
 
-module _ (code : List ℕ) (from start : ℕ) (e : Bool) (st : St) (ops₀ ops : List Float) (i key n : ℕ) (G : Going code from start e (st .operands) ops₀ ops i key n) where
+-- an entry more, a command more
+drawn-less : (t u : St) (m m′ : Mem) → Fit t m → Fit u m′ → u .groups ≡ t .groups → u .entries ≡ t .entries + 1 → length (abs t m .drawn) < length (abs u m′ .drawn)
+unfolding abs
+drawn-less t u m m′ F F′ g k = let a = F .entries in let b = F′ .entries in omega arith
+
+pub quick-is : (t : St) (b : Bool) → b ≡ isQuick t → b ≡ true → (t .opened ≡ true) × (t .changed ≡ false)
+quick-is t b e z = go (t .changed) refl (sym e ∙ z)
+  where
+    go : (c : Bool) → t .changed ≡ c → pick c false (t .opened) ≡ true → (t .opened ≡ true) × (t .changed ≡ false)
+    go true q h = absurd (true≢false (sym h))
+    go false q h = (h, q)
+
+-- what was read so far: what is left does what the whole does
+pub record Going (code : List ℕ) (from start : ℕ) (e : Bool) (st : St) (ops₀ : List Float) (cmds₀ : List ℕ) (ops : List Float) (cmds : List ℕ) (i key n : ℕ) (x y : Float) (k : ℕ) : Type 0 where
+  pub fit : (m : Mem) → Fit st (readMem ops₀ cmds₀ m) → Fit (placed n x y k st) (readMem ops cmds m)
+  pub same : (m : Mem) (f : Operator → State → Outcome) → Fit st (readMem ops₀ cmds₀ m) → DrawsAs (within (length (m .stems)) (length cmds₀)) (length (abs (placed n x y k st) (readMem ops cmds m) .drawn)) f
+      → runBytes (within (length (m .stems)) (length cmds₀)) f (left code from start e) 0 (abs st (readMem ops₀ cmds₀ m)) ≡ runBytes (within (length (m .stems)) (length cmds₀)) f (left code i key e) 0 (abs (placed n x y k st) (readMem ops cmds m))
+  pub few : n ≤ 256
+  pub space : 14 * k ≤ length cmds
+  pub inside : i ≤ length code
+  pub on : from ≤ i
+  pub whole : length cmds ≡ length cmds₀
+
+module _ (code : List ℕ) (from start : ℕ) (e : Bool) (st : St) (ops₀ : List Float) (cmds₀ : List ℕ) (ops : List Float) (cmds : List ℕ) (i key n : ℕ) (x y : Float) (k : ℕ) (G : Going code from start e st ops₀ cmds₀ ops cmds i key n x y k) where
+  abbrev here : St
+  here = placed n x y k st
+
+  abbrev state : Mem → State
+  state m = abs here (readMem ops cmds m)
+
+  abbrev limits : Mem → Limits
+  limits m = within (length (m .stems)) (length cmds₀)
+
   -- one token
   module _ (lim : Limits) (f : Operator → State → Outcome) (s : State) (b : ℕ) (l : List ℕ) (is : left code i key e ≡ b ∷ l) where
-    one : runBytes lim f (left code i key e) 0 (held n ops s) ≡ consume lim f (token b l) (held n ops s) (runBytes lim f l)
+    one : runBytes lim f (left code i key e) 0 s ≡ consume lim f (token b l) s (runBytes lim f l)
     unfolding runBytes
-    one = ap (λ (x : List ℕ). runBytes lim f x 0 (held n ops s)) is
+    one = ap (λ (z : List ℕ). runBytes lim f z 0 s) is
 
-  pub at-operator : (c v k : ℕ) (t : Tok) → i < length code → from < length code → c ≡ getD code i 0 → v ≡ byteOf c key e → k ≡ keyOf c key e → Operated code (i + 1) k e v n st t → Reads code from start e st ops₀ t ops
-  at-operator c v k t h h' p q r O = record {
-    same = λ w lim f s x. G .same w lim f s x ∙ one lim f s v (left code (i + 1) k e) (left-read code i key e c v k h p q r) ∙ go (eqb (t .flow) 0) refl lim f s;
-    state = O .state ∙ ap (λ (j : ℕ). withCount j st) (sym (ap (λ (u : St). u .operands) (O .state)));
-    few = subst (λ (j : ℕ). j ≤ 256) (sym (ap (λ (u : St). u .operands) (O .state))) (G .few);
-    on = (let a = O .on .0 in let d = G .on in omega arith);
-    whole = G .whole;
-    number = λ a d. subst (λ (j : ℕ). 3 ≤ j) (sym (O .cut a .0)) (lit≤ tt);
-  }
-    where
-      count : t .st .operands ≡ n
-      count = ap (λ (u : St). u .operands) (O .state)
+  module _ (c v k′ : ℕ) (h : i < length code) (p : c ≡ getD code i 0) (q : v ≡ byteOf c key e) (q′ : k′ ≡ keyOf c key e) where
+    abbrev after-it : List ℕ
+    after-it = left code (i + 1) k′ e
 
-      go : (z : Bool) → eqb (t .flow) 0 ≡ z → (lim : Limits) (f : Operator → State → Outcome) (s : State) → consume lim f (token v (left code (i + 1) k e)) (held n ops s) (runBytes lim f (left code (i + 1) k e)) ≡ goesOn t ops code e lim f s
-      go true z lim f s =
-          let (m, tk, dr) = O .operator (eqb-true (t .flow) 0 z) in
-          ap (λ (x : Token). consume lim f x (held n ops s) (runBytes lim f (left code (i + 1) k e))) tk
-          ∙ and-same (f (operatorOf (t .op)) (held n ops s)) (runBytes lim f (left code (i + 1) k e) m) (runBytes lim f (left code (t .next) (t .key) e) 0) (λ u. skip lim f (left code (i + 1) k e) m u ∙ ap (λ (x : List ℕ). runBytes lim f x 0 u) dr)
-          ∙ sym (simp (z, count))
-      go false z lim f s =
-          let w = O .cut (eqb-false (t .flow) 0 z) in
-          ap (λ (x : Token). consume lim f x (held n ops s) (runBytes lim f (left code (i + 1) k e))) (w .1) ∙ sym (simp (w .0))
+    -- the bytes from here on, by the next token
+    next : (m : Mem) (f : Operator → State → Outcome) → runBytes (limits m) f (left code i key e) 0 (state m) ≡ consume (limits m) f (token v after-it) (state m) (runBytes (limits m) f after-it)
+    next m f = one (limits m) f (state m) v after-it (left-read code i key e c v k′ h p q q′)
 
-  -- a cut number
-  pub at-cut : (c v k : ℕ) (r : Num) (t : Tok) → i < length code → c ≡ getD code i 0 → v ≡ byteOf c key e → k ≡ keyOf c key e → Numbered code (i + 1) k e v r → r .cut ≡ true → t ≡ tokOf st n (i + 1) k 5 0 → Reads code from start e st ops₀ t ops
-  at-cut c v k r t h p q s N z y = subst (λ (u : Tok). Reads code from start e st ops₀ u ops) (sym y) (record {
-    same = λ w lim f u x. G .same w lim f u x ∙ one lim f u v (left code (i + 1) k e) (left-read code i key e c v k h p q s) ∙ ap (λ (a : Token). consume lim f a (held n ops u) (runBytes lim f (left code (i + 1) k e))) (N .cut z);
-    state = refl;
-    few = G .few;
-    on = (let d = G .on in omega arith);
-    whole = G .whole;
-    number = λ a d. lit≤ tt;
-  })
+    pub at-operator : (u : St) (t : Tok) (d : List ℕ) → d ≡ cmds → u ≡ here → Operated code (i + 1) k′ e v u t → Reads code from start e st ops₀ cmds₀ t ops d
+    at-operator u t d ed eu O = subst (λ (z : List ℕ). Reads code from start e st ops₀ cmds₀ t ops z) (sym ed) (record {
+      fit = λ m F. subst (λ (z : St). Fit z (readMem ops cmds m)) (sym is-here) (G .fit m F);
+      same = λ m f F w. G .same m f F (subst (λ (z : St). DrawsAs (limits m) (length (abs z (readMem ops cmds m) .drawn)) f) is-here w) ∙ next m f ∙ go (eqb (t .flow) 0) refl m f;
+      on = (let a = O .on .0 in let b = G .on in omega arith);
+      whole = G .whole;
+      number = λ a b. subst (λ (j : ℕ). 3 ≤ j) (sym (O .cut a .0)) (lit≤ tt);
+    })
+      where
+        is-here : t .st ≡ here
+        is-here = O .state ∙ eu
 
-  taken : length ops₀ ≡ 256 → length (take n ops) ≡ n
-  taken w = length-take n ops ∙ (let a = G .whole in let d = G .few in let z : min n (length ops) ≡ n = omega arith in z)
+        go : (z : Bool) → eqb (t .flow) 0 ≡ z → (m : Mem) (f : Operator → State → Outcome) → consume (limits m) f (token v after-it) (state m) (runBytes (limits m) f after-it) ≡ goesOn t code e (limits m) f (abs (t .st) (readMem ops cmds m))
+        go true z m f =
+            let (j, tk, dr) = O .operator (eqb-true (t .flow) 0 z) in
+            ap (λ (a : Token). consume (limits m) f a (state m) (runBytes (limits m) f after-it)) tk
+            ∙ and-same (f (operatorOf (t .op)) (state m)) (runBytes (limits m) f after-it j) (runBytes (limits m) f (left code (t .next) (t .key) e) 0) (λ a. skip (limits m) f after-it j a ∙ ap (λ (b : List ℕ). runBytes (limits m) f b 0 a) dr)
+            ∙ sym (simp (z, is-here))
+        go false z m f =
+            let w = O .cut (eqb-false (t .flow) 0 z) in
+            ap (λ (a : Token). consume (limits m) f a (state m) (runBytes (limits m) f after-it)) (w .1) ∙ sym (simp (w .0))
 
-  -- a number is pushed, or finds the stack full
-  pushing : (lim : Limits) (f : Operator → State → Outcome) (s : State) (x : Float) (m : ℕ) (z : ℤ) (l : List ℕ) → ((k : ℕ) → lim .operands k ≡ leb k 256) → length ops₀ ≡ 256 → (b : Bool) → leb (n + 1) 256 ≡ b → x ≡ double z
-      → consume lim f (number m z) (held n ops s) (runBytes lim f l) ≡ andThen (check b 15 (going (withOperands (take n ops ++ (x ∷ [])) s))) (runBytes lim f l m)
-  unfolding push
-  pushing lim f s x m z l lims w b e y =
-      ap (λ (a : Bool). andThen (check a 15 (going (withOperands (take n ops ++ (double z ∷ [])) s))) (runBytes lim f l m)) (lims (length (take n ops) + 1) ∙ ap (λ (j : ℕ). leb (j + 1) 256) (taken w) ∙ e)
-      ∙ ap (λ (a : Float). andThen (check b 15 (going (withOperands (take n ops ++ (a ∷ [])) s))) (runBytes lim f l m)) (sym y)
+    -- a line or a curve was listed
+    module _ (r : Drawn) (d : List ℕ) (op : st .opened ≡ true) (ch : st .changed ≡ false) (low : v < 32) (D : Draws v n x y k ops cmds r d) (z : r .done ≡ true) where
+      abbrev to : Ran
+      to = ranOf (drawnTo r k st) 0
 
-  pub at-full : (c v k : ℕ) (r : Num) (t : Tok) → i < length code → c ≡ getD code i 0 → v ≡ byteOf c key e → k ≡ keyOf c key e → Numbered code (i + 1) k e v r → r .cut ≡ false → n ≡ 256 → t ≡ tokOf st n (i + 1) k 15 0 → Reads code from start e st ops₀ t ops
-  at-full c v k r t h p q s N z full y =
-      let (m, x, tk, is, dr) = N .number z in
-      subst (λ (u : Tok). Reads code from start e st ops₀ u ops) (sym y) (record {
-        same = λ w lim f u lims. G .same w lim f u lims ∙ one lim f u v (left code (i + 1) k e) (left-read code i key e c v k h p q s) ∙ ap (λ (a : Token). consume lim f a (held n ops u) (runBytes lim f (left code (i + 1) k e))) tk ∙ pushing lim f u (r .x) m x (left code (i + 1) k e) lims w false (lt-leb (n + 1) 256 (omega arith)) is;
-        state = refl;
-        few = G .few;
-        on = (let d = G .on in omega arith);
+      did : (m : Mem) → Fit st (readMem ops₀ cmds₀ m) → Meets to (readMem ops d m) (operate (limits m) (refused 6) (operatorOf v) (state m))
+      did m F = subst (λ (j : ℕ). Meets to (readMem ops d m) (operate (within (length (m .stems)) j) (refused 6) (operatorOf v) (state m))) (G .whole) (D .done z st m (state m) op ch (record { is = refl; fit = G .fit m F }))
+
+      fits : (m : Mem) → Fit st (readMem ops₀ cmds₀ m) → Fit (drawnTo r k st) (readMem ops d m)
+      fits m F = step-on to (readMem ops d m) (operate (limits m) (refused 6) (operatorOf v) (state m)) (λ s. going s) (did m F) refl .1
+
+      pub listed : Going code from start e st ops₀ cmds₀ ops d (i + 1) k′ 0 (r .x) (r .y) (k + 1)
+      listed = record {
+        fit = fits;
+        same = λ m f F w.
+            let less = drawn-less here (drawnTo r k st) (readMem ops cmds m) (readMem ops d m) (G .fit m F) (fits m F) refl refl in
+            G .same m f F (λ o s a b. w o s a (let y = less in omega arith)) ∙ next m f
+            ∙ ap (λ (a : Token). consume (limits m) f a (state m) (runBytes (limits m) f after-it)) (token-op v after-it low (D .drawn z .1) ∙ ap (operator 0) (sym (operator-low v (omega arith))))
+            ∙ ap (λ (a : Outcome). andThen a (runBytes (limits m) f after-it 0)) (w (operatorOf v) (state m) (D .drawn z .0) less)
+            ∙ step-on to (readMem ops d m) (operate (limits m) (refused 6) (operatorOf v) (state m)) (runBytes (limits m) f after-it 0) (did m F) refl .0;
+        few = lit≤ tt;
+        space = (let a = D .space z in let b = D .same in omega arith);
+        inside = omega arith;
+        on = (let a = G .on in omega arith);
+        whole = D .same ∙ G .whole;
+      }
+
+    module _ (r : Num) (N : Numbered code (i + 1) k′ e v r) where
+      -- a cut number
+      pub at-cut : (u : St) (t : Tok) → r .cut ≡ true → u ≡ here → t ≡ tokOf u (i + 1) k′ 5 0 → Reads code from start e st ops₀ cmds₀ t ops cmds
+      at-cut u t z eu et = subst (λ (a : Tok). Reads code from start e st ops₀ cmds₀ a ops cmds) (sym (et ∙ ap (λ (a : St). tokOf a (i + 1) k′ 5 0) eu)) (record {
+        fit = G .fit;
+        same = λ m f F w. G .same m f F w ∙ next m f ∙ ap (λ (a : Token). consume (limits m) f a (state m) (runBytes (limits m) f after-it)) (N .cut z);
+        on = (let b = G .on in omega arith);
         whole = G .whole;
-        number = λ a d. lit≤ tt;
+        number = λ a b. lit≤ tt;
       })
 
-  pub pushed : (c v k : ℕ) (r : Num) → i < length code → c ≡ getD code i 0 → v ≡ byteOf c key e → k ≡ keyOf c key e → Numbered code (i + 1) k e v r → r .cut ≡ false → (n ≡ 256 → ⊥) → Going code from start e (st .operands) ops₀ (set ops n (r .x)) (r .next) (r .key) (n + 1)
-  pushed c v k r h p q s N z full =
-      let (m, x, tk, is, dr) = N .number z in
-      let few = G .few in
-      record {
-        same = λ w lim f u lims.
-            G .same w lim f u lims ∙ one lim f u v (left code (i + 1) k e) (left-read code i key e c v k h p q s) ∙ ap (λ (a : Token). consume lim f a (held n ops u) (runBytes lim f (left code (i + 1) k e))) tk
-            ∙ pushing lim f u (r .x) m x (left code (i + 1) k e) lims w true (le-leb (n + 1) 256 (below few)) is
-            ∙ skip lim f (left code (i + 1) k e) m (withOperands (take n ops ++ (r .x ∷ [])) u)
-            ∙ ap₂ (λ (a : List ℕ) (d : List Float). runBytes lim f a 0 (withOperands d u)) dr (sym (ap (λ (j : ℕ). take j (set ops n (r .x))) (add-one n) ∙ take-suc-set ops n (r .x) (room w few)));
-        few = below few;
-        within = N .on .1;
-        on = (let a = N .on .0 in let d = G .on in omega arith);
-        whole = length-set ops n (r .x) ∙ G .whole;
-      }
-    where
-      below : n ≤ 256 → n + 1 ≤ 256
-      below g = let y = lt-of-le-ne g full in omega arith
+      taken : length ops ≡ 256 → length (take n ops) ≡ n
+      taken w = length-take n ops ∙ (let b = G .few in let z : min n (length ops) ≡ n = omega arith in z)
 
-      room : length ops₀ ≡ 256 → n ≤ 256 → n < length ops
-      room w g = let y = lt-of-le-ne g full in let a = G .whole in omega arith
+      -- a number is pushed, or finds the stack full
+      pushing : (m : Mem) (f : Operator → State → Outcome) (j : ℕ) (z : ℤ) → length ops ≡ 256 → (b : Bool) → leb (n + 1) 256 ≡ b → r .x ≡ double z
+          → consume (limits m) f (number j z) (state m) (runBytes (limits m) f after-it) ≡ andThen (check b 15 (going (withOperands (take n ops ++ (r .x ∷ [])) (state m)))) (runBytes (limits m) f after-it j)
+      unfolding push abs
+      pushing m f j z w b is eq =
+          ap (λ (a : Bool). andThen (check a 15 (going (withOperands (take n ops ++ (double z ∷ [])) (state m)))) (runBytes (limits m) f after-it j)) (ap (λ (a : ℕ). leb (a + 1) 256) (taken w) ∙ is)
+          ∙ ap (λ (a : Float). andThen (check b 15 (going (withOperands (take n ops ++ (a ∷ [])) (state m)))) (runBytes (limits m) f after-it j)) (sym eq)
+
+      pub at-full : (u : St) (t : Tok) → r .cut ≡ false → n ≡ 256 → u ≡ here → t ≡ tokOf u (i + 1) k′ 15 0 → Reads code from start e st ops₀ cmds₀ t ops cmds
+      at-full u t z full eu et =
+          let (j, w, tk, is, dr) = N .number z in
+          subst (λ (a : Tok). Reads code from start e st ops₀ cmds₀ a ops cmds) (sym (et ∙ ap (λ (a : St). tokOf a (i + 1) k′ 15 0) eu)) (record {
+            fit = G .fit;
+            same = λ m f F W. G .same m f F W ∙ next m f ∙ ap (λ (a : Token). consume (limits m) f a (state m) (runBytes (limits m) f after-it)) tk ∙ pushing m f j w (G .fit m F .ops) false (lt-leb (n + 1) 256 (omega arith)) is;
+            on = (let b = G .on in omega arith);
+            whole = G .whole;
+            number = λ a b. lit≤ tt;
+          })
+
+      -- the state with one operand more
+      more-state : (m : Mem) → n < length ops → withOperands (take n ops ++ (r .x ∷ [])) (state m) ≡ abs (placed (n + 1) x y k st) (readMem (set ops n (r .x)) cmds m)
+      unfolding abs
+      more-state m less = ap (λ (d : List Float). withOperands d (state m)) (sym (ap (λ (j : ℕ). take j (set ops n (r .x))) (add-one n) ∙ take-suc-set ops n (r .x) less))
+
+      more-fit : (m : Mem) → n + 1 ≤ 256 → Fit here (readMem ops cmds m) → Fit (placed (n + 1) x y k st) (readMem (set ops n (r .x)) cmds m)
+      more-fit m few F = record {
+        bounds = record { operands = few; postscript = F .bounds .postscript; points = F .bounds .points; hints = F .bounds .hints; last = F .bounds .last; groups = F .bounds .groups; entries = F .bounds .entries; ran = F .bounds .ran };
+        ops = length-set ops n (r .x) ∙ F .ops;
+        ps = F .ps;
+        cells = F .cells;
+        edges = F .edges;
+        across = F .across;
+        stems = F .stems;
+        groups = F .groups;
+        entries = F .entries;
+        used = F .used;
+        below = F .below;
+        last = F .last;
+      }
+
+      pub pushed : r .cut ≡ false → (n ≡ 256 → ⊥) → Going code from start e st ops₀ cmds₀ (set ops n (r .x)) cmds (r .next) (r .key) (n + 1) x y k
+      unfolding abs
+      pushed z full =
+          let (j, w, tk, is, dr) = N .number z in
+          record {
+            fit = λ m F. more-fit m below (G .fit m F);
+            same = λ m f F W.
+                G .same m f F W ∙ next m f ∙ ap (λ (a : Token). consume (limits m) f a (state m) (runBytes (limits m) f after-it)) tk
+                ∙ pushing m f j w (G .fit m F .ops) true (le-leb (n + 1) 256 below) is
+                ∙ skip (limits m) f after-it j (withOperands (take n ops ++ (r .x ∷ [])) (state m))
+                ∙ ap₂ (λ (a : List ℕ) (d : State). runBytes (limits m) f a 0 d) dr (more-state m (let a = G .fit m F .ops in let b = below in omega arith));
+            few = below;
+            space = G .space;
+            inside = N .on .1;
+            on = (let a = N .on .0 in let b = G .on in omega arith);
+            whole = G .whole;
+          }
+        where
+          below : n + 1 ≤ 256
+          below = let g = G .few in let y = lt-of-le-ne g full in omega arith
 
   -- the end of the bytes
-  pub at-end : (t : Tok) → length code ≤ i → from < length code → t ≡ tokOf st n i key 1 0 → Reads code from start e st ops₀ t ops
+  pub at-end : (u : St) (t : Tok) → length code ≤ i → from < length code → u ≡ here → t ≡ tokOf u i key 1 0 → Reads code from start e st ops₀ cmds₀ t ops cmds
   unfolding runBytes
-  at-end t h h' y = subst (λ (u : Tok). Reads code from start e st ops₀ u ops) (sym y) (record {
-    same = λ w lim f u x. G .same w lim f u x ∙ ended lim f u;
-    state = refl;
-    few = G .few;
+  at-end u t h h' eu et = subst (λ (a : Tok). Reads code from start e st ops₀ cmds₀ a ops cmds) (sym (et ∙ ap (λ (a : St). tokOf a i key 1 0) eu)) (record {
+    fit = G .fit;
+    same = λ m f F w. G .same m f F w ∙ ap (λ (a : List ℕ). runBytes (limits m) f a 0 (state m)) (left-none code i key e h);
     on = omega arith;
     whole = G .whole;
-    number = λ a d. absurd (d refl);
+    number = λ a b. absurd (b refl);
   })
-    where
-      ended : (lim : Limits) (f : Operator → State → Outcome) (u : State) → runBytes lim f (left code i key e) 0 (held n ops u) ≡ going (held n ops u)
-      ended lim f u = ap (λ (a : List ℕ). runBytes lim f a 0 (held n ops u)) (left-none code i key e h)
 
-pub begins : (code : List ℕ) (from start : ℕ) (e : Bool) (n : ℕ) (ops : List Float) → from < length code → n ≤ 256 → Going code from start e n ops ops from start n
-begins code from start e n ops h k = record { same = λ w lim f s x. refl; few = k; within = omega arith; on = omega arith; whole = refl }
+pub begins : (code : List ℕ) (from start : ℕ) (e : Bool) (st : St) (ops : List Float) (cmds : List ℕ) → from < length code → st .operands ≤ 256 → 14 * st .entries ≤ length cmds → Going code from start e st ops cmds ops cmds from start (st .operands) (st .x) (st .y) (st .entries)
+begins code from start e st ops cmds h n k = record { fit = λ m F. F; same = λ m f F w. refl; few = n; space = k; inside = omega arith; on = omega arith; whole = refl }

@@ -3,11 +3,11 @@ use mathlib.Core.Path.{_≡_, refl, sym, _∙_, ap, subst}
 use Prim.Native.Nat.{ℕ, zero, suc, _+_, _-_, _*_, _<_, _≤_}
 use native.Mathlib.Omega.{arith}
 use native.Mathlib.Nat.{suc-sub-suc, sub-zero}
-use mathlib.Core.Bool.{Bool, true, false, not}
+use mathlib.Core.Bool.{Bool, true, false, not, _&&_}
 use mathlib.Core.List.{List, [], _∷_, _++_}
 use lib.ListN.{length, take, getD}
 use lib.Seq.{paste, length-take-le}
-use lib.Dec.{T, eqb, ltb, eqb→eq, eqb-refl, lit≤, lit<, nltb→le, ltb→lt}
+use lib.Dec.{T, eqb, ltb, eqb→eq, eqb-refl, lit≤, lit<, nltb→le, ltb→lt, lt→ltb}
 use lib.Ieee.{Float, nan}
 use lib.Ieee.Scale.{finite}
 use Rattle.charstring.specs.declared.Cursor.{Cursor}
@@ -25,9 +25,9 @@ use Rattle.type1.specs.Operator as op
 use Rattle.type1.specs.Operator.{Operator, look, oneByte, twoBytes, ofByte, ofEscape}
 use Rattle.type1.specs.State.{State}
 use Rattle.type1.specs.Run.{pick, Limits, within, Outcome, going, returning, ending, refused, andThen, returned, Font, operate, callSubr, execute, runBytes, runBody}
-use Rattle.type1.specs.Memory.{Mem, pointsAt, stemsAt, flexIn, abs, Fit, Holds, Good, Meets, operatorOf, withOps, kept}
+use Rattle.type1.specs.Memory.{Mem, pointsAt, stemsAt, flexIn, abs, Fit, Holds, Good, Meets, operatorOf, kept}
 use Rattle.type1.specs.Small.{ranOf, Finite}
-use Rattle.type1.specs.Reading.{cursorOf, withCount, held, goesOn, Reads, Calls}
+use Rattle.type1.specs.Reading.{cursorOf, isDrawn, DrawsAs, readMem, goesOn, Reads, Calls}
 use Rattle.type1.specs.Sound.{All, OfFlex, GoodPoint, Sound, SoundOut}
 use Rattle.type1.specs.Cycle.{Ready, limitsOf, fontOf, opD, runD}
 use Rattle.type1.specs.Outcomes.{all-getD}
@@ -56,6 +56,18 @@ not-picked false x y _ = refl
 not-t : (t : Bool) → (T t → ⊥) → T (not t)
 not-t true f = absurd (f tt)
 not-t false _ = tt
+
+both-t : (p q : Bool) → T p → T q → T (p && q)
+both-t true true _ _ = tt
+both-t true false _ h = h
+both-t false q h _ = h
+
+not-both : (p q : Bool) → T (not q) → T (not (p && q))
+not-both true q h = h
+not-both false q _ = tt
+
+not-less : (n : ℕ) → T (not (ltb n n))
+not-less n = not-t (ltb n n) (λ h. let l = ltb→lt n n h in let z : ⊥ = omega arith in z)
 
 -- ---- what callees ask
 getD-take : {A : Type 0} (n : ℕ) (l : List A) (i : ℕ) (d : A) → i < n → getD (take n l) i d ≡ getD l i d
@@ -172,6 +184,39 @@ other-call lim c d op.callothersubr s h = refl
 other-call lim c d op.pop s h = refl
 other-call lim c d op.setcurrentpoint s h = refl
 other-call lim c d op.unknown s h = refl
+
+no-call : (o : Operator) → T (isDrawn o) → one-of o ≡ false
+no-call op.hstem h = refl
+no-call op.vstem h = refl
+no-call op.vmoveto h = refl
+no-call op.rlineto h = refl
+no-call op.hlineto h = refl
+no-call op.vlineto h = refl
+no-call op.rrcurveto h = refl
+no-call op.closepath h = refl
+no-call op.callsubr h = absurd h
+no-call op.return h = refl
+no-call op.hsbw h = refl
+no-call op.endchar h = refl
+no-call op.rmoveto h = refl
+no-call op.hmoveto h = refl
+no-call op.vhcurveto h = refl
+no-call op.hvcurveto h = refl
+no-call op.dotsection h = refl
+no-call op.vstem3 h = refl
+no-call op.hstem3 h = refl
+no-call op.seac h = refl
+no-call op.sbw h = refl
+no-call op.div h = refl
+no-call op.callothersubr h = refl
+no-call op.pop h = refl
+no-call op.setcurrentpoint h = refl
+no-call op.unknown h = refl
+
+-- lines and curves are done alike, whatever a call does
+step-draws : (lim : Limits) (f : Font) (deep : List ℕ → State → Outcome) (o : Operator) (s : State) → T (isDrawn o) → execute lim f deep o s ≡ operate lim (refused 6) o s
+unfolding execute
+step-draws lim f deep o s h = other-call lim (callSubr f deep s) (refused 6) o s (no-call o h)
 
 -- a table has callsubr nowhere, or not at b
 abbrev Without : List (ℕ × Operator) → ℕ → Type 0
@@ -331,72 +376,75 @@ module _ (bank : List ℕ) (lenIV levels : ℕ) where
       ended over r e =
           subst (λ (q : Ran). Meets q m fin) (sym e) (subst (Meets (ranOf h 0) m) (sym (fin-is ∙ ap returned (sym (on .left) ∙ ap (λ (l : List ℕ). runBytes lim (stepOf lim) l 0 (abs h m)) (rest-none (cursorOf i key enc) code (nltb→le i (length code) (subst (λ (b : Bool). T (not b)) (sym over) tt)))))) (refl, record { is = refl; fit = on .ready .fit }))
 
-      module _ (t : Tok) (os : List Float) (reads : Reads code i key enc h (m .ops) t os) where
+      module _ (ls : length (m .stems) ≡ length (m₀ .stems)) (lc : length (m .cmds) ≡ length (m₀ .cmds)) (t : Tok) (os : List Float) (cs : List ℕ) (reads : Reads code i key enc h (m .ops) (m .cmds) t os cs) where
         abbrev m₁ : Mem
-        m₁ = withOps os m
+        m₁ = readMem os cs m
 
-        abbrev n : ℕ
-        n = t .st .operands
+        abbrev at : State
+        at = abs (t .st) m₁
 
-        held-is : abs (t .st) m₁ ≡ held n os (abs h m)
-        unfolding abs
-        held-is = ap (λ (u : St). abs u m₁) (reads .state)
-
-        read-is : (f : Operator → State → Outcome) → runBytes lim f (rest (cursorOf i key enc) code) 0 (abs h m) ≡ goesOn t os code enc lim f (abs h m)
-        unfolding abs
-        read-is f = reads .same (on .ready .fit .ops) lim f (abs h m) (λ k. refl)
-
-        fit-count : Fit (withCount n h) m₁
-        fit-count = let f : Fit h m = on .ready .fit in record {
-          bounds = record { operands = reads .few; postscript = f .bounds .postscript; points = f .bounds .points; hints = f .bounds .hints; last = f .bounds .last; groups = f .bounds .groups; entries = f .bounds .entries; ran = f .bounds .ran };
-          ops = reads .whole ∙ f .ops;
-          ps = f .ps;
-          cells = f .cells;
-          edges = f .edges;
-          across = f .across;
-          stems = f .stems;
-          groups = f .groups;
-          entries = f .entries;
-          used = f .used;
-          below = f .below;
-          last = f .last;
-        }
+        limits-are : limitsOf m ≡ lim
+        limits-are = λ j. within (ls j) (lc j)
 
         fit-token : Fit (t .st) m₁
-        fit-token = subst (λ (u : St). Fit u m₁) (sym (reads .state)) fit-count
+        fit-token = reads .fit m (on .ready .fit)
 
-        going-on : T (not (not (eqb (t .flow) 0))) → (f : Operator → State → Outcome) → goesOn t os code enc lim f (abs h m) ≡ andThen (f (operatorOf (t .op)) (abs (t .st) m₁)) (runBytes lim f (rest (cursorOf (t .next) (t .key) enc) code) 0)
+        read-is : (f : Operator → State → Outcome) → DrawsAs lim (length (at .drawn)) f → runBytes lim f (rest (cursorOf i key enc) code) 0 (abs h m) ≡ goesOn t code enc lim f at
+        read-is f = subst (λ (l : Limits). DrawsAs l (length (at .drawn)) f → runBytes l f (rest (cursorOf i key enc) code) 0 (abs h m) ≡ goesOn t code enc l f at) limits-are (reads .same m f (on .ready .fit))
+
+        going-on : T (not (not (eqb (t .flow) 0))) → (f : Operator → State → Outcome) → goesOn t code enc lim f at ≡ andThen (f (operatorOf (t .op)) at) (runBytes lim f (rest (cursorOf (t .next) (t .key) enc) code) 0)
         going-on z f =
-            picked (eqb (t .flow) 0) (andThen (f (operatorOf (t .op)) (held n os (abs h m))) (runBytes lim f (rest (cursorOf (t .next) (t .key) enc) code) 0)) (pick (eqb (t .flow) 1) (going (held n os (abs h m))) (refused (t .flow))) (twice-not (eqb (t .flow) 0) z)
-            ∙ ap (λ (s : State). andThen (f (operatorOf (t .op)) s) (runBytes lim f (rest (cursorOf (t .next) (t .key) enc) code) 0)) (sym held-is)
+            picked (eqb (t .flow) 0) (andThen (f (operatorOf (t .op)) at) (runBytes lim f (rest (cursorOf (t .next) (t .key) enc) code) 0)) (pick (eqb (t .flow) 1) (going at) (refused (t .flow))) (twice-not (eqb (t .flow) 0) z)
+
+        step-is : runBytes lim (stepOf lim) (rest (cursorOf i key enc) code) 0 (abs h m) ≡ goesOn t code enc lim (stepOf lim) at
+        step-is = read-is (stepOf lim) (λ o s d l. step-draws lim font (deepOf lim) o s d)
+
+        -- what was drawn on the way, and then the end
+        abbrev drawnOnly : Operator → State → Outcome
+        drawnOnly o s = pick (isDrawn o && ltb (length (s .drawn)) (length (at .drawn))) (execute lim font (λ l u. ending u) o s) (ending s)
+
+        only-draws : DrawsAs lim (length (at .drawn)) drawnOnly
+        only-draws o s d l =
+            picked (isDrawn o && ltb (length (s .drawn)) (length (at .drawn))) (execute lim font (λ l u. ending u) o s) (ending s) (both-t (isDrawn o) (ltb (length (s .drawn)) (length (at .drawn))) d (lt→ltb (length (s .drawn)) (length (at .drawn)) l))
+            ∙ step-draws lim font (λ l u. ending u) o s d
+
+        only-sound : Bytes bank → (o : Operator) (s : State) → Sound s → SoundOut (drawnOnly o s)
+        only-sound b o s q = go (isDrawn o && ltb (length (s .drawn)) (length (at .drawn)))
+          where
+            go : (y : Bool) → SoundOut (pick y (execute lim font (λ l u. ending u) o s) (ending s))
+            go true = execute-sound lim font (λ l u. ending u) b (λ l u k r. r) o s q
+            go false = q
+
+        only-ends : (o : Operator) → drawnOnly o at ≡ ending at
+        only-ends o = not-picked (isDrawn o && ltb (length (at .drawn)) (length (at .drawn))) (execute lim font (λ l u. ending u) o at) (ending at) (not-both (isDrawn o) (ltb (length (at .drawn)) (length (at .drawn))) (not-less (length (at .drawn))))
 
         -- the state at an operator
-        pub ready-token : Bytes code → key < 65536 → T (not (not (eqb (t .flow) 0))) → Ready (t .st) m₁
-        ready-token b k z = record {
+        pub ready-token : Bytes bank → Bytes code → key < 65536 → T (not (not (eqb (t .flow) 0))) → Ready (t .st) m₁
+        ready-token bb b k z = record {
           fit = fit-token;
-          sound = subst SoundOut (read-is (λ o s. ending s) ∙ going-on z (λ o s. ending s)) (runBytes-sound lim (λ o s. ending s) (λ o s q. q) (rest (cursorOf i key enc) code) 0 (abs h m) (rest-bytes (cursorOf i key enc) code k b) (on .ready .sound));
+          sound = subst SoundOut (read-is drawnOnly only-draws ∙ going-on z drawnOnly ∙ ap (λ (o : Outcome). andThen o (runBytes lim drawnOnly (rest (cursorOf (t .next) (t .key) enc) code) 0)) (only-ends (operatorOf (t .op)))) (runBytes-sound lim drawnOnly (only-sound bb) (rest (cursorOf i key enc) code) 0 (abs h m) (rest-bytes (cursorOf i key enc) code k b) (on .ready .sound));
         }
 
         -- the bytes end, or what stands there is refused
         pub token-stopped : T (not (eqb (t .flow) 0)) → (r : Ran) → r ≡ ranOf (t .st) (pick (eqb (t .flow) 1) 0 (t .flow)) → Meets r m₁ fin
         token-stopped z r e =
             subst (λ (q : Ran). Meets q m₁ fin) (sym e)
-            (subst (Meets (ranOf (t .st) (pick (eqb (t .flow) 1) 0 (t .flow))) m₁) (sym (fin-is ∙ ap returned (sym (on .left) ∙ read-is (stepOf lim) ∙ not-picked (eqb (t .flow) 0) (andThen (stepOf lim (operatorOf (t .op)) (held n os (abs h m))) (runBytes lim (stepOf lim) (rest (cursorOf (t .next) (t .key) enc) code) 0)) (pick (eqb (t .flow) 1) (going (held n os (abs h m))) (refused (t .flow))) z)))
-            (halted (t .flow) (t .st) m₁ (held n os (abs h m)) (eqb (t .flow) 1) refl (record { is = held-is; fit = fit-token }) (reads .number (not-eq (t .flow) 0 z))))
+            (subst (Meets (ranOf (t .st) (pick (eqb (t .flow) 1) 0 (t .flow))) m₁) (sym (fin-is ∙ ap returned (sym (on .left) ∙ step-is ∙ not-picked (eqb (t .flow) 0) (andThen (stepOf lim (operatorOf (t .op)) at) (runBytes lim (stepOf lim) (rest (cursorOf (t .next) (t .key) enc) code) 0)) (pick (eqb (t .flow) 1) (going at) (refused (t .flow))) z)))
+            (halted (t .flow) (t .st) m₁ at (eqb (t .flow) 1) refl (record { is = refl; fit = fit-token }) (reads .number (not-eq (t .flow) 0 z))))
 
-        module _ (ls : length (m .stems) ≡ length (m₀ .stems)) (lc : length (m .cmds) ≡ length (m₀ .cmds)) (z : T (not (not (eqb (t .flow) 0)))) where
+        module _ (z : T (not (not (eqb (t .flow) 0)))) where
           abbrev did : Outcome
           did = opD bank lenIV levels (t .op) (t .st) m₁
 
           abbrev then : State → Outcome
           then = runBytes lim (stepOf lim) (rest (cursorOf (t .next) (t .key) enc) code) 0
 
-          did-is : did ≡ stepOf lim (operatorOf (t .op)) (abs (t .st) m₁)
+          did-is : did ≡ stepOf lim (operatorOf (t .op)) at
           unfolding opD
-          did-is = λ j. stepOf (within (ls j) (lc j)) (operatorOf (t .op)) (abs (t .st) m₁)
+          did-is = λ j. stepOf (within (ls j) ((reads .whole ∙ lc) j)) (operatorOf (t .op)) at
 
           whole-is : whole ≡ andThen did then
-          whole-is = sym (on .left) ∙ read-is (stepOf lim) ∙ going-on z (stepOf lim) ∙ ap (λ (o : Outcome). andThen o then) (sym did-is)
+          whole-is = sym (on .left) ∙ step-is ∙ going-on z (stepOf lim) ∙ ap (λ (o : Outcome). andThen o then) (sym did-is)
 
           -- an operator after which the bytes do not go on
           pub op-stopped : (r q : Ran) (m₂ : Mem) → Meets r m₂ did → T (not (eqb (r .flow) 0)) → q ≡ ranOf (r .st) (pick (eqb (r .flow) 1) 0 (r .flow)) → Meets q m₂ fin

@@ -4,6 +4,7 @@ pub mod Callees
 pub mod Calls
 pub mod CycleLaws
 pub mod Dispatch
+pub mod Drawing
 pub mod EntryCallees
 pub mod EntryLaws
 pub mod Flex

@@ -1,26 +1,28 @@
 -- Definitions: what the functions that read bytes and call bodies say of the run.
-use Prim.Native.Nat.{ℕ, _≤_, _<_}
+use Prim.Native.Nat.{ℕ, _+_, _-_, _*_, _≤_, _<_}
 use mathlib.Core.Path.{_≡_}
 use mathlib.Core.Bool.{Bool, true, false, cond}
 use mathlib.Core.List.{List}
-use mathlib.Core.Option.{some}
-use lib.Dec.{eqb, leb}
-use lib.ListN.{length, take, drop}
+use lib.Dec.{T, eqb}
+use lib.ListN.{length, drop}
 use lib.IntN.{ℤ}
 use lib.Ieee.{Float}
 use Rattle.charstring.specs.declared.Cursor.{Cursor}
 use Rattle.charstring.specs.Cipher.{step, plainByte}
 use Rattle.charstring.specs.Cursor.{rest}
-use Rattle.bank.specs.Bank.{body, bytesAt, found}
+use Rattle.bank.specs.Bank.{bytesAt, found}
 use Rattle.type1.specs.declared.St.{St}
 use Rattle.type1.specs.declared.Tok.{Tok}
 use Rattle.type1.specs.declared.Num.{Num}
+use Rattle.type1.specs.declared.Drawn.{Drawn}
 use Rattle.type1.specs.declared.Called.{Called}
+use Rattle.type1.specs.Operator as op
 use Rattle.type1.specs.Operator.{Operator}
 use Rattle.type1.specs.Number.{cut, number, operator, token, double}
-use Rattle.type1.specs.State.{State, withOperands}
-use Rattle.type1.specs.Run.{pick, Limits, Outcome, going, refused, andThen, returned, Font, callSubr, runBytes}
-use Rattle.type1.specs.Memory.{Mem, Holds, withOps, operatorOf}
+use Rattle.type1.specs.State.{Command, State}
+use Rattle.type1.specs.Run.{pick, Limits, within, Outcome, going, refused, andThen, returned, enter, operate, callSubr, runBytes}
+use Rattle.type1.specs.Memory.{Mem, abs, Fit, Holds, Meets, withOps, withCmds, withPath, after, operatorOf}
+use Rattle.type1.specs.Small.{ranOf}
 
 abbrev pub cursorOf : ℕ → ℕ → Bool → Cursor
 cursorOf at key encrypted = record { at = at; key = key; encrypted = encrypted }
@@ -36,12 +38,12 @@ keyOf c key encrypted = cond encrypted (step c key) key
 abbrev pub withCount : ℕ → St → St
 withCount n t = record { operands = n; postscript = t .postscript; x = t .x; y = t .y; opened = t .opened; flexing = t .flexing; points = t .points; hints = t .hints; changed = t .changed; last = t .last; groups = t .groups; stems = t .stems; entries = t .entries; divided = t .divided; ran = t .ran }
 
-abbrev pub tokOf : St → ℕ → ℕ → ℕ → ℕ → ℕ → Tok
-tokOf t n next key flow op = record { st = withCount n t; next = next; key = key; flow = flow; op = op }
+-- the state with another number of operands, another point and another number of entries
+abbrev pub placed : ℕ → Float → Float → ℕ → St → St
+placed n x y k t = record { operands = n; postscript = t .postscript; x = x; y = y; opened = t .opened; flexing = t .flexing; points = t .points; hints = t .hints; changed = t .changed; last = t .last; groups = t .groups; stems = t .stems; entries = k; divided = t .divided; ran = t .ran }
 
--- the run's state with the first n of these operands
-abbrev pub held : ℕ → List Float → State → State
-held n ops s = withOperands (take n ops) s
+abbrev pub tokOf : St → ℕ → ℕ → ℕ → ℕ → Tok
+tokOf t next key flow op = record { st = t; next = next; key = key; flow = flow; op = op }
 
 -- the bytes from a place on
 abbrev pub left : List ℕ → ℕ → ℕ → Bool → List ℕ
@@ -54,27 +56,95 @@ pub record Numbered (code : List ℕ) (i key : ℕ) (encrypted : Bool) (v : ℕ)
   pub on : (i ≤ r .next) × (r .next ≤ length code)
 
 -- the operator that starts with the byte v, likewise
-pub record Operated (code : List ℕ) (i key : ℕ) (encrypted : Bool) (v n : ℕ) (st : St) (t : Tok) : Type 0 where
+pub record Operated (code : List ℕ) (i key : ℕ) (encrypted : Bool) (v : ℕ) (st : St) (t : Tok) : Type 0 where
   pub operator : t .flow ≡ 0 → (m : ℕ) × (token v (left code i key encrypted) ≡ operator m (operatorOf (t .op))) × (drop m (left code i key encrypted) ≡ left code (t .next) (t .key) encrypted)
   pub cut : (t .flow ≡ 0 → ⊥) → (t .flow ≡ 5) × (token v (left code i key encrypted) ≡ cut)
-  pub state : t .st ≡ withCount n st
+  pub state : t .st ≡ st
   pub on : (i ≤ t .next) × (t .next ≤ length code)
 
+-- ---- lines and curves that are listed as they are read: 5, 6, 7, 8, 30, 31
+abbrev pub isDrawn : Operator → Bool
+isDrawn op.hstem = false
+isDrawn op.vstem = false
+isDrawn op.vmoveto = false
+isDrawn op.rlineto = true
+isDrawn op.hlineto = true
+isDrawn op.vlineto = true
+isDrawn op.rrcurveto = true
+isDrawn op.closepath = false
+isDrawn op.callsubr = false
+isDrawn op.return = false
+isDrawn op.hsbw = false
+isDrawn op.endchar = false
+isDrawn op.rmoveto = false
+isDrawn op.hmoveto = false
+isDrawn op.vhcurveto = true
+isDrawn op.hvcurveto = true
+isDrawn op.dotsection = false
+isDrawn op.vstem3 = false
+isDrawn op.hstem3 = false
+isDrawn op.seac = false
+isDrawn op.sbw = false
+isDrawn op.div = false
+isDrawn op.callothersubr = false
+isDrawn op.pop = false
+isDrawn op.setcurrentpoint = false
+isDrawn op.unknown = false
+
+-- a line or a curve is then one entry
+abbrev pub isQuick : St → Bool
+isQuick t = pick (t .changed) false (t .opened)
+
+-- entry k was listed, or has no room
+pub record Stores (x : Command) (k : ℕ) (c : List ℕ) (r : Bool) (d : List ℕ) : Type 0 where
+  pub done : r ≡ true → (t : St) (m : Mem) (s : State) (room : ℕ) → t .entries ≡ k → Holds t (withCmds c m) s → Meets (ranOf (placed (t .operands) (t .x) (t .y) (k + 1) t) 0) (withCmds d m) (enter (within room (length c)) x s)
+  pub space : r ≡ true → 14 * (k + 1) ≤ length c
+  pub full : r ≡ false → (d ≡ c) × (length c - 14 * k < 14)
+  pub same : length d ≡ length c
+
+-- the state after a line or a curve from t
+abbrev pub drawnTo : Drawn → ℕ → St → St
+drawnTo r k t = placed 0 (r .x) (r .y) (k + 1) t
+
+-- D was done at (x, y) with k entries listed, or nothing was
+pub record Adds (D : Limits → State → Outcome) (x y : Float) (k : ℕ) (c : List ℕ) (r : Drawn) (d : List ℕ) : Type 0 where
+  pub done : r .done ≡ true → (t : St) (e : List Float) (a : List Bool) (room : ℕ) → t .opened ≡ true → t .changed ≡ false
+      → (m : Mem) (s : State) → length (m .stems) ≡ room → Holds (placed 0 x y k t) (withPath e a c m) s → Meets (ranOf (drawnTo r k t) 0) (after (placed 0 x y k t) (ranOf (drawnTo r k t) 0) e a d m) (D (within room (length c)) s)
+  pub space : r .done ≡ true → 14 * (k + 1) ≤ length c
+  pub none : r .done ≡ false → d ≡ c
+  pub same : length d ≡ length c
+
+-- the operator of the byte v was done, with n operands, or nothing was
+pub record Draws (v n : ℕ) (x y : Float) (k : ℕ) (ops : List Float) (c : List ℕ) (r : Drawn) (d : List ℕ) : Type 0 where
+  pub done : r .done ≡ true → (t : St) (m : Mem) (s : State) → t .opened ≡ true → t .changed ≡ false
+      → Holds (placed n x y k t) (withOps ops (withCmds c m)) s → Meets (ranOf (drawnTo r k t) 0) (withOps ops (withCmds d m)) (operate (within (length (m .stems)) (length c)) (refused 6) (operatorOf v) s)
+  pub drawn : r .done ≡ true → T (isDrawn (operatorOf v)) × (v ≡ 12 → ⊥)
+  pub space : r .done ≡ true → 14 * (k + 1) ≤ length c
+  pub none : r .done ≡ false → d ≡ c
+  pub same : length d ≡ length c
+
+-- f does these operators as the run does, while fewer than k commands are listed
+abbrev pub DrawsAs : Limits → ℕ → (Operator → State → Outcome) → Type 0
+DrawsAs lim k f = (o : Operator) (s : State) → T (isDrawn o) → length (s .drawn) < k → f o s ≡ operate lim (refused 6) o s
+
 -- what the bytes do from a token on: an operator, then the bytes after it; the end; a refusal
-abbrev pub goesOn : Tok → List Float → List ℕ → Bool → Limits → (Operator → State → Outcome) → State → Outcome
-goesOn t ops code encrypted lim f s =
+abbrev pub goesOn : Tok → List ℕ → Bool → Limits → (Operator → State → Outcome) → State → Outcome
+goesOn t code encrypted lim f s =
     pick (eqb (t .flow) 0)
-    (andThen (f (operatorOf (t .op)) (held (t .st .operands) ops s)) (runBytes lim f (rest (cursorOf (t .next) (t .key) encrypted) code) 0))
-    (pick (eqb (t .flow) 1) (going (held (t .st .operands) ops s)) (refused (t .flow)))
+    (andThen (f (operatorOf (t .op)) s) (runBytes lim f (rest (cursorOf (t .next) (t .key) encrypted) code) 0))
+    (pick (eqb (t .flow) 1) (going s) (refused (t .flow)))
+
+-- the arrays that reading changes
+abbrev pub readMem : List Float → List ℕ → Mem → Mem
+readMem o c m = withOps o (withCmds c m)
 
 -- the bytes from a place on were read up to the token t
-pub record Reads (code : List ℕ) (from key : ℕ) (encrypted : Bool) (st : St) (ops : List Float) (t : Tok) (exit : List Float) : Type 0 where
-  pub same : length ops ≡ 256 → (lim : Limits) (f : Operator → State → Outcome) (s : State) → ((n : ℕ) → lim .operands n ≡ leb n 256)
-      → runBytes lim f (rest (cursorOf from key encrypted) code) 0 (held (st .operands) ops s) ≡ goesOn t exit code encrypted lim f s
-  pub state : t .st ≡ withCount (t .st .operands) st
-  pub few : t .st .operands ≤ 256
+pub record Reads (code : List ℕ) (from key : ℕ) (encrypted : Bool) (st : St) (ops : List Float) (cmds : List ℕ) (t : Tok) (exit : List Float) (cexit : List ℕ) : Type 0 where
+  pub fit : (m : Mem) → Fit st (readMem ops cmds m) → Fit (t .st) (readMem exit cexit m)
+  pub same : (m : Mem) (f : Operator → State → Outcome) → Fit st (readMem ops cmds m) → DrawsAs (within (length (m .stems)) (length cmds)) (length (abs (t .st) (readMem exit cexit m) .drawn)) f
+      → runBytes (within (length (m .stems)) (length cmds)) f (rest (cursorOf from key encrypted) code) 0 (abs st (readMem ops cmds m)) ≡ goesOn t code encrypted (within (length (m .stems)) (length cmds)) f (abs (t .st) (readMem exit cexit m))
   pub on : from < t .next
-  pub whole : length exit ≡ length ops
+  pub whole : length cexit ≡ length cmds
   pub number : (t .flow ≡ 0 → ⊥) → (t .flow ≡ 1 → ⊥) → 3 ≤ t .flow
 
 -- a call is about to be made, or is refused

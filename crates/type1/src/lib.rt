@@ -20,7 +20,7 @@ ghost use Rattle.type1.specs.Operator as Op;
 ghost use Rattle.type1.specs.Run as Run;
 ghost use Rattle.type1.specs.Run.{pick, within, stemOf, pointAt, isFinite, operate};
 ghost use Rattle.type1.specs.Memory.{Mem, stemAt, stemsAt, Bounds, Good, Holds, Meets, operatorOf, withOps, withPs, withCells, withCmds, withHints, withPath, after, Plain, Path, pointCommand};
-ghost use Rattle.type1.specs.Reading.{cursorOf, byteOf, keyOf, withCount, tokOf, Numbered, Operated, Reads, Calls};
+ghost use Rattle.type1.specs.Reading.{cursorOf, byteOf, keyOf, withCount, placed, tokOf, Numbered, Operated, Stores, Adds, Draws, isQuick, Reads, Calls};
 ghost use Rattle.type1.specs.Small as Small;
 ghost use Rattle.type1.specs.Cycle.{memOf, Ready, opD, runD};
 ghost use Rattle.type1.specs.Entry.{zeroSt, startFlow, numberOf, answerOf, Cleared};
@@ -177,13 +177,23 @@ fn four_bytes(a: u8, b: u8, c: u8, d: u8) -> f64
     }
 }
 
-fn found(st: St, n: usize, next: usize, key: u16, flow: u8, op: u16) -> Tok
-    ensures { λ r. ⌜ r ≡ tokOf st n next key flow op ⌝ }
+// The state with so many operands held, another point and so many entries.
+fn place(st: St, n: usize, x: f64, y: f64, entries: usize) -> St
+    ensures { λ r. ⌜ r ≡ placed n x y entries st ⌝ }
 {
     let mut s = st;
     s.operands = n;
+    s.x = x;
+    s.y = y;
+    s.entries = entries;
+    s
+}
+
+fn found(st: St, next: usize, key: u16, flow: u8, op: u16) -> Tok
+    ensures { λ r. ⌜ r ≡ tokOf st next key flow op ⌝ }
+{
     Tok {
-        st: s,
+        st,
         next,
         key,
         flow,
@@ -259,49 +269,286 @@ fn number_at(code: &[u8], i: usize, key: u16, encrypted: bool, v: u8) -> Num
 }
 
 // The operator whose first byte v was read, with the bytes from a place on.
-fn operator_at(code: &[u8], i: usize, key: u16, encrypted: bool, v: u8, n: usize, st: St) -> Tok
-    requires { ⌜ (v < 32) × ((i ≤ length (now code)) × (n ≤ 256)) ⌝ }
-    ensures { λ r. ⌜ Operated (now (code .entry)) i key encrypted v n st r ⌝ }
+fn operator_at(code: &[u8], i: usize, key: u16, encrypted: bool, v: u8, st: St) -> Tok
+    requires { ⌜ (v < 32) × (i ≤ length (now code)) ⌝ }
+    ensures { λ r. ⌜ Operated (now (code .entry)) i key encrypted v st r ⌝ }
 {
     if v != 12 {
-        return found(st, n, i, key, 0, wide(v));
+        return found(st, i, key, 0, wide(v));
     }
     if code.len() - i < 1 {
-        return found(st, n, i, key, 5, 0);
+        return found(st, i, key, 5, 0);
     }
     let c = code[i];
     let e = plain_of(c, key, encrypted);
-    found(st, n, i + 1, key_after(c, key, encrypted), 0, 256 + wide(e))
+    found(st, i + 1, key_after(c, key, encrypted), 0, 256 + wide(e))
 }
 
-// Reads numbers, which it pushes, up to an operator or the end of the bytes.
-fn token(code: &[u8], from: usize, start: u16, encrypted: bool, st: St, ops: &mut [f64; 256]) -> Tok
-    requires { ⌜ (from < length (now code)) × (st .operands ≤ 256) ⌝ }
-    ensures { λ r. ⌜ Reads (now (code .entry)) from start encrypted st (now (ops .entry)) r (now (ops .exit)) ⌝ }
+// ---- lines and curves of an open subpath, drawn as they are read
+
+// Whether an entry was listed, and the point after it.
+struct Drawn {
+    x: f64,
+    y: f64,
+    done: bool,
+}
+
+fn not_drawn(x: f64, y: f64) -> Drawn
+    ensures { λ r. ⌜ r .done ≡ false ⌝ }
 {
+    Drawn { x, y, done: false }
+}
+
+// An entry of one point, a move or a line, where there is room.
+fn store_point(kind: u64, x: f64, y: f64, k: usize, cmds: &mut [u64]) -> bool
+    requires { ⌜ 14 * k ≤ length (now cmds) ⌝ }
+    requires { ⌜ (0 < kind) × (kind < 3) ⌝ }
+    requires { ⌜ T (finite x) × T (finite y) ⌝ }
+    ensures { λ r. ⌜ Stores (pointCommand kind (pointAt x y)) k (now (cmds .entry)) r (now (cmds .exit)) ⌝ }
+{
+    let at = ENTRY * k;
+    if cmds.len() - at < ENTRY {
+        return false;
+    }
+    cmds[at] = kind;
+    cmds[at + 1] = f64::to_bits(x);
+    cmds[at + 2] = f64::to_bits(y);
+    true
+}
+
+// A curve through p to q and r, where there is room.
+fn store_curve(
+    px: f64,
+    py: f64,
+    qx: f64,
+    qy: f64,
+    rx: f64,
+    ry: f64,
+    k: usize,
+    cmds: &mut [u64],
+) -> bool
+    requires { ⌜ 14 * k ≤ length (now cmds) ⌝ }
+    requires { ⌜ T (isFinite (pointAt px py)) × (T (isFinite (pointAt qx qy)) × T (isFinite (pointAt rx ry))) ⌝ }
+    ensures { λ r. ⌜ Stores (State.curve (pointAt px py) (pointAt qx qy) (pointAt rx ry)) k (now (cmds .entry)) r (now (cmds .exit)) ⌝ }
+{
+    let at = ENTRY * k;
+    if cmds.len() - at < ENTRY {
+        return false;
+    }
+    cmds[at] = CURVE;
+    cmds[at + 1] = f64::to_bits(px);
+    cmds[at + 2] = f64::to_bits(py);
+    cmds[at + 3] = f64::to_bits(qx);
+    cmds[at + 4] = f64::to_bits(qy);
+    cmds[at + 5] = f64::to_bits(rx);
+    cmds[at + 6] = f64::to_bits(ry);
+    true
+}
+
+// A line from (x, y) with k entries listed.
+fn add_line(dx: f64, dy: f64, x: f64, y: f64, k: usize, cmds: &mut [u64]) -> Drawn
+    requires { ⌜ 14 * k ≤ length (now cmds) ⌝ }
+    ensures { λ r. ⌜ Adds (λ lim. Run.lineBy lim dx dy) x y k (now (cmds .entry)) r (now (cmds .exit)) ⌝ }
+{
+    let px = x + dx;
+    let py = y + dy;
+    if !finite_point(px, py) {
+        return not_drawn(x, y);
+    }
+    if store_point(LINE, px, py, k, cmds) {
+        return Drawn {
+            x: px,
+            y: py,
+            done: true,
+        };
+    }
+    not_drawn(x, y)
+}
+
+// A curve likewise.
+fn add_curve(
+    dx1: f64,
+    dy1: f64,
+    dx2: f64,
+    dy2: f64,
+    dx3: f64,
+    dy3: f64,
+    x: f64,
+    y: f64,
+    k: usize,
+    cmds: &mut [u64],
+) -> Drawn
+    requires { ⌜ 14 * k ≤ length (now cmds) ⌝ }
+    ensures { λ r. ⌜ Adds (λ lim. Run.curveBy lim dx1 dy1 dx2 dy2 dx3 dy3) x y k (now (cmds .entry)) r (now (cmds .exit)) ⌝ }
+{
+    let px = x + dx1;
+    let py = y + dy1;
+    let qx = px + dx2;
+    let qy = py + dy2;
+    let rx = qx + dx3;
+    let ry = qy + dy3;
+    if !finite_point(px, py) {
+        return not_drawn(x, y);
+    }
+    if !finite_point(qx, qy) {
+        return not_drawn(x, y);
+    }
+    if !finite_point(rx, ry) {
+        return not_drawn(x, y);
+    }
+    if store_curve(px, py, qx, qy, rx, ry, k, cmds) {
+        return Drawn {
+            x: rx,
+            y: ry,
+            done: true,
+        };
+    }
+    not_drawn(x, y)
+}
+
+// The operator of the byte v, if it is a line or a curve that is not refused: with n operands, at (x, y), with k
+// entries listed. Else nothing is done.
+fn draw(v: u8, n: usize, x: f64, y: f64, k: usize, ops: &[f64; 256], cmds: &mut [u64]) -> Drawn
+    requires { ⌜ (n ≤ 256) × (14 * k ≤ length (now cmds)) ⌝ }
+    ensures { λ r. ⌜ Draws v n x y k (now (ops .entry)) (now (cmds .entry)) r (now (cmds .exit)) ⌝ }
+{
+    match v {
+        5 => {
+            if n < 2 {
+                return not_drawn(x, y);
+            }
+            return add_line(ops[n - 2], ops[n - 1], x, y, k, cmds);
+        }
+        6 => {
+            if n < 1 {
+                return not_drawn(x, y);
+            }
+            return add_line(ops[n - 1], 0.0, x, y, k, cmds);
+        }
+        7 => {
+            if n < 1 {
+                return not_drawn(x, y);
+            }
+            return add_line(0.0, ops[n - 1], x, y, k, cmds);
+        }
+        8 => {
+            if n < 6 {
+                return not_drawn(x, y);
+            }
+            return add_curve(
+                ops[n - 6],
+                ops[n - 5],
+                ops[n - 4],
+                ops[n - 3],
+                ops[n - 2],
+                ops[n - 1],
+                x,
+                y,
+                k,
+                cmds,
+            );
+        }
+        30 => {
+            if n < 4 {
+                return not_drawn(x, y);
+            }
+            return add_curve(
+                0.0,
+                ops[n - 4],
+                ops[n - 3],
+                ops[n - 2],
+                ops[n - 1],
+                0.0,
+                x,
+                y,
+                k,
+                cmds,
+            );
+        }
+        31 => {
+            if n < 4 {
+                return not_drawn(x, y);
+            }
+            return add_curve(
+                ops[n - 4],
+                0.0,
+                ops[n - 3],
+                ops[n - 2],
+                0.0,
+                ops[n - 1],
+                x,
+                y,
+                k,
+                cmds,
+            );
+        }
+        _ => {
+            return not_drawn(x, y);
+        }
+    }
+}
+
+// Whether a line or a curve is one entry: a subpath is open, and the stems in force did not change.
+fn is_quick(st: St) -> bool
+    ensures { λ r. ⌜ r ≡ isQuick st ⌝ }
+{
+    if st.changed { false } else { st.opened }
+}
+
+// Reads numbers, which it pushes, and lines and curves, which it lists where `is_quick` says so, up to another
+// operator or the end of the bytes.
+fn token(
+    code: &[u8],
+    from: usize,
+    start: u16,
+    encrypted: bool,
+    st: St,
+    ops: &mut [f64; 256],
+    cmds: &mut [u64],
+) -> Tok
+    requires { ⌜ (from < length (now code)) × ((st .operands ≤ 256) × (14 * st .entries ≤ length (now cmds))) ⌝ }
+    ensures { λ r. ⌜ Reads (now (code .entry)) from start encrypted st (now (ops .entry)) (now (cmds .entry)) r (now (ops .exit)) (now (cmds .exit)) ⌝ }
+{
+    let quick = is_quick(st);
     let mut i = from;
     let mut key = start;
     let mut n = st.operands;
+    let mut x = st.x;
+    let mut y = st.y;
+    let mut entries = st.entries;
     while i < code.len() {
         let c = code[i];
         let v = plain_of(c, key, encrypted);
         let k = key_after(c, key, encrypted);
         if v < 32 {
-            return operator_at(code, i + 1, k, encrypted, v, n, st);
+            if !quick {
+                return operator_at(code, i + 1, k, encrypted, v, place(st, n, x, y, entries));
+            }
+            let d = draw(v, n, x, y, entries, ops, cmds);
+            if !d.done {
+                return operator_at(code, i + 1, k, encrypted, v, place(st, n, x, y, entries));
+            }
+            n = 0;
+            x = d.x;
+            y = d.y;
+            entries += 1;
+            i += 1;
+            key = k;
+        } else {
+            let w = number_at(code, i + 1, k, encrypted, v);
+            if w.cut {
+                return found(place(st, n, x, y, entries), i + 1, k, 5, 0);
+            }
+            if n == 256 {
+                return found(place(st, n, x, y, entries), i + 1, k, 15, 0);
+            }
+            ops[n] = w.x;
+            n += 1;
+            i = w.next;
+            key = w.key;
         }
-        let w = number_at(code, i + 1, k, encrypted, v);
-        if w.cut {
-            return found(st, n, i + 1, k, 5, 0);
-        }
-        if n == 256 {
-            return found(st, n, i + 1, k, 15, 0);
-        }
-        ops[n] = w.x;
-        n += 1;
-        i = w.next;
-        key = w.key;
     }
-    found(st, n, i, key, 1, 0)
+    found(place(st, n, x, y, entries), i, key, 1, 0)
 }
 
 // ---- answers
@@ -345,16 +592,12 @@ fn enter_point(kind: u64, x: f64, y: f64, st: St, cmds: &mut [u64]) -> Ran
     ensures { λ r. ⌜ Small.Entered st (r .st) (length (now (cmds .entry))) ⌝ }
 {
     let k = st.entries;
-    let at = ENTRY * k;
-    if cmds.len() - at < ENTRY {
-        return made(st, 17);
+    if store_point(kind, x, y, k, cmds) {
+        let mut s = st;
+        s.entries = k + 1;
+        return made(s, 0);
     }
-    cmds[at] = kind;
-    cmds[at + 1] = f64::to_bits(x);
-    cmds[at + 2] = f64::to_bits(y);
-    let mut s = st;
-    s.entries = k + 1;
-    made(s, 0)
+    made(st, 17)
 }
 
 // A curve through p to q and r.
@@ -375,20 +618,12 @@ fn enter_curve(
     ensures { λ r. ⌜ Plain st (r .st) ⌝ }
 {
     let k = st.entries;
-    let at = ENTRY * k;
-    if cmds.len() - at < ENTRY {
-        return made(st, 17);
+    if store_curve(px, py, qx, qy, rx, ry, k, cmds) {
+        let mut s = st;
+        s.entries = k + 1;
+        return made(s, 0);
     }
-    cmds[at] = CURVE;
-    cmds[at + 1] = f64::to_bits(px);
-    cmds[at + 2] = f64::to_bits(py);
-    cmds[at + 3] = f64::to_bits(qx);
-    cmds[at + 4] = f64::to_bits(qy);
-    cmds[at + 5] = f64::to_bits(rx);
-    cmds[at + 6] = f64::to_bits(ry);
-    let mut s = st;
-    s.entries = k + 1;
-    made(s, 0)
+    made(st, 17)
 }
 
 // A flex through the points after the first in `cells`, with its height.
@@ -1857,7 +2092,7 @@ fn run(
     let mut key = b.key;
     let mut s = st;
     while i < code.len() {
-        let t = token(code, i, key, e, s, ops);
+        let t = token(code, i, key, e, s, ops, cmds);
         s = t.st;
         let g = t.flow;
         if g != 0 {

@@ -1,74 +1,68 @@
-use Rattle.type1.proofs.Bytes.{plain-op, cut-op, escape-op}
-use mathlib.Core.Path.{refl}
 use native.Mathlib.Omega.{arith}
+use mathlib.Core.Path.{refl}
+use Rattle.type1.proofs.Bytes.{plain-op, cut-op, escape-op}
 use borrow.Author.Needs.{needs}
 use Rattle.type1.proofs.operator_at.Statement.{statement}
 use Rattle.type1.proofs.operator_at.Tie as tie
-use Rattle.type1.proofs.operator_at.Reads as reads
-use Rattle.type1.proofs.operator_at.Lts as lts
-use Rattle.type1.proofs.found.Reads as found-reads
-use Rattle.type1.proofs.key_after.Reads as key-after-reads
-use Rattle.type1.proofs.plain_of.Reads as plain-of-reads
-use Rattle.type1.proofs.wide.Reads as wide-reads
 
--- src/lib.rt:262:40
+-- src/lib.rt:277:37
 wide-requires : tie.Need-wide-requires
 wide-requires c κs = search needs
 
--- src/lib.rt:262:9
+-- src/lib.rt:277:9
 found-requires : tie.Need-found-requires
 found-requires c κs = search needs
 
--- src/lib.rt:262:9
+-- src/lib.rt:277:9
 returns : tie.Need-returns
 returns c =
-    plain-op _ _ _ _ _ _ _ _ _ (c .found .ensures) (c .before .wide .ensures) (c .before .before .before .before .pre .0) (c .before .before .if1 .taken) (c .before .before .before .before .pre .1 .0)
+    plain-op _ _ _ _ _ _ _ _ (c .found .ensures) (c .before .wide .ensures) (c .before .before .before .before .pre .0) (c .before .before .if1 .taken) (c .before .before .before .before .pre .1)
 
--- src/lib.rt:264:8
+-- src/lib.rt:279:8
 sub-if2 : tie.Need-sub-if2
 sub-if2 c = search needs
 
--- src/lib.rt:265:9
+-- src/lib.rt:280:9
 found-requires-2 : tie.Need-found-requires-2
 found-requires-2 c κs = search needs
 
--- src/lib.rt:265:9
+-- src/lib.rt:280:9
 returns-2 : tie.Need-returns-2
 returns-2 c =
-    cut-op _ _ _ _ _ _ _ _ (c .found2 .ensures) (c .before .before .if1 .left) (omega arith) (c .before .before .before .before .pre .1 .0)
+    cut-op _ _ _ _ _ _ _ (c .found2 .ensures) (c .before .before .if1 .left) (omega arith) (c .before .before .before .before .pre .1)
 
--- src/lib.rt:267:13
+-- src/lib.rt:282:13
 shared-slice-read-c : tie.Need-shared-slice-read-c
 shared-slice-read-c c = search needs
 
--- src/lib.rt:268:9
+-- src/lib.rt:283:9
 plain-of-requires : tie.Need-plain-of-requires
 plain-of-requires c κs = search needs
 
--- src/lib.rt:269:18
+-- src/lib.rt:284:15
 add-found : tie.Need-add-found
 add-found c = search needs
 
--- src/lib.rt:269:25
+-- src/lib.rt:284:22
 key-after-requires : tie.Need-key-after-requires
 key-after-requires c κs = search needs
 
--- src/lib.rt:269:64
+-- src/lib.rt:284:61
 wide-requires-2 : tie.Need-wide-requires-2
 wide-requires-2 c κs = search needs
 
--- src/lib.rt:269:58
+-- src/lib.rt:284:55
 add-found-2 : tie.Need-add-found-2
 add-found-2 c = search needs
 
--- src/lib.rt:269:5
+-- src/lib.rt:284:5
 found-requires-3 : tie.Need-found-requires-3
 found-requires-3 c κs = search needs
 
--- src/lib.rt:257:1
+-- src/lib.rt:272:1
 returns-3 : tie.Need-returns-3
 returns-3 c =
-    escape-op _ _ _ _ _ _ _ _ _ _ _ _ (c .found3 .ensures) (c .before .wide2 .ensures) (c .before .before .before .before .before .before .if1 .left) (omega arith) refl (c .before .before .before .plain-of .ensures) (c .before .before .key-after .ensures)
+    escape-op _ _ _ _ _ _ _ _ _ _ _ (c .found3 .ensures) (c .before .wide2 .ensures) (c .before .before .before .before .before .before .if1 .left) (omega arith) refl (c .before .before .before .plain-of .ensures) (c .before .before .key-after .ensures)
 
 pub operator-at-spec : {M : Type 1} → statement M
 operator-at-spec =

@@ -1,6 +1,6 @@
 -- What the members have of each callee, in the form that `Many.antt`'s `asks-all` takes. Assumes `Given`, and that the callee's entry meets its contract; of a member, below a measure.
 use mathlib.Core.Path.{_≡_, refl}
-use Prim.Native.Nat.{ℕ, _+_, _<_, _≤_, _^_}
+use Prim.Native.Nat.{ℕ, _+_, _*_, _<_, _≤_, _^_}
 use mathlib.Core.Bool.{Bool}
 use mathlib.Core.List.{[], _∷_, List}
 use lib.ListN.{length}
@@ -114,11 +114,11 @@ module _ {M : Type 1} (𝓤 : URA M) (H : Heap 𝓤) (A : Atoms 𝓤) (mem : Mem
   BelowRun C t = (y : RunC .Ghost) → ((y .0 .3 .1 .1 .1 .0) + (y .0 .3 .1 .1 .1 .0) + 1) < t → ent 𝓤 (RunC .pre y) (C #type1·run (RunC .args y) (RunC .post y))
 
 module _ {M : Type 1} (𝓤 : URA M) (H : Heap 𝓤) (A : Atoms 𝓤) (mem : Memory → SProp 𝓤) (run′ : Routine → Fun 𝓤) (W : Given 𝓤 H A) (C : Table 𝓤 H) where
-  pub token-as : Triple 𝓤 (C #type1·token) (TokenC 𝓤 H A mem run′) → (κcode : Lft) (qcode : Share) (xcode : RefT (List ℕ)) (κops : Lft) (qops : Share) (bops oops : ℕ) (γops : GName) (ysops : List Float) (i : ℕ) (key : ℕ) (enc : Bool) (st : St) → i < 2 ^ 64 → key < 2 ^ 16 → Is S.the-row st (machS st ∷ []) → (i < length (xcode .now)) × (st .operands ≤ 256)
-      → ent 𝓤 (mean 𝓤 H A ((‵ (flft κcode qcode) ⊛ ‵ (ShrSlice (named 0) κcode u8 .own xcode (sliceVal (xcode .ptr) (length (xcode .now)) ∷ []))) ⊛ (‵ (flft κops qops) ⊛ ‵ (OwnR (Array f64 256) bops oops κops γops ysops)))) (C #type1·token (sliceVal (xcode .ptr) (length (xcode .now)) ∷ vint w64 i ∷ vint w16 key ∷ vbool enc ∷ machS st ∷ vptr bops oops ∷ []) (λ w. mean 𝓤 H A (GotAll 𝓤 K.the-row (Unit {0} × (Unit {0} × (Unit {0} × (Unit {0} × (Unit {0} × (List Float × Unit {0})))))) (λ (r : K.the-row .Denot) (lasts : (Unit {0} × (Unit {0} × (Unit {0} × (Unit {0} × (Unit {0} × (List Float × Unit {0}))))))). Reads (xcode .now) i key enc st ysops r (lasts .1 .1 .1 .1 .1 .0)) (λ (lasts : (Unit {0} × (Unit {0} × (Unit {0} × (Unit {0} × (Unit {0} × (List Float × Unit {0}))))))). (fsep ftrue (fsep ftrue (fsep ftrue (fsep ftrue (fsep ftrue (fsep (fres γops ((Array f64 256) .coded .code (lasts .1 .1 .1 .1 .1 .0))) ftrue))))))) (‵ (flft κcode qcode) ⊛ (‵ (flft κops qops) ⊛ ‵ ftrue)) w)))
-  token-as known κcode qcode xcode κops qops bops oops γops ysops i key enc st i-fits key-fits st-fits need =
-      let y : TokenC 𝓤 H A mem run′ .Ghost = (((κcode, (κops, tt)), (qcode, (qops, tt)), tt, (xcode, (i, (key, (enc, (st, (at-one (Array f64 256) bops oops γops ysops, tt)))))), (sliceVal (xcode .ptr) (length (xcode .now)) ∷ [], (vint w64 i ∷ [], (vint w16 key ∷ [], (vbool enc ∷ [], (machS st ∷ [], (vptr bops oops ∷ [], tt))))))), tt) in
-      via 𝓤 (TokenC 𝓤 H A mem run′ .pre y) (qed W (((‵ (flft κcode qcode) ⊛ ‵ (ShrSlice (named 0) κcode u8 .own xcode (sliceVal (xcode .ptr) (length (xcode .now)) ∷ []))) ⊛ (‵ (flft κops qops) ⊛ ‵ (OwnR (Array f64 256) bops oops κops γops ysops))) ∷ []) ∵ says ! need $ split ! $ split ! $ move ! (2 ∷ []) $ split ! $ nothing ! $ move ! (2 ∷ 0 ∷ []) $ fjoin ! $ owned ! S.the-row (Is S.the-row) (LL.makes S.the-type S′.the-plain 𝓤 H A) st _ st-fits $ fjoin ! $ owned ! bool (Is bool) (bool-makes 𝓤 H A W) enc _ refl $ fjoin ! $ owned ! u16 (Is u16) (uint-makes 𝓤 H A W w16) key _ (refl, key-fits) $ fjoin ! $ owned ! usize (Is usize) (uint-makes 𝓤 H A W w64) i _ (refl, i-fits) $ fjoin ! $ move ! (3 ∷ 0 ∷ []) $ fjoin ! $ nothing ! $ move ! (2 ∷ 0 ∷ []) $ join ! $ move ! (2 ∷ 0 ∷ []) $ join ! $ frame ! $ done !) (known y)
+  pub token-as : Triple 𝓤 (C #type1·token) (TokenC 𝓤 H A mem run′) → (κcode : Lft) (qcode : Share) (xcode : RefT (List ℕ)) (κops : Lft) (qops : Share) (bops oops : ℕ) (γops : GName) (ysops : List Float) (κcmds : Lft) (qcmds : Share) (mcmds bcmds ocmds : ℕ) (γcmds : GName) (yscmds : List ℕ) (i : ℕ) (key : ℕ) (enc : Bool) (st : St) → i < 2 ^ 64 → key < 2 ^ 16 → Is S.the-row st (machS st ∷ []) → (i < length (xcode .now)) × ((st .operands ≤ 256) × (14 * st .entries ≤ length yscmds))
+      → ent 𝓤 (mean 𝓤 H A ((‵ (flft κcode qcode) ⊛ ‵ (ShrSlice (named 0) κcode u8 .own xcode (sliceVal (xcode .ptr) (length (xcode .now)) ∷ []))) ⊛ ((‵ (flft κops qops) ⊛ ‵ (OwnR (Array f64 256) bops oops κops γops ysops)) ⊛ (‵ (flft κcmds qcmds) ⊛ ‵ (Own u64 mcmds bcmds ocmds κcmds γcmds yscmds))))) (C #type1·token (sliceVal (xcode .ptr) (length (xcode .now)) ∷ vint w64 i ∷ vint w16 key ∷ vbool enc ∷ machS st ∷ vptr bops oops ∷ sliceVal (bcmds, ocmds) mcmds ∷ []) (λ w. mean 𝓤 H A (GotAll 𝓤 K.the-row (Unit {0} × (Unit {0} × (Unit {0} × (Unit {0} × (Unit {0} × (List Float × (List ℕ × Unit {0}))))))) (λ (r : K.the-row .Denot) (lasts : (Unit {0} × (Unit {0} × (Unit {0} × (Unit {0} × (Unit {0} × (List Float × (List ℕ × Unit {0})))))))). Reads (xcode .now) i key enc st ysops yscmds r (lasts .1 .1 .1 .1 .1 .0) (lasts .1 .1 .1 .1 .1 .1 .0)) (λ (lasts : (Unit {0} × (Unit {0} × (Unit {0} × (Unit {0} × (Unit {0} × (List Float × (List ℕ × Unit {0})))))))). (fsep ftrue (fsep ftrue (fsep ftrue (fsep ftrue (fsep ftrue (fsep (fres γops ((Array f64 256) .coded .code (lasts .1 .1 .1 .1 .1 .0))) (fsep (fsep (finally u64 γcmds (lasts .1 .1 .1 .1 .1 .1 .0)) (feq ℕ (length (lasts .1 .1 .1 .1 .1 .1 .0)) (length yscmds))) ftrue)))))))) (‵ (flft κcode qcode) ⊛ (‵ (flft κops qops) ⊛ (‵ (flft κcmds qcmds) ⊛ ‵ ftrue))) w)))
+  token-as known κcode qcode xcode κops qops bops oops γops ysops κcmds qcmds mcmds bcmds ocmds γcmds yscmds i key enc st i-fits key-fits st-fits need =
+      let y : TokenC 𝓤 H A mem run′ .Ghost = (((κcode, (κops, (κcmds, tt))), (qcode, (qops, (qcmds, tt))), tt, (xcode, (i, (key, (enc, (st, (at-one (Array f64 256) bops oops γops ysops, (at-list u64 mcmds bcmds ocmds γcmds yscmds, tt))))))), (sliceVal (xcode .ptr) (length (xcode .now)) ∷ [], (vint w64 i ∷ [], (vint w16 key ∷ [], (vbool enc ∷ [], (machS st ∷ [], (vptr bops oops ∷ [], (sliceVal (bcmds, ocmds) mcmds ∷ [], tt)))))))), tt) in
+      via 𝓤 (TokenC 𝓤 H A mem run′ .pre y) (qed W (((‵ (flft κcode qcode) ⊛ ‵ (ShrSlice (named 0) κcode u8 .own xcode (sliceVal (xcode .ptr) (length (xcode .now)) ∷ []))) ⊛ ((‵ (flft κops qops) ⊛ ‵ (OwnR (Array f64 256) bops oops κops γops ysops)) ⊛ (‵ (flft κcmds qcmds) ⊛ ‵ (Own u64 mcmds bcmds ocmds κcmds γcmds yscmds)))) ∷ []) ∵ says ! need $ split ! $ move ! (1 ∷ []) $ split ! $ move ! (2 ∷ []) $ split ! $ move ! (2 ∷ []) $ split ! $ move ! (4 ∷ []) $ split ! $ nothing ! $ move ! (2 ∷ 0 ∷ []) $ fjoin ! $ move ! (3 ∷ 0 ∷ []) $ fjoin ! $ owned ! S.the-row (Is S.the-row) (LL.makes S.the-type S′.the-plain 𝓤 H A) st _ st-fits $ fjoin ! $ owned ! bool (Is bool) (bool-makes 𝓤 H A W) enc _ refl $ fjoin ! $ owned ! u16 (Is u16) (uint-makes 𝓤 H A W w16) key _ (refl, key-fits) $ fjoin ! $ owned ! usize (Is usize) (uint-makes 𝓤 H A W w64) i _ (refl, i-fits) $ fjoin ! $ move ! (4 ∷ 0 ∷ []) $ fjoin ! $ nothing ! $ move ! (2 ∷ 0 ∷ []) $ join ! $ move ! (2 ∷ 0 ∷ []) $ join ! $ move ! (2 ∷ 0 ∷ []) $ join ! $ frame ! $ done !) (known y)
 
   pub plain-as : Triple 𝓤 (C #type1·plain) (PlainC 𝓤 H A mem run′) → (κops : Lft) (qops : Share) (bops oops : ℕ) (γops : GName) (ysops : List Float) (κps : Lft) (qps : Share) (bps ops : ℕ) (γps : GName) (ysps : List Float) (κcells : Lft) (qcells : Share) (bcells ocells : ℕ) (γcells : GName) (yscells : List Float) (κedges : Lft) (qedges : Share) (bedges oedges : ℕ) (γedges : GName) (ysedges : List Float) (κacross : Lft) (qacross : Share) (bacross oacross : ℕ) (γacross : GName) (ysacross : List Bool) (κcmds : Lft) (qcmds : Share) (mcmds bcmds ocmds : ℕ) (γcmds : GName) (yscmds : List ℕ) (o : ℕ) (room : ℕ) (st : St) → o < 2 ^ 16 → room < 2 ^ 64 → Is S.the-row st (machS st ∷ []) → Bounds st (length yscmds) → st .stems ≤ room → Finite st ysops yscells
       → ent 𝓤 (mean 𝓤 H A ((‵ (flft κops qops) ⊛ ‵ (OwnR (Array f64 256) bops oops κops γops ysops)) ⊛ ((‵ (flft κps qps) ⊛ ‵ (OwnR (Array f64 256) bps ops κps γps ysps)) ⊛ ((‵ (flft κcells qcells) ⊛ ‵ (OwnR (Array f64 19) bcells ocells κcells γcells yscells)) ⊛ ((‵ (flft κedges qedges) ⊛ ‵ (OwnR (Array f64 1024) bedges oedges κedges γedges ysedges)) ⊛ ((‵ (flft κacross qacross) ⊛ ‵ (OwnR (Array bool 512) bacross oacross κacross γacross ysacross)) ⊛ (‵ (flft κcmds qcmds) ⊛ ‵ (Own u64 mcmds bcmds ocmds κcmds γcmds yscmds)))))))) (C #type1·plain (vint w16 o ∷ vint w64 room ∷ machS st ∷ vptr bops oops ∷ vptr bps ops ∷ vptr bcells ocells ∷ vptr bedges oedges ∷ vptr bacross oacross ∷ sliceVal (bcmds, ocmds) mcmds ∷ []) (λ w. mean 𝓤 H A (GotTwo 𝓤 N.the-row (Unit {0} × (Unit {0} × (Unit {0} × (List Float × (List Float × (List Float × (List Float × (List Bool × (List ℕ × Unit {0}))))))))) (λ (r : N.the-row .Denot) (lasts : (Unit {0} × (Unit {0} × (Unit {0} × (List Float × (List Float × (List Float × (List Float × (List Bool × (List ℕ × Unit {0})))))))))). (m : Mem) (s : State) → length (m .stems) ≡ room → Holds st (withOps ysops (withPs ysps (withCells yscells (withPath ysedges ysacross yscmds m)))) s → Meets r (withOps (lasts .1 .1 .1 .0) (withPs (lasts .1 .1 .1 .1 .0) (withCells (lasts .1 .1 .1 .1 .1 .0) (after st r (lasts .1 .1 .1 .1 .1 .1 .0) (lasts .1 .1 .1 .1 .1 .1 .1 .0) (lasts .1 .1 .1 .1 .1 .1 .1 .1 .0) m)))) (operate (within room (length yscmds)) (refused 6) (operatorOf o) s)) (λ (r : N.the-row .Denot) (lasts : (Unit {0} × (Unit {0} × (Unit {0} × (List Float × (List Float × (List Float × (List Float × (List Bool × (List ℕ × Unit {0})))))))))). Space st (r .st) room) (λ (lasts : (Unit {0} × (Unit {0} × (Unit {0} × (List Float × (List Float × (List Float × (List Float × (List Bool × (List ℕ × Unit {0})))))))))). (fsep ftrue (fsep ftrue (fsep ftrue (fsep (fres γops ((Array f64 256) .coded .code (lasts .1 .1 .1 .0))) (fsep (fres γps ((Array f64 256) .coded .code (lasts .1 .1 .1 .1 .0))) (fsep (fres γcells ((Array f64 19) .coded .code (lasts .1 .1 .1 .1 .1 .0))) (fsep (fres γedges ((Array f64 1024) .coded .code (lasts .1 .1 .1 .1 .1 .1 .0))) (fsep (fres γacross ((Array bool 512) .coded .code (lasts .1 .1 .1 .1 .1 .1 .1 .0))) (fsep (fsep (finally u64 γcmds (lasts .1 .1 .1 .1 .1 .1 .1 .1 .0)) (feq ℕ (length (lasts .1 .1 .1 .1 .1 .1 .1 .1 .0)) (length yscmds))) ftrue)))))))))) (‵ (flft κops qops) ⊛ (‵ (flft κps qps) ⊛ (‵ (flft κcells qcells) ⊛ (‵ (flft κedges qedges) ⊛ (‵ (flft κacross qacross) ⊛ (‵ (flft κcmds qcmds) ⊛ ‵ ftrue)))))) w)))

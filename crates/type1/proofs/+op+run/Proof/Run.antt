@@ -46,7 +46,6 @@ use Rattle.type1.specs.declared.St.{St}
 use Rattle.type1.specs.declared.Tok.{Tok}
 use Rattle.type1.specs.declared.Ran.{Ran}
 use Rattle.type1.specs.declared.Begun.{Begun}
-use Rattle.type1.proofs.Leaving.{filled, bare, leave}
 use Rattle.type1.proofs.Stem as T
 use Rattle.type1.proofs.St as S
 use Rattle.type1.proofs.St.Laws as S′
@@ -58,6 +57,7 @@ use Rattle.type1.proofs.Begun as B
 use Rattle.type1.proofs.Begun.Laws as B′
 use Rattle.type1.proofs.Lent.{at-list, Own, lend}
 use Rattle.type1.proofs.LentWith.{returned}
+use Rattle.type1.proofs.Leaving.{filled, bare, leave}
 use Rattle.type1.proofs.Many.{at-one, OwnR, lend-ref, returned-ref, asks-all, guards}
 use Rattle.type1.proofs.Locals.{word, byte, half, tB, tF, tA, tU, tS, so-is, machS, machK, machN, machB}
 use Rattle.charstring.specs.Cipher.{Bytes}
@@ -157,93 +157,95 @@ module _ {M : Type 1} (𝓤 : URA M) (H : Heap 𝓤) (A : Atoms 𝓤) (W : Given
       nothing ! $ move ! (19 ∷ 0 ∷ []) $ join ! $ move ! (17 ∷ 0 ∷ []) $ join ! $ move ! (15 ∷ 0 ∷ []) $ join ! $ move ! (13 ∷ 0 ∷ []) $ join ! $ move ! (11 ∷ 0 ∷ []) $ join ! $ move ! (9 ∷ 0 ∷ []) $ join ! $ move ! (7 ∷ 0 ∷ []) $ join ! $ move ! (5 ∷ 0 ∷ []) $ join ! $ move ! (3 ∷ 0 ∷ []) $ join ! $ frame ! $ nothing ! $ move ! (10 ∷ 0 ∷ []) $ fjoin ! $ move ! (9 ∷ 0 ∷ []) $ fjoin ! $ move ! (8 ∷ 0 ∷ []) $ fjoin ! $ move ! (7 ∷ 0 ∷ []) $ fjoin ! $ move ! (6 ∷ 0 ∷ []) $ fjoin ! $ move ! (5 ∷ 0 ∷ []) $ fjoin ! $ move ! (4 ∷ 0 ∷ []) $ fjoin ! $ owned ! S.the-row (Is S.the-row) (LL.makes S.the-type S′.the-plain 𝓤 H A) st _ st-fits $ fjoin ! $ owned ! usize (Is usize) (uint-makes 𝓤 H A W w64) levels _ (refl, levels-fits) $ fjoin ! $ owned ! usize (Is usize) (uint-makes 𝓤 H A W w64) iv _ (refl, iv-fits) $ fjoin ! $ move ! (3 ∷ 0 ∷ []) $ fjoin ! $ move ! (2 ∷ 0 ∷ []) $ fjoin ! $ done !
 
   module _ (known-begin : Triple 𝓤 (C #type1·begin) (BeginC 𝓤 H A mem run′)) (known-token : Triple 𝓤 (C #type1·token) (TokenC 𝓤 H A mem run′)) (known-made : Triple 𝓤 (C #type1·made) (MadeC 𝓤 H A mem run′)) (known-stopped : Triple 𝓤 (C #type1·stopped) (StoppedC 𝓤 H A mem run′)) (need : (levels < 100) × (Valid (xbank .now) × Ready st (memOf ysops ysps yscells ysedges ysacross yscmds ysstems))) (t : ℕ) (below : BelowOp 𝓤 H A mem run′ C t) (measure : levels + levels + 1 ≡ t) where
-    abbrev En : (l₀ l₁ l₂ l₃ l₄ l₅ l₆ l₇ l₈ l₉ l₁₀ l₁₁ l₁₂ l₁₃ l₁₄ l₁₅ l₁₆ l₁₇ l₁₈ l₁₉ l₂₀ l₂₁ l₂₂ l₂₃ l₂₄ l₂₅ l₂₆ l₂₇ l₂₈ l₂₉ l₃₀ l₃₁ l₃₂ l₃₃ : ℕ) → Env 𝓤 H
-    En l₀ l₁ l₂ l₃ l₄ l₅ l₆ l₇ l₈ l₉ l₁₀ l₁₁ l₁₂ l₁₃ l₁₄ l₁₅ l₁₆ l₁₇ l₁₈ l₁₉ l₂₀ l₂₁ l₂₂ l₂₃ l₂₄ l₂₅ l₂₆ l₂₇ l₂₈ l₂₉ l₃₀ l₃₁ l₃₂ l₃₃ = (tNt, l₀) ∷ (sliceTy (tB (named 0)), l₁) ∷ (sliceTy (tB (named 1)), l₂) ∷ (word, l₃) ∷ (word, l₄) ∷ (tSt, l₅) ∷ (tF (named 2) 256, l₆) ∷ (tF (named 3) 256, l₇) ∷ (tF (named 4) 19, l₈) ∷ (tF (named 5) 1024, l₉) ∷ (tA (named 6), l₁₀) ∷ (sliceTy (tU (named 7)), l₁₁) ∷ (sliceTy (tS (named 8)), l₁₂) ∷ (tBt, l₁₃) ∷ (tyBool, l₁₄) ∷ (word, l₁₅) ∷ (half, l₁₆) ∷ (tSt, l₁₇) ∷ (tKt, l₁₈) ∷ (byte, l₁₉) ∷ (tNt, l₂₀) ∷ (byte, l₂₁) ∷ (word, l₂₂) ∷ (tyBool, l₂₃) ∷ (tF erased 256, l₂₄) ∷ (tF erased 256, l₂₅) ∷ (tF erased 256, l₂₆) ∷ (tF erased 19, l₂₇) ∷ (tF erased 1024, l₂₈) ∷ (tA erased, l₂₉) ∷ (tU erased, l₃₀) ∷ (sliceTy (tU erased), l₃₁) ∷ (tS erased, l₃₂) ∷ (sliceTy (tS erased), l₃₃) ∷ []
+    abbrev En : (l₀ l₁ l₂ l₃ l₄ l₅ l₆ l₇ l₈ l₉ l₁₀ l₁₁ l₁₂ l₁₃ l₁₄ l₁₅ l₁₆ l₁₇ l₁₈ l₁₉ l₂₀ l₂₁ l₂₂ l₂₃ l₂₄ l₂₅ l₂₆ l₂₇ l₂₈ l₂₉ l₃₀ l₃₁ l₃₂ l₃₃ l₃₄ l₃₅ : ℕ) → Env 𝓤 H
+    En l₀ l₁ l₂ l₃ l₄ l₅ l₆ l₇ l₈ l₉ l₁₀ l₁₁ l₁₂ l₁₃ l₁₄ l₁₅ l₁₆ l₁₇ l₁₈ l₁₉ l₂₀ l₂₁ l₂₂ l₂₃ l₂₄ l₂₅ l₂₆ l₂₇ l₂₈ l₂₉ l₃₀ l₃₁ l₃₂ l₃₃ l₃₄ l₃₅ = (tNt, l₀) ∷ (sliceTy (tB (named 0)), l₁) ∷ (sliceTy (tB (named 1)), l₂) ∷ (word, l₃) ∷ (word, l₄) ∷ (tSt, l₅) ∷ (tF (named 2) 256, l₆) ∷ (tF (named 3) 256, l₇) ∷ (tF (named 4) 19, l₈) ∷ (tF (named 5) 1024, l₉) ∷ (tA (named 6), l₁₀) ∷ (sliceTy (tU (named 7)), l₁₁) ∷ (sliceTy (tS (named 8)), l₁₂) ∷ (tBt, l₁₃) ∷ (tyBool, l₁₄) ∷ (word, l₁₅) ∷ (half, l₁₆) ∷ (tSt, l₁₇) ∷ (tKt, l₁₈) ∷ (byte, l₁₉) ∷ (tNt, l₂₀) ∷ (byte, l₂₁) ∷ (word, l₂₂) ∷ (tyBool, l₂₃) ∷ (tF erased 256, l₂₄) ∷ (tU erased, l₂₅) ∷ (sliceTy (tU erased), l₂₆) ∷ (tF erased 256, l₂₇) ∷ (tF erased 256, l₂₈) ∷ (tF erased 19, l₂₉) ∷ (tF erased 1024, l₃₀) ∷ (tA erased, l₃₁) ∷ (tU erased, l₃₂) ∷ (sliceTy (tU erased), l₃₃) ∷ (tS erased, l₃₄) ∷ (sliceTy (tS erased), l₃₅) ∷ []
 
     -- at the head of the loop
-    abbrev At : ℕ → ℕ → Bool → St → (List Float) → (List Float) → (List Float) → (List Float) → (List Bool) → (List ℕ) → (List Stem) → (l₀ l₁ l₂ l₃ l₄ l₅ l₆ l₇ l₈ l₉ l₁₀ l₁₁ l₁₂ l₁₃ l₁₄ l₁₅ l₁₆ l₁₇ l₁₈ l₁₉ l₂₀ l₂₁ l₂₂ l₂₃ l₂₄ l₂₅ l₂₆ l₂₇ l₂₈ l₂₉ l₃₀ l₃₁ l₃₂ l₃₃ : ℕ) → List (Item 𝓤)
-    At i key enc h os qs cs es ks ms zs l₀ l₁ l₂ l₃ l₄ l₅ l₆ l₇ l₈ l₉ l₁₀ l₁₁ l₁₂ l₁₃ l₁₄ l₁₅ l₁₆ l₁₇ l₁₈ l₁₉ l₂₀ l₂₁ l₂₂ l₂₃ l₂₄ l₂₅ l₂₆ l₂₇ l₂₈ l₂₉ l₃₀ l₃₁ l₃₂ l₃₃ = ‵ (ShrSlice (named 0) κcode u8 .own xcode (sliceVal (xcode .ptr) (length (xcode .now)) ∷ [])) ∷ ‵ (flft κcode qcode) ∷ ‵ (ShrSlice (named 0) κbank u8 .own xbank (sliceVal (xbank .ptr) (length (xbank .now)) ∷ [])) ∷ ‵ (flft κbank qbank) ∷ ‵ (OwnR (Array f64 256) bops oops κops γops os) ∷ ‵ (flft κops qops) ∷ ‵ (OwnR (Array f64 256) bps ops κps γps qs) ∷ ‵ (flft κps qps) ∷ ‵ (OwnR (Array f64 19) bcells ocells κcells γcells cs) ∷ ‵ (flft κcells qcells) ∷ ‵ (OwnR (Array f64 1024) bedges oedges κedges γedges es) ∷ ‵ (flft κedges qedges) ∷ ‵ (OwnR (Array bool 512) bacross oacross κacross γacross ks) ∷ ‵ (flft κacross qacross) ∷ ‵ (Own u64 mcmds bcmds ocmds κcmds γcmds ms) ∷ ‵ (flft κcmds qcmds) ∷ ‵ (Own T.the-row mstems bstems ostems κstems γstems zs) ∷ ‵ (flft κstems qstems) ∷ ‵ (froom (sliceTy (tS erased)) l₃₃ 0) ∷ ‵ (fdies (sliceTy (tS erased)) l₃₃) ∷ ‵ (froom (tS erased) l₃₂ 0) ∷ ‵ (fdies (tS erased) l₃₂) ∷ ‵ (froom (sliceTy (tU erased)) l₃₁ 0) ∷ ‵ (fdies (sliceTy (tU erased)) l₃₁) ∷ ‵ (froom (tU erased) l₃₀ 0) ∷ ‵ (fdies (tU erased) l₃₀) ∷ ‵ (froom (tA erased) l₂₉ 0) ∷ ‵ (fdies (tA erased) l₂₉) ∷ ‵ (froom (tF erased 1024) l₂₈ 0) ∷ ‵ (fdies (tF erased 1024) l₂₈) ∷ ‵ (froom (tF erased 19) l₂₇ 0) ∷ ‵ (fdies (tF erased 19) l₂₇) ∷ ‵ (froom (tF erased 256) l₂₆ 0) ∷ ‵ (fdies (tF erased 256) l₂₆) ∷ ‵ (froom (tF erased 256) l₂₅ 0) ∷ ‵ (fdies (tF erased 256) l₂₅) ∷ ‵ (froom (tF erased 256) l₂₄ 0) ∷ ‵ (fdies (tF erased 256) l₂₄) ∷ ‵ (froom tyBool l₂₃ 0) ∷ ‵ (fdies tyBool l₂₃) ∷ ‵ (froom word l₂₂ 0) ∷ ‵ (fdies word l₂₂) ∷ ‵ (froom byte l₂₁ 0) ∷ ‵ (fdies byte l₂₁) ∷ ‵ (froom tNt l₂₀ 0) ∷ ‵ (fdies tNt l₂₀) ∷ ‵ (froom byte l₁₉ 0) ∷ ‵ (fdies byte l₁₉) ∷ ‵ (froom tKt l₁₈ 0) ∷ ‵ (fdies tKt l₁₈) ∷ ‵ (fat fullShare tSt l₁₇ 0 (machS h)) ∷ ‵ (fdies tSt l₁₇) ∷ ‵ (fat fullShare half l₁₆ 0 (vint w16 key)) ∷ ‵ (fdies half l₁₆) ∷ ‵ (fat fullShare word l₁₅ 0 (vint w64 i)) ∷ ‵ (fdies word l₁₅) ∷ ‵ (fat fullShare tyBool l₁₄ 0 (vbool enc)) ∷ ‵ (fdies tyBool l₁₄) ∷ ‵ (froom tBt l₁₃ 0) ∷ ‵ (fdies tBt l₁₃) ∷ ‵ (fat fullShare (sliceTy (tS (named 8))) l₁₂ 0 (sliceVal (bstems, ostems) mstems)) ∷ ‵ (fdies (sliceTy (tS (named 8))) l₁₂) ∷ ‵ (fat fullShare (sliceTy (tU (named 7))) l₁₁ 0 (sliceVal (bcmds, ocmds) mcmds)) ∷ ‵ (fdies (sliceTy (tU (named 7))) l₁₁) ∷ ‵ (fat fullShare (tA (named 6)) l₁₀ 0 (vptr bacross oacross)) ∷ ‵ (fdies (tA (named 6)) l₁₀) ∷ ‵ (fat fullShare (tF (named 5) 1024) l₉ 0 (vptr bedges oedges)) ∷ ‵ (fdies (tF (named 5) 1024) l₉) ∷ ‵ (fat fullShare (tF (named 4) 19) l₈ 0 (vptr bcells ocells)) ∷ ‵ (fdies (tF (named 4) 19) l₈) ∷ ‵ (fat fullShare (tF (named 3) 256) l₇ 0 (vptr bps ops)) ∷ ‵ (fdies (tF (named 3) 256) l₇) ∷ ‵ (fat fullShare (tF (named 2) 256) l₆ 0 (vptr bops oops)) ∷ ‵ (fdies (tF (named 2) 256) l₆) ∷ ‵ (fat fullShare tSt l₅ 0 (machS st)) ∷ ‵ (fdies tSt l₅) ∷ ‵ (fat fullShare word l₄ 0 (vint w64 levels)) ∷ ‵ (fdies word l₄) ∷ ‵ (fat fullShare word l₃ 0 (vint w64 iv)) ∷ ‵ (fdies word l₃) ∷ ‵ (fat fullShare (sliceTy (tB (named 1))) l₂ 0 (sliceVal (xbank .ptr) (length (xbank .now)))) ∷ ‵ (fdies (sliceTy (tB (named 1))) l₂) ∷ ‵ (fat fullShare (sliceTy (tB (named 0))) l₁ 0 (sliceVal (xcode .ptr) (length (xcode .now)))) ∷ ‵ (fdies (sliceTy (tB (named 0))) l₁) ∷ ‵ (froom tNt l₀ 0) ∷ ‵ (fdies tNt l₀) ∷ []
+    abbrev At : ℕ → ℕ → Bool → St → (List Float) → (List Float) → (List Float) → (List Float) → (List Bool) → (List ℕ) → (List Stem) → (l₀ l₁ l₂ l₃ l₄ l₅ l₆ l₇ l₈ l₉ l₁₀ l₁₁ l₁₂ l₁₃ l₁₄ l₁₅ l₁₆ l₁₇ l₁₈ l₁₉ l₂₀ l₂₁ l₂₂ l₂₃ l₂₄ l₂₅ l₂₆ l₂₇ l₂₈ l₂₉ l₃₀ l₃₁ l₃₂ l₃₃ l₃₄ l₃₅ : ℕ) → List (Item 𝓤)
+    At i key enc h os qs cs es ks ms zs l₀ l₁ l₂ l₃ l₄ l₅ l₆ l₇ l₈ l₉ l₁₀ l₁₁ l₁₂ l₁₃ l₁₄ l₁₅ l₁₆ l₁₇ l₁₈ l₁₉ l₂₀ l₂₁ l₂₂ l₂₃ l₂₄ l₂₅ l₂₆ l₂₇ l₂₈ l₂₉ l₃₀ l₃₁ l₃₂ l₃₃ l₃₄ l₃₅ = ‵ (ShrSlice (named 0) κcode u8 .own xcode (sliceVal (xcode .ptr) (length (xcode .now)) ∷ [])) ∷ ‵ (flft κcode qcode) ∷ ‵ (ShrSlice (named 0) κbank u8 .own xbank (sliceVal (xbank .ptr) (length (xbank .now)) ∷ [])) ∷ ‵ (flft κbank qbank) ∷ ‵ (OwnR (Array f64 256) bops oops κops γops os) ∷ ‵ (flft κops qops) ∷ ‵ (OwnR (Array f64 256) bps ops κps γps qs) ∷ ‵ (flft κps qps) ∷ ‵ (OwnR (Array f64 19) bcells ocells κcells γcells cs) ∷ ‵ (flft κcells qcells) ∷ ‵ (OwnR (Array f64 1024) bedges oedges κedges γedges es) ∷ ‵ (flft κedges qedges) ∷ ‵ (OwnR (Array bool 512) bacross oacross κacross γacross ks) ∷ ‵ (flft κacross qacross) ∷ ‵ (Own u64 mcmds bcmds ocmds κcmds γcmds ms) ∷ ‵ (flft κcmds qcmds) ∷ ‵ (Own T.the-row mstems bstems ostems κstems γstems zs) ∷ ‵ (flft κstems qstems) ∷ ‵ (froom (sliceTy (tS erased)) l₃₅ 0) ∷ ‵ (fdies (sliceTy (tS erased)) l₃₅) ∷ ‵ (froom (tS erased) l₃₄ 0) ∷ ‵ (fdies (tS erased) l₃₄) ∷ ‵ (froom (sliceTy (tU erased)) l₃₃ 0) ∷ ‵ (fdies (sliceTy (tU erased)) l₃₃) ∷ ‵ (froom (tU erased) l₃₂ 0) ∷ ‵ (fdies (tU erased) l₃₂) ∷ ‵ (froom (tA erased) l₃₁ 0) ∷ ‵ (fdies (tA erased) l₃₁) ∷ ‵ (froom (tF erased 1024) l₃₀ 0) ∷ ‵ (fdies (tF erased 1024) l₃₀) ∷ ‵ (froom (tF erased 19) l₂₉ 0) ∷ ‵ (fdies (tF erased 19) l₂₉) ∷ ‵ (froom (tF erased 256) l₂₈ 0) ∷ ‵ (fdies (tF erased 256) l₂₈) ∷ ‵ (froom (tF erased 256) l₂₇ 0) ∷ ‵ (fdies (tF erased 256) l₂₇) ∷ ‵ (froom (sliceTy (tU erased)) l₂₆ 0) ∷ ‵ (fdies (sliceTy (tU erased)) l₂₆) ∷ ‵ (froom (tU erased) l₂₅ 0) ∷ ‵ (fdies (tU erased) l₂₅) ∷ ‵ (froom (tF erased 256) l₂₄ 0) ∷ ‵ (fdies (tF erased 256) l₂₄) ∷ ‵ (froom tyBool l₂₃ 0) ∷ ‵ (fdies tyBool l₂₃) ∷ ‵ (froom word l₂₂ 0) ∷ ‵ (fdies word l₂₂) ∷ ‵ (froom byte l₂₁ 0) ∷ ‵ (fdies byte l₂₁) ∷ ‵ (froom tNt l₂₀ 0) ∷ ‵ (fdies tNt l₂₀) ∷ ‵ (froom byte l₁₉ 0) ∷ ‵ (fdies byte l₁₉) ∷ ‵ (froom tKt l₁₈ 0) ∷ ‵ (fdies tKt l₁₈) ∷ ‵ (fat fullShare tSt l₁₇ 0 (machS h)) ∷ ‵ (fdies tSt l₁₇) ∷ ‵ (fat fullShare half l₁₆ 0 (vint w16 key)) ∷ ‵ (fdies half l₁₆) ∷ ‵ (fat fullShare word l₁₅ 0 (vint w64 i)) ∷ ‵ (fdies word l₁₅) ∷ ‵ (fat fullShare tyBool l₁₄ 0 (vbool enc)) ∷ ‵ (fdies tyBool l₁₄) ∷ ‵ (froom tBt l₁₃ 0) ∷ ‵ (fdies tBt l₁₃) ∷ ‵ (fat fullShare (sliceTy (tS (named 8))) l₁₂ 0 (sliceVal (bstems, ostems) mstems)) ∷ ‵ (fdies (sliceTy (tS (named 8))) l₁₂) ∷ ‵ (fat fullShare (sliceTy (tU (named 7))) l₁₁ 0 (sliceVal (bcmds, ocmds) mcmds)) ∷ ‵ (fdies (sliceTy (tU (named 7))) l₁₁) ∷ ‵ (fat fullShare (tA (named 6)) l₁₀ 0 (vptr bacross oacross)) ∷ ‵ (fdies (tA (named 6)) l₁₀) ∷ ‵ (fat fullShare (tF (named 5) 1024) l₉ 0 (vptr bedges oedges)) ∷ ‵ (fdies (tF (named 5) 1024) l₉) ∷ ‵ (fat fullShare (tF (named 4) 19) l₈ 0 (vptr bcells ocells)) ∷ ‵ (fdies (tF (named 4) 19) l₈) ∷ ‵ (fat fullShare (tF (named 3) 256) l₇ 0 (vptr bps ops)) ∷ ‵ (fdies (tF (named 3) 256) l₇) ∷ ‵ (fat fullShare (tF (named 2) 256) l₆ 0 (vptr bops oops)) ∷ ‵ (fdies (tF (named 2) 256) l₆) ∷ ‵ (fat fullShare tSt l₅ 0 (machS st)) ∷ ‵ (fdies tSt l₅) ∷ ‵ (fat fullShare word l₄ 0 (vint w64 levels)) ∷ ‵ (fdies word l₄) ∷ ‵ (fat fullShare word l₃ 0 (vint w64 iv)) ∷ ‵ (fdies word l₃) ∷ ‵ (fat fullShare (sliceTy (tB (named 1))) l₂ 0 (sliceVal (xbank .ptr) (length (xbank .now)))) ∷ ‵ (fdies (sliceTy (tB (named 1))) l₂) ∷ ‵ (fat fullShare (sliceTy (tB (named 0))) l₁ 0 (sliceVal (xcode .ptr) (length (xcode .now)))) ∷ ‵ (fdies (sliceTy (tB (named 0))) l₁) ∷ ‵ (froom tNt l₀ 0) ∷ ‵ (fdies tNt l₀) ∷ []
 
     -- what holds there
     abbrev Held : ℕ → ℕ → Bool → St → (List Float) → (List Float) → (List Float) → (List Float) → (List Bool) → (List ℕ) → (List Stem) → Type 0
     Held i key enc h os qs cs es ks ms zs = (i < 2 ^ 64) × ((key < 2 ^ 16) × (Is S.the-row h (machS h ∷ []) × ((length ms ≡ mcmds) × ((length zs ≡ mstems) × ((Bytes (xcode .now) × Bytes (xbank .now)) × Onward (xbank .now) iv levels (xcode .now) enc st (memOf ysops ysps yscells ysedges ysacross yscmds ysstems) i key h (memOf os qs cs es ks ms zs))))))
 
-    module _ (l₀ l₁ l₂ l₃ l₄ l₅ l₆ l₇ l₈ l₉ l₁₀ l₁₁ l₁₂ l₁₃ l₁₄ l₁₅ l₁₆ l₁₇ l₁₈ l₁₉ l₂₀ l₂₁ l₂₂ l₂₃ l₂₄ l₂₅ l₂₆ l₂₇ l₂₈ l₂₉ l₃₀ l₃₁ l₃₂ l₃₃ : ℕ) where
+    module _ (l₀ l₁ l₂ l₃ l₄ l₅ l₆ l₇ l₈ l₉ l₁₀ l₁₁ l₁₂ l₁₃ l₁₄ l₁₅ l₁₆ l₁₇ l₁₈ l₁₉ l₂₀ l₂₁ l₂₂ l₂₃ l₂₄ l₂₅ l₂₆ l₂₇ l₂₈ l₂₉ l₃₀ l₃₁ l₃₂ l₃₃ l₃₄ l₃₅ : ℕ) where
       -- at most u turns are left
       abbrev Facts : ℕ → ℕ → ℕ → Bool → St → (List Float) → (List Float) → (List Float) → (List Float) → (List Bool) → (List ℕ) → (List Stem) → Type 0
       Facts u i key enc h os qs cs es ks ms zs = (length (xcode .now) ≤ i + u) × Held i key enc h os qs cs es ks ms zs
 
       abbrev Inv : ℕ → SProp 𝓤
-      Inv u = ex 𝓤 (λ (x : ℕ × (ℕ × (Bool × (St × (List Float × (List Float × (List Float × (List Float × (List Bool × (List ℕ × (List Stem))))))))))). guard 𝓤 (Facts u (x .0) (x .1 .0) (x .1 .1 .0) (x .1 .1 .1 .0) (x .1 .1 .1 .1 .0) (x .1 .1 .1 .1 .1 .0) (x .1 .1 .1 .1 .1 .1 .0) (x .1 .1 .1 .1 .1 .1 .1 .0) (x .1 .1 .1 .1 .1 .1 .1 .1 .0) (x .1 .1 .1 .1 .1 .1 .1 .1 .1 .0) (x .1 .1 .1 .1 .1 .1 .1 .1 .1 .1)) (⋆ 𝓤 H A (At (x .0) (x .1 .0) (x .1 .1 .0) (x .1 .1 .1 .0) (x .1 .1 .1 .1 .0) (x .1 .1 .1 .1 .1 .0) (x .1 .1 .1 .1 .1 .1 .0) (x .1 .1 .1 .1 .1 .1 .1 .0) (x .1 .1 .1 .1 .1 .1 .1 .1 .0) (x .1 .1 .1 .1 .1 .1 .1 .1 .1 .0) (x .1 .1 .1 .1 .1 .1 .1 .1 .1 .1) l₀ l₁ l₂ l₃ l₄ l₅ l₆ l₇ l₈ l₉ l₁₀ l₁₁ l₁₂ l₁₃ l₁₄ l₁₅ l₁₆ l₁₇ l₁₈ l₁₉ l₂₀ l₂₁ l₂₂ l₂₃ l₂₄ l₂₅ l₂₆ l₂₇ l₂₈ l₂₉ l₃₀ l₃₁ l₃₂ l₃₃)))
+      Inv u = ex 𝓤 (λ (x : ℕ × (ℕ × (Bool × (St × (List Float × (List Float × (List Float × (List Float × (List Bool × (List ℕ × (List Stem))))))))))). guard 𝓤 (Facts u (x .0) (x .1 .0) (x .1 .1 .0) (x .1 .1 .1 .0) (x .1 .1 .1 .1 .0) (x .1 .1 .1 .1 .1 .0) (x .1 .1 .1 .1 .1 .1 .0) (x .1 .1 .1 .1 .1 .1 .1 .0) (x .1 .1 .1 .1 .1 .1 .1 .1 .0) (x .1 .1 .1 .1 .1 .1 .1 .1 .1 .0) (x .1 .1 .1 .1 .1 .1 .1 .1 .1 .1)) (⋆ 𝓤 H A (At (x .0) (x .1 .0) (x .1 .1 .0) (x .1 .1 .1 .0) (x .1 .1 .1 .1 .0) (x .1 .1 .1 .1 .1 .0) (x .1 .1 .1 .1 .1 .1 .0) (x .1 .1 .1 .1 .1 .1 .1 .0) (x .1 .1 .1 .1 .1 .1 .1 .1 .0) (x .1 .1 .1 .1 .1 .1 .1 .1 .1 .0) (x .1 .1 .1 .1 .1 .1 .1 .1 .1 .1) l₀ l₁ l₂ l₃ l₄ l₅ l₆ l₇ l₈ l₉ l₁₀ l₁₁ l₁₂ l₁₃ l₁₄ l₁₅ l₁₆ l₁₇ l₁₈ l₁₉ l₂₀ l₂₁ l₂₂ l₂₃ l₂₄ l₂₅ l₂₆ l₂₇ l₂₈ l₂₉ l₃₀ l₃₁ l₃₂ l₃₃ l₃₄ l₃₅)))
 
       abbrev Below : ℕ → SProp 𝓤
       Below u = ex 𝓤 (λ (u′ : ℕ). guard 𝓤 (u′ < u) (Inv u′))
 
       abbrev Left : Outs → SProp 𝓤
-      Left = afterBlock 𝓤 H (afterSeq 𝓤 H (Wp 𝓤 H C Λ (En l₀ l₁ l₂ l₃ l₄ l₅ l₆ l₇ l₈ l₉ l₁₀ l₁₁ l₁₂ l₁₃ l₁₄ l₁₅ l₁₆ l₁₇ l₁₈ l₁₉ l₂₀ l₂₁ l₂₂ l₂₃ l₂₄ l₂₅ l₂₆ l₂₇ l₂₈ l₂₉ l₃₀ l₃₁ l₃₂ l₃₃) text.t-7 (atReturn 𝓤 H (En l₀ l₁ l₂ l₃ l₄ l₅ l₆ l₇ l₈ l₉ l₁₀ l₁₁ l₁₂ l₁₃ l₁₄ l₁₅ l₁₆ l₁₇ l₁₈ l₁₉ l₂₀ l₂₁ l₂₂ l₂₃ l₂₄ l₂₅ l₂₆ l₂₇ l₂₈ l₂₉ l₃₀ l₃₁ l₃₂ l₃₃) Post)) (atReturn 𝓤 H (En l₀ l₁ l₂ l₃ l₄ l₅ l₆ l₇ l₈ l₉ l₁₀ l₁₁ l₁₂ l₁₃ l₁₄ l₁₅ l₁₆ l₁₇ l₁₈ l₁₉ l₂₀ l₂₁ l₂₂ l₂₃ l₂₄ l₂₅ l₂₆ l₂₇ l₂₈ l₂₉ l₃₀ l₃₁ l₃₂ l₃₃) Post))
+      Left = afterBlock 𝓤 H (afterSeq 𝓤 H (Wp 𝓤 H C Λ (En l₀ l₁ l₂ l₃ l₄ l₅ l₆ l₇ l₈ l₉ l₁₀ l₁₁ l₁₂ l₁₃ l₁₄ l₁₅ l₁₆ l₁₇ l₁₈ l₁₉ l₂₀ l₂₁ l₂₂ l₂₃ l₂₄ l₂₅ l₂₆ l₂₇ l₂₈ l₂₉ l₃₀ l₃₁ l₃₂ l₃₃ l₃₄ l₃₅) text.t-7 (atReturn 𝓤 H (En l₀ l₁ l₂ l₃ l₄ l₅ l₆ l₇ l₈ l₉ l₁₀ l₁₁ l₁₂ l₁₃ l₁₄ l₁₅ l₁₆ l₁₇ l₁₈ l₁₉ l₂₀ l₂₁ l₂₂ l₂₃ l₂₄ l₂₅ l₂₆ l₂₇ l₂₈ l₂₉ l₃₀ l₃₁ l₃₂ l₃₃ l₃₄ l₃₅) Post)) (atReturn 𝓤 H (En l₀ l₁ l₂ l₃ l₄ l₅ l₆ l₇ l₈ l₉ l₁₀ l₁₁ l₁₂ l₁₃ l₁₄ l₁₅ l₁₆ l₁₇ l₁₈ l₁₉ l₂₀ l₂₁ l₂₂ l₂₃ l₂₄ l₂₅ l₂₆ l₂₇ l₂₈ l₂₉ l₃₀ l₃₁ l₃₂ l₃₃ l₃₄ l₃₅) Post))
 
-      enters : (u : ℕ) (i : ℕ) (key : ℕ) (enc : Bool) (h : St) (os : List Float) (qs : List Float) (cs : List Float) (es : List Float) (ks : List Bool) (ms : List ℕ) (zs : List Stem) → Facts u i key enc h os qs cs es ks ms zs → ent 𝓤 (⋆ 𝓤 H A (At i key enc h os qs cs es ks ms zs l₀ l₁ l₂ l₃ l₄ l₅ l₆ l₇ l₈ l₉ l₁₀ l₁₁ l₁₂ l₁₃ l₁₄ l₁₅ l₁₆ l₁₇ l₁₈ l₁₉ l₂₀ l₂₁ l₂₂ l₂₃ l₂₄ l₂₅ l₂₆ l₂₇ l₂₈ l₂₉ l₃₀ l₃₁ l₃₂ l₃₃)) (Inv u)
-      enters u i key enc h os qs cs es ks ms zs e = via 𝓤 (guard 𝓤 (Facts u i key enc h os qs cs es ks ms zs) (⋆ 𝓤 H A (At i key enc h os qs cs es ks ms zs l₀ l₁ l₂ l₃ l₄ l₅ l₆ l₇ l₈ l₉ l₁₀ l₁₁ l₁₂ l₁₃ l₁₄ l₁₅ l₁₆ l₁₇ l₁₈ l₁₉ l₂₀ l₂₁ l₂₂ l₂₃ l₂₄ l₂₅ l₂₆ l₂₇ l₂₈ l₂₉ l₃₀ l₃₁ l₃₂ l₃₃))) (guardI 𝓤 (Facts u i key enc h os qs cs es ks ms zs) (⋆ 𝓤 H A (At i key enc h os qs cs es ks ms zs l₀ l₁ l₂ l₃ l₄ l₅ l₆ l₇ l₈ l₉ l₁₀ l₁₁ l₁₂ l₁₃ l₁₄ l₁₅ l₁₆ l₁₇ l₁₈ l₁₉ l₂₀ l₂₁ l₂₂ l₂₃ l₂₄ l₂₅ l₂₆ l₂₇ l₂₈ l₂₉ l₃₀ l₃₁ l₃₂ l₃₃)) e)
-          (exI 𝓤 (λ (x : ℕ × (ℕ × (Bool × (St × (List Float × (List Float × (List Float × (List Float × (List Bool × (List ℕ × (List Stem))))))))))). guard 𝓤 (Facts u (x .0) (x .1 .0) (x .1 .1 .0) (x .1 .1 .1 .0) (x .1 .1 .1 .1 .0) (x .1 .1 .1 .1 .1 .0) (x .1 .1 .1 .1 .1 .1 .0) (x .1 .1 .1 .1 .1 .1 .1 .0) (x .1 .1 .1 .1 .1 .1 .1 .1 .0) (x .1 .1 .1 .1 .1 .1 .1 .1 .1 .0) (x .1 .1 .1 .1 .1 .1 .1 .1 .1 .1)) (⋆ 𝓤 H A (At (x .0) (x .1 .0) (x .1 .1 .0) (x .1 .1 .1 .0) (x .1 .1 .1 .1 .0) (x .1 .1 .1 .1 .1 .0) (x .1 .1 .1 .1 .1 .1 .0) (x .1 .1 .1 .1 .1 .1 .1 .0) (x .1 .1 .1 .1 .1 .1 .1 .1 .0) (x .1 .1 .1 .1 .1 .1 .1 .1 .1 .0) (x .1 .1 .1 .1 .1 .1 .1 .1 .1 .1) l₀ l₁ l₂ l₃ l₄ l₅ l₆ l₇ l₈ l₉ l₁₀ l₁₁ l₁₂ l₁₃ l₁₄ l₁₅ l₁₆ l₁₇ l₁₈ l₁₉ l₂₀ l₂₁ l₂₂ l₂₃ l₂₄ l₂₅ l₂₆ l₂₇ l₂₈ l₂₉ l₃₀ l₃₁ l₃₂ l₃₃))) (i, (key, (enc, (h, (os, (qs, (cs, (es, (ks, (ms, zs)))))))))))
+      enters : (u : ℕ) (i : ℕ) (key : ℕ) (enc : Bool) (h : St) (os : List Float) (qs : List Float) (cs : List Float) (es : List Float) (ks : List Bool) (ms : List ℕ) (zs : List Stem) → Facts u i key enc h os qs cs es ks ms zs → ent 𝓤 (⋆ 𝓤 H A (At i key enc h os qs cs es ks ms zs l₀ l₁ l₂ l₃ l₄ l₅ l₆ l₇ l₈ l₉ l₁₀ l₁₁ l₁₂ l₁₃ l₁₄ l₁₅ l₁₆ l₁₇ l₁₈ l₁₉ l₂₀ l₂₁ l₂₂ l₂₃ l₂₄ l₂₅ l₂₆ l₂₇ l₂₈ l₂₉ l₃₀ l₃₁ l₃₂ l₃₃ l₃₄ l₃₅)) (Inv u)
+      enters u i key enc h os qs cs es ks ms zs e = via 𝓤 (guard 𝓤 (Facts u i key enc h os qs cs es ks ms zs) (⋆ 𝓤 H A (At i key enc h os qs cs es ks ms zs l₀ l₁ l₂ l₃ l₄ l₅ l₆ l₇ l₈ l₉ l₁₀ l₁₁ l₁₂ l₁₃ l₁₄ l₁₅ l₁₆ l₁₇ l₁₈ l₁₉ l₂₀ l₂₁ l₂₂ l₂₃ l₂₄ l₂₅ l₂₆ l₂₇ l₂₈ l₂₉ l₃₀ l₃₁ l₃₂ l₃₃ l₃₄ l₃₅))) (guardI 𝓤 (Facts u i key enc h os qs cs es ks ms zs) (⋆ 𝓤 H A (At i key enc h os qs cs es ks ms zs l₀ l₁ l₂ l₃ l₄ l₅ l₆ l₇ l₈ l₉ l₁₀ l₁₁ l₁₂ l₁₃ l₁₄ l₁₅ l₁₆ l₁₇ l₁₈ l₁₉ l₂₀ l₂₁ l₂₂ l₂₃ l₂₄ l₂₅ l₂₆ l₂₇ l₂₈ l₂₉ l₃₀ l₃₁ l₃₂ l₃₃ l₃₄ l₃₅)) e)
+          (exI 𝓤 (λ (x : ℕ × (ℕ × (Bool × (St × (List Float × (List Float × (List Float × (List Float × (List Bool × (List ℕ × (List Stem))))))))))). guard 𝓤 (Facts u (x .0) (x .1 .0) (x .1 .1 .0) (x .1 .1 .1 .0) (x .1 .1 .1 .1 .0) (x .1 .1 .1 .1 .1 .0) (x .1 .1 .1 .1 .1 .1 .0) (x .1 .1 .1 .1 .1 .1 .1 .0) (x .1 .1 .1 .1 .1 .1 .1 .1 .0) (x .1 .1 .1 .1 .1 .1 .1 .1 .1 .0) (x .1 .1 .1 .1 .1 .1 .1 .1 .1 .1)) (⋆ 𝓤 H A (At (x .0) (x .1 .0) (x .1 .1 .0) (x .1 .1 .1 .0) (x .1 .1 .1 .1 .0) (x .1 .1 .1 .1 .1 .0) (x .1 .1 .1 .1 .1 .1 .0) (x .1 .1 .1 .1 .1 .1 .1 .0) (x .1 .1 .1 .1 .1 .1 .1 .1 .0) (x .1 .1 .1 .1 .1 .1 .1 .1 .1 .0) (x .1 .1 .1 .1 .1 .1 .1 .1 .1 .1) l₀ l₁ l₂ l₃ l₄ l₅ l₆ l₇ l₈ l₉ l₁₀ l₁₁ l₁₂ l₁₃ l₁₄ l₁₅ l₁₆ l₁₇ l₁₈ l₁₉ l₂₀ l₂₁ l₂₂ l₂₃ l₂₄ l₂₅ l₂₆ l₂₇ l₂₈ l₂₉ l₃₀ l₃₁ l₃₂ l₃₃ l₃₄ l₃₅))) (i, (key, (enc, (h, (os, (qs, (cs, (es, (ks, (ms, zs)))))))))))
 
-    more : (X : SProp 𝓤) (i : ℕ) (key : ℕ) (enc : Bool) (h : St) (os : List Float) (qs : List Float) (cs : List Float) (es : List Float) (ks : List Bool) (ms : List ℕ) (zs : List Stem) → i < length (xcode .now) → (held : Held i key enc h os qs cs es ks ms zs) (l₀ l₁ l₂ l₃ l₄ l₅ l₆ l₇ l₈ l₉ l₁₀ l₁₁ l₁₂ l₁₃ l₁₄ l₁₅ l₁₆ l₁₇ l₁₈ l₁₉ l₂₀ l₂₁ l₂₂ l₂₃ l₂₄ l₂₅ l₂₆ l₂₇ l₂₈ l₂₉ l₃₀ l₃₁ l₃₂ l₃₃ : ℕ)
-        → ((i′ : ℕ) (key′ : ℕ) (enc′ : Bool) (h′ : St) (os′ : List Float) (qs′ : List Float) (cs′ : List Float) (es′ : List Float) (ks′ : List Bool) (ms′ : List ℕ) (zs′ : List Stem) → i < i′ → Held i′ key′ enc′ h′ os′ qs′ cs′ es′ ks′ ms′ zs′ → ent 𝓤 (⋆ 𝓤 H A (At i′ key′ enc′ h′ os′ qs′ cs′ es′ ks′ ms′ zs′ l₀ l₁ l₂ l₃ l₄ l₅ l₆ l₇ l₈ l₉ l₁₀ l₁₁ l₁₂ l₁₃ l₁₄ l₁₅ l₁₆ l₁₇ l₁₈ l₁₉ l₂₀ l₂₁ l₂₂ l₂₃ l₂₄ l₂₅ l₂₆ l₂₇ l₂₈ l₂₉ l₃₀ l₃₁ l₃₂ l₃₃)) X)
-        → ent 𝓤 (⋆ 𝓤 H A (At i key enc h os qs cs es ks ms zs l₀ l₁ l₂ l₃ l₄ l₅ l₆ l₇ l₈ l₉ l₁₀ l₁₁ l₁₂ l₁₃ l₁₄ l₁₅ l₁₆ l₁₇ l₁₈ l₁₉ l₂₀ l₂₁ l₂₂ l₂₃ l₂₄ l₂₅ l₂₆ l₂₇ l₂₈ l₂₉ l₃₀ l₃₁ l₃₂ l₃₃)) (Wp 𝓤 H C Λ (En l₀ l₁ l₂ l₃ l₄ l₅ l₆ l₇ l₈ l₉ l₁₀ l₁₁ l₁₂ l₁₃ l₁₄ l₁₅ l₁₆ l₁₇ l₁₈ l₁₉ l₂₀ l₂₁ l₂₂ l₂₃ l₂₄ l₂₅ l₂₆ l₂₇ l₂₈ l₂₉ l₃₀ l₃₁ l₃₂ l₃₃) text.turn-1 (afterTurn 𝓤 H X (Left l₀ l₁ l₂ l₃ l₄ l₅ l₆ l₇ l₈ l₉ l₁₀ l₁₁ l₁₂ l₁₃ l₁₄ l₁₅ l₁₆ l₁₇ l₁₈ l₁₉ l₂₀ l₂₁ l₂₂ l₂₃ l₂₄ l₂₅ l₂₆ l₂₇ l₂₈ l₂₉ l₃₀ l₃₁ l₃₂ l₃₃)))
+    more : (X : SProp 𝓤) (i : ℕ) (key : ℕ) (enc : Bool) (h : St) (os : List Float) (qs : List Float) (cs : List Float) (es : List Float) (ks : List Bool) (ms : List ℕ) (zs : List Stem) → i < length (xcode .now) → (held : Held i key enc h os qs cs es ks ms zs) (l₀ l₁ l₂ l₃ l₄ l₅ l₆ l₇ l₈ l₉ l₁₀ l₁₁ l₁₂ l₁₃ l₁₄ l₁₅ l₁₆ l₁₇ l₁₈ l₁₉ l₂₀ l₂₁ l₂₂ l₂₃ l₂₄ l₂₅ l₂₆ l₂₇ l₂₈ l₂₉ l₃₀ l₃₁ l₃₂ l₃₃ l₃₄ l₃₅ : ℕ)
+        → ((i′ : ℕ) (key′ : ℕ) (enc′ : Bool) (h′ : St) (os′ : List Float) (qs′ : List Float) (cs′ : List Float) (es′ : List Float) (ks′ : List Bool) (ms′ : List ℕ) (zs′ : List Stem) → i < i′ → Held i′ key′ enc′ h′ os′ qs′ cs′ es′ ks′ ms′ zs′ → ent 𝓤 (⋆ 𝓤 H A (At i′ key′ enc′ h′ os′ qs′ cs′ es′ ks′ ms′ zs′ l₀ l₁ l₂ l₃ l₄ l₅ l₆ l₇ l₈ l₉ l₁₀ l₁₁ l₁₂ l₁₃ l₁₄ l₁₅ l₁₆ l₁₇ l₁₈ l₁₉ l₂₀ l₂₁ l₂₂ l₂₃ l₂₄ l₂₅ l₂₆ l₂₇ l₂₈ l₂₉ l₃₀ l₃₁ l₃₂ l₃₃ l₃₄ l₃₅)) X)
+        → ent 𝓤 (⋆ 𝓤 H A (At i key enc h os qs cs es ks ms zs l₀ l₁ l₂ l₃ l₄ l₅ l₆ l₇ l₈ l₉ l₁₀ l₁₁ l₁₂ l₁₃ l₁₄ l₁₅ l₁₆ l₁₇ l₁₈ l₁₉ l₂₀ l₂₁ l₂₂ l₂₃ l₂₄ l₂₅ l₂₆ l₂₇ l₂₈ l₂₉ l₃₀ l₃₁ l₃₂ l₃₃ l₃₄ l₃₅)) (Wp 𝓤 H C Λ (En l₀ l₁ l₂ l₃ l₄ l₅ l₆ l₇ l₈ l₉ l₁₀ l₁₁ l₁₂ l₁₃ l₁₄ l₁₅ l₁₆ l₁₇ l₁₈ l₁₉ l₂₀ l₂₁ l₂₂ l₂₃ l₂₄ l₂₅ l₂₆ l₂₇ l₂₈ l₂₉ l₃₀ l₃₁ l₃₂ l₃₃ l₃₄ l₃₅) text.turn-1 (afterTurn 𝓤 H X (Left l₀ l₁ l₂ l₃ l₄ l₅ l₆ l₇ l₈ l₉ l₁₀ l₁₁ l₁₂ l₁₃ l₁₄ l₁₅ l₁₆ l₁₇ l₁₈ l₁₉ l₂₀ l₂₁ l₂₂ l₂₃ l₂₄ l₂₅ l₂₆ l₂₇ l₂₈ l₂₉ l₃₀ l₃₁ l₃₂ l₃₃ l₃₄ l₃₅)))
     unfolding afterTurn
-    more X i key enc h os qs cs es ks ms zs small held l₀ l₁ l₂ l₃ l₄ l₅ l₆ l₇ l₈ l₉ l₁₀ l₁₁ l₁₂ l₁₃ l₁₄ l₁₅ l₁₆ l₁₇ l₁₈ l₁₉ l₂₀ l₂₁ l₂₂ l₂₃ l₂₄ l₂₅ l₂₆ l₂₇ l₂₈ l₂₉ l₃₀ l₃₁ l₃₂ l₃₃ go =
-        qed W (At i key enc h os qs cs es ks ms zs l₀ l₁ l₂ l₃ l₄ l₅ l₆ l₇ l₈ l₉ l₁₀ l₁₁ l₁₂ l₁₃ l₁₄ l₁₅ l₁₆ l₁₇ l₁₈ l₁₉ l₂₀ l₂₁ l₂₂ l₂₃ l₂₄ l₂₅ l₂₆ l₂₇ l₂₈ l₂₉ l₃₀ l₃₁ l₃₂ l₃₃) ∵ exec ! C Λ (En l₀ l₁ l₂ l₃ l₄ l₅ l₆ l₇ l₈ l₉ l₁₀ l₁₁ l₁₂ l₁₃ l₁₄ l₁₅ l₁₆ l₁₇ l₁₈ l₁₉ l₂₀ l₂₁ l₂₂ l₂₃ l₂₄ l₂₅ l₂₆ l₂₇ l₂₈ l₂₉ l₃₀ l₃₁ l₃₂ l₃₃) text.turn-1 (anyQ (afterTurn 𝓤 H X (Left l₀ l₁ l₂ l₃ l₄ l₅ l₆ l₇ l₈ l₉ l₁₀ l₁₁ l₁₂ l₁₃ l₁₄ l₁₅ l₁₆ l₁₇ l₁₈ l₁₉ l₂₀ l₂₁ l₂₂ l₂₃ l₂₄ l₂₅ l₂₆ l₂₇ l₂₈ l₂₉ l₃₀ l₃₁ l₃₂ l₃₃))) $
-        assigns ! (of-opd ! (load ! (from ! (fld ! refl (stop !))) (look-in ! 82 (sub ! 1 refl (whole !))))) (from ! (stop !)) (init ! 40 refl (tt, record { fits = fitcode .0 })) $
-        assigns ! (bin ! (load ! (from ! (stop !)) (look ! 54 refl)) (load ! (from ! (stop !)) (look ! 40 refl)) tt) (from ! (stop !)) (init ! 38 refl (tt, tt)) $ rewrite ! 38 (λ (t : Bool). ‵ (fat fullShare tyBool l₂₃ 0 (vbool t))) (so-is (ltb i (length (xcode .now))) (lt→ltb i (length (xcode .now)) small)) refl $ stays ! (load ! (from ! (stop !)) (look ! 38 refl)) $
-        assigns ! (addr ! (from ! (hop ! (look ! 72 refl) (stop !)))) (from ! (stop !)) (init ! 36 refl (tt, tt)) $
+    more X i key enc h os qs cs es ks ms zs small held l₀ l₁ l₂ l₃ l₄ l₅ l₆ l₇ l₈ l₉ l₁₀ l₁₁ l₁₂ l₁₃ l₁₄ l₁₅ l₁₆ l₁₇ l₁₈ l₁₉ l₂₀ l₂₁ l₂₂ l₂₃ l₂₄ l₂₅ l₂₆ l₂₇ l₂₈ l₂₉ l₃₀ l₃₁ l₃₂ l₃₃ l₃₄ l₃₅ go =
+        qed W (At i key enc h os qs cs es ks ms zs l₀ l₁ l₂ l₃ l₄ l₅ l₆ l₇ l₈ l₉ l₁₀ l₁₁ l₁₂ l₁₃ l₁₄ l₁₅ l₁₆ l₁₇ l₁₈ l₁₉ l₂₀ l₂₁ l₂₂ l₂₃ l₂₄ l₂₅ l₂₆ l₂₇ l₂₈ l₂₉ l₃₀ l₃₁ l₃₂ l₃₃ l₃₄ l₃₅) ∵ exec ! C Λ (En l₀ l₁ l₂ l₃ l₄ l₅ l₆ l₇ l₈ l₉ l₁₀ l₁₁ l₁₂ l₁₃ l₁₄ l₁₅ l₁₆ l₁₇ l₁₈ l₁₉ l₂₀ l₂₁ l₂₂ l₂₃ l₂₄ l₂₅ l₂₆ l₂₇ l₂₈ l₂₉ l₃₀ l₃₁ l₃₂ l₃₃ l₃₄ l₃₅) text.turn-1 (anyQ (afterTurn 𝓤 H X (Left l₀ l₁ l₂ l₃ l₄ l₅ l₆ l₇ l₈ l₉ l₁₀ l₁₁ l₁₂ l₁₃ l₁₄ l₁₅ l₁₆ l₁₇ l₁₈ l₁₉ l₂₀ l₂₁ l₂₂ l₂₃ l₂₄ l₂₅ l₂₆ l₂₇ l₂₈ l₂₉ l₃₀ l₃₁ l₃₂ l₃₃ l₃₄ l₃₅))) $
+        assigns ! (of-opd ! (load ! (from ! (fld ! refl (stop !))) (look-in ! 86 (sub ! 1 refl (whole !))))) (from ! (stop !)) (init ! 44 refl (tt, record { fits = fitcode .0 })) $
+        assigns ! (bin ! (load ! (from ! (stop !)) (look ! 58 refl)) (load ! (from ! (stop !)) (look ! 44 refl)) tt) (from ! (stop !)) (init ! 42 refl (tt, tt)) $ rewrite ! 42 (λ (t : Bool). ‵ (fat fullShare tyBool l₂₃ 0 (vbool t))) (so-is (ltb i (length (xcode .now))) (lt→ltb i (length (xcode .now)) small)) refl $ stays ! (load ! (from ! (stop !)) (look ! 42 refl)) $
+        assigns ! (addr ! (from ! (hop ! (look ! 76 refl) (stop !)))) (from ! (stop !)) (init ! 40 refl (tt, tt)) $
+        assigns ! (addr ! (from ! (fld ! refl (hop ! (look-in ! 66 (sub ! 0 refl (whole !))) (stop !))))) (from ! (stop !)) (init ! 38 refl (tt, tt)) $
+        assigns ! (agg ! (and-then ! (load ! (from ! (stop !)) (look ! 38 refl)) (and-then ! (load ! (from ! (fld ! refl (stop !))) (look-in ! 66 (sub ! 1 refl (whole !)))) (no-more !)))) (from ! (stop !)) (init ! 36 refl (tt, (tt, (record { fits = fitcmds .0 }, tt)))) $
         -- `token`
-        use1 W (‵ (ShrSlice (named 0) κcode u8 .own xcode (sliceVal (xcode .ptr) (length (xcode .now)) ∷ [])) ⊛ ‵ (ShrSlice (named 0) κcode u8 .own xcode (sliceVal (xcode .ptr) (length (xcode .now)) ∷ []))) (shr-slice-copy 𝓤 H A W (named 0) κcode u8 .twice xcode (sliceVal (xcode .ptr) (length (xcode .now)) ∷ [])) $ split ! $ move ! (2 ∷ 1 ∷ []) $ join ! $ move ! (4 ∷ 5 ∷ []) $ lend-ref ! tt (Array f64 256) bops oops os (λ νops1 δops1. move ! (2 ∷ 0 ∷ []) $ join ! $ asks-all ! fm K.the-row (Is K.the-row) (shows 𝓤 H A K.the-row) (Unit {0} × (Unit {0} × (Unit {0} × (Unit {0} × (Unit {0} × (List Float × Unit {0})))))) (λ (r : K.the-row .Denot) (lasts : (Unit {0} × (Unit {0} × (Unit {0} × (Unit {0} × (Unit {0} × (List Float × Unit {0}))))))). Reads (xcode .now) i key enc h os r (lasts .1 .1 .1 .1 .1 .0)) (λ (lasts : (Unit {0} × (Unit {0} × (Unit {0} × (Unit {0} × (Unit {0} × (List Float × Unit {0}))))))). (fsep ftrue (fsep ftrue (fsep ftrue (fsep ftrue (fsep ftrue (fsep (fres δops1 ((Array f64 256) .coded .code (lasts .1 .1 .1 .1 .1 .0))) ftrue))))))) (‵ (flft κcode qcode) ⊛ (‵ (flft (νops1 ∷ []) fullShare) ⊛ ‵ ftrue)) ((‵ (flft κcode qcode) ⊛ ‵ (ShrSlice (named 0) κcode u8 .own xcode (sliceVal (xcode .ptr) (length (xcode .now)) ∷ []))) ⊛ (‵ (flft (νops1 ∷ []) fullShare) ⊛ ‵ (OwnR (Array f64 256) bops oops (νops1 ∷ []) δops1 os))) (sliceVal (xcode .ptr) (length (xcode .now)) ∷ vint w64 i ∷ vint w16 key ∷ vbool enc ∷ machS h ∷ vptr bops oops ∷ []) (token-as 𝓤 H A mem run′ W C known-token κcode qcode xcode (νops1 ∷ []) fullShare bops oops δops1 os (i) (key) (enc) (h) (held .0) (held .1 .0) (held .1 .1 .0) (small, (held .1 .1 .1 .1 .1 .1) .ready .fit .bounds .operands)) (and-then ! (load ! (from ! (stop !)) (look ! 81 refl)) (and-then ! (load ! (from ! (stop !)) (look ! 53 refl)) (and-then ! (load ! (from ! (stop !)) (look ! 51 refl)) (and-then ! (load ! (from ! (stop !)) (look ! 55 refl)) (and-then ! (load ! (from ! (stop !)) (look ! 49 refl)) (and-then ! (load ! (from ! (stop !)) (look ! 35 refl)) (no-more !))))))) (λ w1 r1 zs1 e1 is1. land ! (from ! (stop !)) (init ! 49 refl (typedK 𝓤 H A W r1 _ is1)) $ rewrite ! 49 (λ (u : Val). ‵ (fat fullShare tKt l₁₈ 0 u)) (ap only (LL.tells K.the-type K′.the-laws r1 (w1 ∷ []) is1)) refl $ drop ! $ split ! $ move ! (1 ∷ []) $ split ! $ move ! (1 ∷ []) $ drop ! $ move ! (2 ∷ []) $ fsplit ! $ drop ! $ fsplit ! $ drop ! $ fsplit ! $ drop ! $ fsplit ! $ drop ! $ fsplit ! $ drop ! $ fsplit ! $ move ! (1 ∷ []) $ drop ! $
-        move ! (1 ∷ 3 ∷ 0 ∷ []) $ returned-ref ! tt (Array f64 256) bops oops νops1 δops1 os (zs1 .1 .1 .1 .1 .1 .0) (
-        assigns ! (of-opd ! (load ! (from ! (fld ! refl (stop !))) (look-in ! 48 (sub ! 0 refl (whole !))))) (from ! (stop !)) (store ! 50 refl (typedS 𝓤 H A W (r1 .st) _ ((LL.owed K.the-type K′.the-laws r1 (w1 ∷ []) is1) .0))) $
-        assigns ! (of-opd ! (load ! (from ! (fld ! refl (stop !))) (look-in ! 48 (sub ! 3 refl (whole !))))) (from ! (stop !)) (init ! 46 refl (tt, record { fits = (LL.owed K.the-type K′.the-laws r1 (w1 ∷ []) is1) .1 .1 .1 .0 .1 })) $
-        assigns ! (bin ! (load ! (from ! (stop !)) (look ! 46 refl)) (lit ! tt) tt) (from ! (stop !)) (store ! 38 refl (tt, tt)) $
-        guards ! (load ! (from ! (stop !)) (look ! 38 refl))
+        use1 W (‵ (ShrSlice (named 0) κcode u8 .own xcode (sliceVal (xcode .ptr) (length (xcode .now)) ∷ [])) ⊛ ‵ (ShrSlice (named 0) κcode u8 .own xcode (sliceVal (xcode .ptr) (length (xcode .now)) ∷ []))) (shr-slice-copy 𝓤 H A W (named 0) κcode u8 .twice xcode (sliceVal (xcode .ptr) (length (xcode .now)) ∷ [])) $ split ! $ move ! (2 ∷ 1 ∷ []) $ join ! $ move ! (4 ∷ 5 ∷ []) $ lend-ref ! tt (Array f64 256) bops oops os (λ νops1 δops1. move ! (14 ∷ 15 ∷ []) $ lend ! tt u64 mcmds bcmds ocmds ms (held .1 .1 .1 .0) (λ νcmds1 δcmds1. move ! (2 ∷ 0 ∷ []) $ join ! $ move ! (3 ∷ 0 ∷ []) $ join ! $ asks-all ! fm K.the-row (Is K.the-row) (shows 𝓤 H A K.the-row) (Unit {0} × (Unit {0} × (Unit {0} × (Unit {0} × (Unit {0} × (List Float × (List ℕ × Unit {0}))))))) (λ (r : K.the-row .Denot) (lasts : (Unit {0} × (Unit {0} × (Unit {0} × (Unit {0} × (Unit {0} × (List Float × (List ℕ × Unit {0})))))))). Reads (xcode .now) i key enc h os ms r (lasts .1 .1 .1 .1 .1 .0) (lasts .1 .1 .1 .1 .1 .1 .0)) (λ (lasts : (Unit {0} × (Unit {0} × (Unit {0} × (Unit {0} × (Unit {0} × (List Float × (List ℕ × Unit {0})))))))). (fsep ftrue (fsep ftrue (fsep ftrue (fsep ftrue (fsep ftrue (fsep (fres δops1 ((Array f64 256) .coded .code (lasts .1 .1 .1 .1 .1 .0))) (fsep (fsep (finally u64 δcmds1 (lasts .1 .1 .1 .1 .1 .1 .0)) (feq ℕ (length (lasts .1 .1 .1 .1 .1 .1 .0)) (length ms))) ftrue)))))))) (‵ (flft κcode qcode) ⊛ (‵ (flft (νops1 ∷ []) fullShare) ⊛ (‵ (flft (νcmds1 ∷ []) fullShare) ⊛ ‵ ftrue))) ((‵ (flft κcode qcode) ⊛ ‵ (ShrSlice (named 0) κcode u8 .own xcode (sliceVal (xcode .ptr) (length (xcode .now)) ∷ []))) ⊛ ((‵ (flft (νops1 ∷ []) fullShare) ⊛ ‵ (OwnR (Array f64 256) bops oops (νops1 ∷ []) δops1 os)) ⊛ (‵ (flft (νcmds1 ∷ []) fullShare) ⊛ ‵ (Own u64 mcmds bcmds ocmds (νcmds1 ∷ []) δcmds1 ms)))) (sliceVal (xcode .ptr) (length (xcode .now)) ∷ vint w64 i ∷ vint w16 key ∷ vbool enc ∷ machS h ∷ vptr bops oops ∷ sliceVal (bcmds, ocmds) mcmds ∷ []) (token-as 𝓤 H A mem run′ W C known-token κcode qcode xcode (νops1 ∷ []) fullShare bops oops δops1 os (νcmds1 ∷ []) fullShare mcmds bcmds ocmds δcmds1 ms (i) (key) (enc) (h) (held .0) (held .1 .0) (held .1 .1 .0) (small, ((held .1 .1 .1 .1 .1 .1) .ready .fit .bounds .operands, (held .1 .1 .1 .1 .1 .1) .ready .fit .bounds .entries))) (and-then ! (load ! (from ! (stop !)) (look ! 84 refl)) (and-then ! (load ! (from ! (stop !)) (look ! 56 refl)) (and-then ! (load ! (from ! (stop !)) (look ! 54 refl)) (and-then ! (load ! (from ! (stop !)) (look ! 58 refl)) (and-then ! (load ! (from ! (stop !)) (look ! 52 refl)) (and-then ! (load ! (from ! (stop !)) (look ! 38 refl)) (and-then ! (load ! (from ! (stop !)) (look ! 34 refl)) (no-more !)))))))) (λ w1 r1 zs1 e1 is1. land ! (from ! (stop !)) (init ! 52 refl (typedK 𝓤 H A W r1 _ is1)) $ rewrite ! 52 (λ (u : Val). ‵ (fat fullShare tKt l₁₈ 0 u)) (ap only (LL.tells K.the-type K′.the-laws r1 (w1 ∷ []) is1)) refl $ drop ! $ split ! $ move ! (1 ∷ []) $ split ! $ move ! (1 ∷ []) $ split ! $ move ! (1 ∷ []) $ drop ! $ move ! (3 ∷ []) $ fsplit ! $ drop ! $ fsplit ! $ drop ! $ fsplit ! $ drop ! $ fsplit ! $ drop ! $ fsplit ! $ drop ! $ fsplit ! $ move ! (1 ∷ []) $ fsplit ! $ fsplit ! $ move ! (1 ∷ []) $ feqL ! (λ lcmds1. move ! (1 ∷ []) $ drop ! $
+        move ! (3 ∷ 6 ∷ 1 ∷ []) $ returned-ref ! tt (Array f64 256) bops oops νops1 δops1 os (zs1 .1 .1 .1 .1 .1 .0) (move ! (3 ∷ 5 ∷ 2 ∷ []) $ returned ! tt u64 mcmds bcmds ocmds νcmds1 δcmds1 ms (zs1 .1 .1 .1 .1 .1 .1 .0) (held .1 .1 .1 .0) lcmds1 fitcmds (
+        assigns ! (of-opd ! (load ! (from ! (fld ! refl (stop !))) (look-in ! 52 (sub ! 0 refl (whole !))))) (from ! (stop !)) (store ! 54 refl (typedS 𝓤 H A W (r1 .st) _ ((LL.owed K.the-type K′.the-laws r1 (w1 ∷ []) is1) .0))) $
+        assigns ! (of-opd ! (load ! (from ! (fld ! refl (stop !))) (look-in ! 52 (sub ! 3 refl (whole !))))) (from ! (stop !)) (init ! 50 refl (tt, record { fits = (LL.owed K.the-type K′.the-laws r1 (w1 ∷ []) is1) .1 .1 .1 .0 .1 })) $
+        assigns ! (bin ! (load ! (from ! (stop !)) (look ! 50 refl)) (lit ! tt) tt) (from ! (stop !)) (store ! 42 refl (tt, tt)) $
+        guards ! (load ! (from ! (stop !)) (look ! 42 refl))
         (λ off.
         -- `stopped`
-        nothing ! $ asks-all ! fm N.the-row (Is N.the-row) (shows 𝓤 H A N.the-row) (Unit {0} × (Unit {0} × Unit {0})) (λ (r : N.the-row .Denot) (lasts : (Unit {0} × (Unit {0} × Unit {0}))). r ≡ ranOf (r1 .st) (pick (eqb (r1 .flow) 1) 0 (r1 .flow))) (λ (lasts : (Unit {0} × (Unit {0} × Unit {0}))). (fsep ftrue (fsep ftrue ftrue))) (‵ ftrue) (‵ ftrue) (machS (r1 .st) ∷ vint w8 (r1 .flow) ∷ []) (stopped-as 𝓤 H A mem run′ W C known-stopped ((r1 .st)) ((r1 .flow)) ((LL.owed K.the-type K′.the-laws r1 (w1 ∷ []) is1) .0) ((LL.owed K.the-type K′.the-laws r1 (w1 ∷ []) is1) .1 .1 .1 .0 .1)) (and-then ! (load ! (from ! (stop !)) (look ! 51 refl)) (and-then ! (load ! (from ! (stop !)) (look ! 47 refl)) (no-more !))) (λ w2 r2 zs2 e2 is2. land ! (from ! (stop !)) (init ! 87 refl (typedN 𝓤 H A W r2 _ is2)) $ rewrite ! 87 (λ (u : Val). ‵ (fat fullShare tNt l₀ 0 u)) (ap only (LL.tells N.the-type N′.the-laws r2 (w2 ∷ []) is2)) refl $ drop ! $ drop ! $ fsplit ! $ drop ! $ fsplit ! $ drop ! $ drop ! $
+        nothing ! $ asks-all ! fm N.the-row (Is N.the-row) (shows 𝓤 H A N.the-row) (Unit {0} × (Unit {0} × Unit {0})) (λ (r : N.the-row .Denot) (lasts : (Unit {0} × (Unit {0} × Unit {0}))). r ≡ ranOf (r1 .st) (pick (eqb (r1 .flow) 1) 0 (r1 .flow))) (λ (lasts : (Unit {0} × (Unit {0} × Unit {0}))). (fsep ftrue (fsep ftrue ftrue))) (‵ ftrue) (‵ ftrue) (machS (r1 .st) ∷ vint w8 (r1 .flow) ∷ []) (stopped-as 𝓤 H A mem run′ W C known-stopped ((r1 .st)) ((r1 .flow)) ((LL.owed K.the-type K′.the-laws r1 (w1 ∷ []) is1) .0) ((LL.owed K.the-type K′.the-laws r1 (w1 ∷ []) is1) .1 .1 .1 .0 .1)) (and-then ! (load ! (from ! (stop !)) (look ! 55 refl)) (and-then ! (load ! (from ! (stop !)) (look ! 51 refl)) (no-more !))) (λ w2 r2 zs2 e2 is2. land ! (from ! (stop !)) (init ! 91 refl (typedN 𝓤 H A W r2 _ is2)) $ rewrite ! 91 (λ (u : Val). ‵ (fat fullShare tNt l₀ 0 u)) (ap only (LL.tells N.the-type N′.the-laws r2 (w2 ∷ []) is2)) refl $ drop ! $ drop ! $ fsplit ! $ drop ! $ fsplit ! $ drop ! $ drop ! $
         owned ! N.the-row (Is N.the-row) (LL.makes N.the-type N′.the-plain 𝓤 H A) r2 _ (mineN r2 w2 is2) $
-        returns-within ! (Post) refl (look ! 85 refl) $ leave ! (_ ∷ _ ∷ _ ∷ _ ∷ _ ∷ _ ∷ _ ∷ _ ∷ _ ∷ _ ∷ _ ∷ _ ∷ _ ∷ _ ∷ _ ∷ _ ∷ _ ∷ _ ∷ _ ∷ []) (filled _ _ _ ∷ filled _ _ _ ∷ filled _ _ _ ∷ filled _ _ _ ∷ filled _ _ _ ∷ filled _ _ _ ∷ filled _ _ _ ∷ filled _ _ _ ∷ filled _ _ _ ∷ filled _ _ _ ∷ filled _ _ _ ∷ filled _ _ _ ∷ filled _ _ _ ∷ bare _ _ ∷ filled _ _ _ ∷ filled _ _ _ ∷ filled _ _ _ ∷ filled _ _ _ ∷ filled _ _ _ ∷ filled _ _ _ ∷ bare _ _ ∷ bare _ _ ∷ filled _ _ _ ∷ filled _ _ _ ∷ filled _ _ _ ∷ bare _ _ ∷ bare _ _ ∷ bare _ _ ∷ bare _ _ ∷ bare _ _ ∷ bare _ _ ∷ bare _ _ ∷ bare _ _ ∷ bare _ _ ∷ []) $ keep ! (0 ∷ 4 ∷ 3 ∷ 5 ∷ 6 ∷ 1 ∷ 2 ∷ 7 ∷ 8 ∷ 9 ∷ 10 ∷ 11 ∷ 12 ∷ 13 ∷ 14 ∷ 15 ∷ 16 ∷ 17 ∷ 18 ∷ []) $ by ! (exits r2 (machN r2) (zs1 .1 .1 .1 .1 .1 .0) qs cs es ks ms zs (token-stopped (xbank .now) iv levels (xcode .now) enc st (memOf ysops ysps yscells ysedges ysacross yscmds ysstems) i key h (memOf os qs cs es ks ms zs) (held .1 .1 .1 .1 .1 .1) r1 (zs1 .1 .1 .1 .1 .1 .0) e1 off r2 e2) (held .1 .1 .1 .0) (held .1 .1 .1 .1 .0))))
+        returns-within ! (Post) refl (look ! 89 refl) $ move ! (0 ∷ 6 ∷ 5 ∷ 7 ∷ 8 ∷ 3 ∷ 4 ∷ 9 ∷ 10 ∷ 11 ∷ 12 ∷ 13 ∷ 14 ∷ 15 ∷ 16 ∷ 1 ∷ 2 ∷ 17 ∷ 18 ∷ 19 ∷ 20 ∷ 21 ∷ 22 ∷ 23 ∷ 24 ∷ 25 ∷ 26 ∷ 27 ∷ 28 ∷ 29 ∷ 30 ∷ 31 ∷ 32 ∷ 33 ∷ 34 ∷ 35 ∷ 36 ∷ 37 ∷ 38 ∷ 39 ∷ 40 ∷ 41 ∷ 42 ∷ 43 ∷ 44 ∷ 45 ∷ 46 ∷ 47 ∷ 48 ∷ 49 ∷ 50 ∷ 51 ∷ 52 ∷ 53 ∷ 54 ∷ 55 ∷ 56 ∷ 57 ∷ 58 ∷ 59 ∷ 60 ∷ 61 ∷ 62 ∷ 63 ∷ 64 ∷ 65 ∷ 66 ∷ 67 ∷ 68 ∷ 69 ∷ 70 ∷ 71 ∷ 72 ∷ 73 ∷ 74 ∷ 75 ∷ 76 ∷ 77 ∷ 78 ∷ 79 ∷ 80 ∷ 81 ∷ 82 ∷ 83 ∷ 84 ∷ 85 ∷ 86 ∷ 87 ∷ 88 ∷ 89 ∷ 90 ∷ []) $ leave ! (_ ∷ _ ∷ _ ∷ _ ∷ _ ∷ _ ∷ _ ∷ _ ∷ _ ∷ _ ∷ _ ∷ _ ∷ _ ∷ _ ∷ _ ∷ _ ∷ _ ∷ _ ∷ _ ∷ []) (filled _ _ _ ∷ filled _ _ _ ∷ filled _ _ _ ∷ filled _ _ _ ∷ filled _ _ _ ∷ filled _ _ _ ∷ filled _ _ _ ∷ filled _ _ _ ∷ filled _ _ _ ∷ filled _ _ _ ∷ filled _ _ _ ∷ filled _ _ _ ∷ filled _ _ _ ∷ bare _ _ ∷ filled _ _ _ ∷ filled _ _ _ ∷ filled _ _ _ ∷ filled _ _ _ ∷ filled _ _ _ ∷ filled _ _ _ ∷ bare _ _ ∷ bare _ _ ∷ filled _ _ _ ∷ filled _ _ _ ∷ filled _ _ _ ∷ filled _ _ _ ∷ filled _ _ _ ∷ bare _ _ ∷ bare _ _ ∷ bare _ _ ∷ bare _ _ ∷ bare _ _ ∷ bare _ _ ∷ bare _ _ ∷ bare _ _ ∷ bare _ _ ∷ []) $ keep ! (0 ∷ 1 ∷ 2 ∷ 3 ∷ 4 ∷ 5 ∷ 6 ∷ 7 ∷ 8 ∷ 9 ∷ 10 ∷ 11 ∷ 12 ∷ 13 ∷ 14 ∷ 15 ∷ 16 ∷ 17 ∷ 18 ∷ []) $ by ! (exits r2 (machN r2) (zs1 .1 .1 .1 .1 .1 .0) qs cs es ks (zs1 .1 .1 .1 .1 .1 .1 .0) zs (token-stopped (xbank .now) iv levels (xcode .now) enc st (memOf ysops ysps yscells ysedges ysacross yscmds ysstems) i key h (memOf os qs cs es ks ms zs) (held .1 .1 .1 .1 .1 .1) (held .1 .1 .1 .1 .0) (held .1 .1 .1 .0) r1 (zs1 .1 .1 .1 .1 .1 .0) (zs1 .1 .1 .1 .1 .1 .1 .0) e1 off r2 e2) (lcmds1 ∙ held .1 .1 .1 .0) (held .1 .1 .1 .1 .0))))
         (λ go-on.
-        assigns ! (of-opd ! (load ! (from ! (fld ! refl (stop !))) (look-in ! 48 (sub ! 1 refl (whole !))))) (from ! (stop !)) (store ! 54 refl (tt, record { fits = (LL.owed K.the-type K′.the-laws r1 (w1 ∷ []) is1) .1 .0 .1 })) $
-        assigns ! (of-opd ! (load ! (from ! (fld ! refl (stop !))) (look-in ! 48 (sub ! 2 refl (whole !))))) (from ! (stop !)) (store ! 52 refl (tt, record { fits = (LL.owed K.the-type K′.the-laws r1 (w1 ∷ []) is1) .1 .1 .0 .1 })) $
-        assigns ! (addr ! (from ! (hop ! (look ! 72 refl) (stop !)))) (from ! (stop !)) (init ! 34 refl (tt, tt)) $
-        assigns ! (addr ! (from ! (hop ! (look ! 70 refl) (stop !)))) (from ! (stop !)) (init ! 32 refl (tt, tt)) $
-        assigns ! (addr ! (from ! (hop ! (look ! 68 refl) (stop !)))) (from ! (stop !)) (init ! 30 refl (tt, tt)) $
-        assigns ! (addr ! (from ! (hop ! (look ! 66 refl) (stop !)))) (from ! (stop !)) (init ! 28 refl (tt, tt)) $
-        assigns ! (addr ! (from ! (hop ! (look ! 64 refl) (stop !)))) (from ! (stop !)) (init ! 26 refl (tt, tt)) $
-        assigns ! (addr ! (from ! (fld ! refl (hop ! (look-in ! 62 (sub ! 0 refl (whole !))) (stop !))))) (from ! (stop !)) (init ! 24 refl (tt, tt)) $
-        assigns ! (agg ! (and-then ! (load ! (from ! (stop !)) (look ! 24 refl)) (and-then ! (load ! (from ! (fld ! refl (stop !))) (look-in ! 62 (sub ! 1 refl (whole !)))) (no-more !)))) (from ! (stop !)) (init ! 22 refl (tt, (tt, (record { fits = fitcmds .0 }, tt)))) $
-        assigns ! (addr ! (from ! (fld ! refl (hop ! (look-in ! 60 (sub ! 0 refl (whole !))) (stop !))))) (from ! (stop !)) (init ! 20 refl (tt, tt)) $
-        assigns ! (agg ! (and-then ! (load ! (from ! (stop !)) (look ! 20 refl)) (and-then ! (load ! (from ! (fld ! refl (stop !))) (look-in ! 60 (sub ! 1 refl (whole !)))) (no-more !)))) (from ! (stop !)) (init ! 18 refl (tt, (tt, (record { fits = fitstems .0 }, tt)))) $
+        assigns ! (of-opd ! (load ! (from ! (fld ! refl (stop !))) (look-in ! 52 (sub ! 1 refl (whole !))))) (from ! (stop !)) (store ! 58 refl (tt, record { fits = (LL.owed K.the-type K′.the-laws r1 (w1 ∷ []) is1) .1 .0 .1 })) $
+        assigns ! (of-opd ! (load ! (from ! (fld ! refl (stop !))) (look-in ! 52 (sub ! 2 refl (whole !))))) (from ! (stop !)) (store ! 56 refl (tt, record { fits = (LL.owed K.the-type K′.the-laws r1 (w1 ∷ []) is1) .1 .1 .0 .1 })) $
+        assigns ! (addr ! (from ! (hop ! (look ! 76 refl) (stop !)))) (from ! (stop !)) (init ! 34 refl (tt, tt)) $
+        assigns ! (addr ! (from ! (hop ! (look ! 74 refl) (stop !)))) (from ! (stop !)) (init ! 32 refl (tt, tt)) $
+        assigns ! (addr ! (from ! (hop ! (look ! 72 refl) (stop !)))) (from ! (stop !)) (init ! 30 refl (tt, tt)) $
+        assigns ! (addr ! (from ! (hop ! (look ! 70 refl) (stop !)))) (from ! (stop !)) (init ! 28 refl (tt, tt)) $
+        assigns ! (addr ! (from ! (hop ! (look ! 68 refl) (stop !)))) (from ! (stop !)) (init ! 26 refl (tt, tt)) $
+        assigns ! (addr ! (from ! (fld ! refl (hop ! (look-in ! 66 (sub ! 0 refl (whole !))) (stop !))))) (from ! (stop !)) (init ! 24 refl (tt, tt)) $
+        assigns ! (agg ! (and-then ! (load ! (from ! (stop !)) (look ! 24 refl)) (and-then ! (load ! (from ! (fld ! refl (stop !))) (look-in ! 66 (sub ! 1 refl (whole !)))) (no-more !)))) (from ! (stop !)) (init ! 22 refl (tt, (tt, (record { fits = fitcmds .0 }, tt)))) $
+        assigns ! (addr ! (from ! (fld ! refl (hop ! (look-in ! 64 (sub ! 0 refl (whole !))) (stop !))))) (from ! (stop !)) (init ! 20 refl (tt, tt)) $
+        assigns ! (agg ! (and-then ! (load ! (from ! (stop !)) (look ! 20 refl)) (and-then ! (load ! (from ! (fld ! refl (stop !))) (look-in ! 64 (sub ! 1 refl (whole !)))) (no-more !)))) (from ! (stop !)) (init ! 18 refl (tt, (tt, (record { fits = fitstems .0 }, tt)))) $
         -- `op`
-        move ! (4 ∷ []) $ use1 W (‵ (ShrSlice (named 0) κbank u8 .own xbank (sliceVal (xbank .ptr) (length (xbank .now)) ∷ [])) ⊛ ‵ (ShrSlice (named 0) κbank u8 .own xbank (sliceVal (xbank .ptr) (length (xbank .now)) ∷ []))) (shr-slice-copy 𝓤 H A W (named 0) κbank u8 .twice xbank (sliceVal (xbank .ptr) (length (xbank .now)) ∷ [])) $ split ! $ move ! (6 ∷ 1 ∷ []) $ join ! $ move ! (2 ∷ 3 ∷ []) $ lend-ref ! tt (Array f64 256) bops oops (zs1 .1 .1 .1 .1 .1 .0) (λ νops2 δops2. move ! (6 ∷ 7 ∷ []) $ lend-ref ! tt (Array f64 256) bps ops qs (λ νps2 δps2. move ! (8 ∷ 9 ∷ []) $ lend-ref ! tt (Array f64 19) bcells ocells cs (λ νcells2 δcells2. move ! (10 ∷ 11 ∷ []) $ lend-ref ! tt (Array f64 1024) bedges oedges es (λ νedges2 δedges2. move ! (12 ∷ 13 ∷ []) $ lend-ref ! tt (Array bool 512) bacross oacross ks (λ νacross2 δacross2. move ! (14 ∷ 15 ∷ []) $ lend ! tt u64 mcmds bcmds ocmds ms (held .1 .1 .1 .0) (λ νcmds2 δcmds2. move ! (16 ∷ 17 ∷ []) $ lend ! tt T.the-row mstems bstems ostems zs (held .1 .1 .1 .1 .0) (λ νstems2 δstems2. move ! (2 ∷ 0 ∷ []) $ join ! $ move ! (3 ∷ 0 ∷ []) $ join ! $ move ! (4 ∷ 0 ∷ []) $ join ! $ move ! (5 ∷ 0 ∷ []) $ join ! $ move ! (6 ∷ 0 ∷ []) $ join ! $ move ! (7 ∷ 0 ∷ []) $ join ! $ move ! (8 ∷ 0 ∷ []) $ join ! $ asks-all ! fm N.the-row (Is N.the-row) (shows 𝓤 H A N.the-row) (Unit {0} × (Unit {0} × (Unit {0} × (Unit {0} × (Unit {0} × (List Float × (List Float × (List Float × (List Float × (List Bool × (List ℕ × (List Stem × Unit {0})))))))))))) (λ (r : N.the-row .Denot) (lasts : (Unit {0} × (Unit {0} × (Unit {0} × (Unit {0} × (Unit {0} × (List Float × (List Float × (List Float × (List Float × (List Bool × (List ℕ × (List Stem × Unit {0}))))))))))))). Meets r (memOf (lasts .1 .1 .1 .1 .1 .0) (lasts .1 .1 .1 .1 .1 .1 .0) (lasts .1 .1 .1 .1 .1 .1 .1 .0) (lasts .1 .1 .1 .1 .1 .1 .1 .1 .0) (lasts .1 .1 .1 .1 .1 .1 .1 .1 .1 .0) (lasts .1 .1 .1 .1 .1 .1 .1 .1 .1 .1 .0) (lasts .1 .1 .1 .1 .1 .1 .1 .1 .1 .1 .1 .0)) (opD (xbank .now) iv levels (r1 .op) (r1 .st) (memOf (zs1 .1 .1 .1 .1 .1 .0) qs cs es ks ms zs))) (λ (lasts : (Unit {0} × (Unit {0} × (Unit {0} × (Unit {0} × (Unit {0} × (List Float × (List Float × (List Float × (List Float × (List Bool × (List ℕ × (List Stem × Unit {0}))))))))))))). (fsep ftrue (fsep ftrue (fsep ftrue (fsep ftrue (fsep ftrue (fsep (fres δops2 ((Array f64 256) .coded .code (lasts .1 .1 .1 .1 .1 .0))) (fsep (fres δps2 ((Array f64 256) .coded .code (lasts .1 .1 .1 .1 .1 .1 .0))) (fsep (fres δcells2 ((Array f64 19) .coded .code (lasts .1 .1 .1 .1 .1 .1 .1 .0))) (fsep (fres δedges2 ((Array f64 1024) .coded .code (lasts .1 .1 .1 .1 .1 .1 .1 .1 .0))) (fsep (fres δacross2 ((Array bool 512) .coded .code (lasts .1 .1 .1 .1 .1 .1 .1 .1 .1 .0))) (fsep (fsep (finally u64 δcmds2 (lasts .1 .1 .1 .1 .1 .1 .1 .1 .1 .1 .0)) (feq ℕ (length (lasts .1 .1 .1 .1 .1 .1 .1 .1 .1 .1 .0)) (length ms))) (fsep (fsep (finally T.the-row δstems2 (lasts .1 .1 .1 .1 .1 .1 .1 .1 .1 .1 .1 .0)) (feq ℕ (length (lasts .1 .1 .1 .1 .1 .1 .1 .1 .1 .1 .1 .0)) (length zs))) ftrue))))))))))))) (‵ (flft κbank qbank) ⊛ (‵ (flft (νops2 ∷ []) fullShare) ⊛ (‵ (flft (νps2 ∷ []) fullShare) ⊛ (‵ (flft (νcells2 ∷ []) fullShare) ⊛ (‵ (flft (νedges2 ∷ []) fullShare) ⊛ (‵ (flft (νacross2 ∷ []) fullShare) ⊛ (‵ (flft (νcmds2 ∷ []) fullShare) ⊛ (‵ (flft (νstems2 ∷ []) fullShare) ⊛ ‵ ftrue)))))))) ((‵ (flft κbank qbank) ⊛ ‵ (ShrSlice (named 0) κbank u8 .own xbank (sliceVal (xbank .ptr) (length (xbank .now)) ∷ []))) ⊛ ((‵ (flft (νops2 ∷ []) fullShare) ⊛ ‵ (OwnR (Array f64 256) bops oops (νops2 ∷ []) δops2 (zs1 .1 .1 .1 .1 .1 .0))) ⊛ ((‵ (flft (νps2 ∷ []) fullShare) ⊛ ‵ (OwnR (Array f64 256) bps ops (νps2 ∷ []) δps2 qs)) ⊛ ((‵ (flft (νcells2 ∷ []) fullShare) ⊛ ‵ (OwnR (Array f64 19) bcells ocells (νcells2 ∷ []) δcells2 cs)) ⊛ ((‵ (flft (νedges2 ∷ []) fullShare) ⊛ ‵ (OwnR (Array f64 1024) bedges oedges (νedges2 ∷ []) δedges2 es)) ⊛ ((‵ (flft (νacross2 ∷ []) fullShare) ⊛ ‵ (OwnR (Array bool 512) bacross oacross (νacross2 ∷ []) δacross2 ks)) ⊛ ((‵ (flft (νcmds2 ∷ []) fullShare) ⊛ ‵ (Own u64 mcmds bcmds ocmds (νcmds2 ∷ []) δcmds2 ms)) ⊛ (‵ (flft (νstems2 ∷ []) fullShare) ⊛ ‵ (Own T.the-row mstems bstems ostems (νstems2 ∷ []) δstems2 zs))))))))) (vint w16 (r1 .op) ∷ sliceVal (xbank .ptr) (length (xbank .now)) ∷ vint w64 iv ∷ vint w64 levels ∷ machS (r1 .st) ∷ vptr bops oops ∷ vptr bps ops ∷ vptr bcells ocells ∷ vptr bedges oedges ∷ vptr bacross oacross ∷ sliceVal (bcmds, ocmds) mcmds ∷ sliceVal (bstems, ostems) mstems ∷ []) (op-as 𝓤 H A mem run′ W C t below κbank qbank xbank (νops2 ∷ []) fullShare bops oops δops2 (zs1 .1 .1 .1 .1 .1 .0) (νps2 ∷ []) fullShare bps ops δps2 qs (νcells2 ∷ []) fullShare bcells ocells δcells2 cs (νedges2 ∷ []) fullShare bedges oedges δedges2 es (νacross2 ∷ []) fullShare bacross oacross δacross2 ks (νcmds2 ∷ []) fullShare mcmds bcmds ocmds δcmds2 ms (νstems2 ∷ []) fullShare mstems bstems ostems δstems2 zs ((r1 .op)) (iv) (levels) ((r1 .st)) ((LL.owed K.the-type K′.the-laws r1 (w1 ∷ []) is1) .1 .1 .1 .1 .0 .1) (iv-fits) (levels-fits) ((LL.owed K.the-type K′.the-laws r1 (w1 ∷ []) is1) .0) (need .0, (need .1 .0, (ready-token (xbank .now) iv levels (xcode .now) enc st (memOf ysops ysps yscells ysedges ysacross yscmds ysstems) i key h (memOf os qs cs es ks ms zs) (held .1 .1 .1 .1 .1 .1) r1 (zs1 .1 .1 .1 .1 .1 .0) e1 (held .1 .1 .1 .1 .1 .0 .0) (held .1 .0) go-on))) (omega (arith, measure))) (and-then ! (load ! (from ! (fld ! refl (stop !))) (look-in ! 41 (sub ! 4 refl (whole !)))) (and-then ! (load ! (from ! (stop !)) (look ! 73 refl)) (and-then ! (load ! (from ! (stop !)) (look ! 71 refl)) (and-then ! (load ! (from ! (stop !)) (look ! 69 refl)) (and-then ! (load ! (from ! (stop !)) (look ! 43 refl)) (and-then ! (load ! (from ! (stop !)) (look ! 27 refl)) (and-then ! (load ! (from ! (stop !)) (look ! 25 refl)) (and-then ! (load ! (from ! (stop !)) (look ! 23 refl)) (and-then ! (load ! (from ! (stop !)) (look ! 21 refl)) (and-then ! (load ! (from ! (stop !)) (look ! 19 refl)) (and-then ! (load ! (from ! (stop !)) (look ! 15 refl)) (and-then ! (load ! (from ! (stop !)) (look ! 11 refl)) (no-more !))))))))))))) (λ w2 r2 zs2 e2 is2. land ! (from ! (stop !)) (init ! 39 refl (typedN 𝓤 H A W r2 _ is2)) $ rewrite ! 39 (λ (u : Val). ‵ (fat fullShare tNt l₂₀ 0 u)) (ap only (LL.tells N.the-type N′.the-laws r2 (w2 ∷ []) is2)) refl $ drop ! $ split ! $ move ! (1 ∷ []) $ split ! $ move ! (1 ∷ []) $ split ! $ move ! (1 ∷ []) $ split ! $ move ! (1 ∷ []) $ split ! $ move ! (1 ∷ []) $ split ! $ move ! (1 ∷ []) $ split ! $ move ! (1 ∷ []) $ split ! $ move ! (1 ∷ []) $ drop ! $ move ! (8 ∷ []) $ fsplit ! $ drop ! $ fsplit ! $ drop ! $ fsplit ! $ drop ! $ fsplit ! $ drop ! $ fsplit ! $ drop ! $ fsplit ! $ move ! (1 ∷ []) $ fsplit ! $ move ! (1 ∷ []) $ fsplit ! $ move ! (1 ∷ []) $ fsplit ! $ move ! (1 ∷ []) $ fsplit ! $ move ! (1 ∷ []) $ fsplit ! $ fsplit ! $ move ! (1 ∷ []) $ feqL ! (λ lcmds2. move ! (1 ∷ []) $ fsplit ! $ fsplit ! $ move ! (1 ∷ []) $ feqL ! (λ lstems2. move ! (1 ∷ []) $ drop ! $
-        move ! (13 ∷ 21 ∷ 6 ∷ []) $ returned-ref ! tt (Array f64 256) bops oops νops2 δops2 (zs1 .1 .1 .1 .1 .1 .0) (zs2 .1 .1 .1 .1 .1 .0) (move ! (13 ∷ 20 ∷ 7 ∷ []) $ returned-ref ! tt (Array f64 256) bps ops νps2 δps2 qs (zs2 .1 .1 .1 .1 .1 .1 .0) (move ! (13 ∷ 19 ∷ 8 ∷ []) $ returned-ref ! tt (Array f64 19) bcells ocells νcells2 δcells2 cs (zs2 .1 .1 .1 .1 .1 .1 .1 .0) (move ! (13 ∷ 18 ∷ 9 ∷ []) $ returned-ref ! tt (Array f64 1024) bedges oedges νedges2 δedges2 es (zs2 .1 .1 .1 .1 .1 .1 .1 .1 .0) (move ! (13 ∷ 17 ∷ 10 ∷ []) $ returned-ref ! tt (Array bool 512) bacross oacross νacross2 δacross2 ks (zs2 .1 .1 .1 .1 .1 .1 .1 .1 .1 .0) (move ! (13 ∷ 16 ∷ 11 ∷ []) $ returned ! tt u64 mcmds bcmds ocmds νcmds2 δcmds2 ms (zs2 .1 .1 .1 .1 .1 .1 .1 .1 .1 .1 .0) (held .1 .1 .1 .0) lcmds2 fitcmds (move ! (13 ∷ 15 ∷ 12 ∷ []) $ returned ! tt T.the-row mstems bstems ostems νstems2 δstems2 zs (zs2 .1 .1 .1 .1 .1 .1 .1 .1 .1 .1 .1 .0) (held .1 .1 .1 .1 .0) lstems2 fitstems (
-        assigns ! (of-opd ! (load ! (from ! (fld ! refl (stop !))) (look-in ! 44 (sub ! 0 refl (whole !))))) (from ! (stop !)) (store ! 50 refl (typedS 𝓤 H A W (r2 .st) _ ((LL.owed N.the-type N′.the-laws r2 (w2 ∷ []) is2) .0))) $
-        assigns ! (of-opd ! (load ! (from ! (fld ! refl (stop !))) (look-in ! 44 (sub ! 1 refl (whole !))))) (from ! (stop !)) (init ! 42 refl (tt, record { fits = (LL.owed N.the-type N′.the-laws r2 (w2 ∷ []) is2) .1 .0 .1 })) $
-        assigns ! (bin ! (load ! (from ! (stop !)) (look ! 42 refl)) (lit ! tt) tt) (from ! (stop !)) (store ! 38 refl (tt, tt)) $
-        branches ! (load ! (from ! (stop !)) (look ! 38 refl))
+        move ! (6 ∷ []) $ use1 W (‵ (ShrSlice (named 0) κbank u8 .own xbank (sliceVal (xbank .ptr) (length (xbank .now)) ∷ [])) ⊛ ‵ (ShrSlice (named 0) κbank u8 .own xbank (sliceVal (xbank .ptr) (length (xbank .now)) ∷ []))) (shr-slice-copy 𝓤 H A W (named 0) κbank u8 .twice xbank (sliceVal (xbank .ptr) (length (xbank .now)) ∷ [])) $ split ! $ move ! (8 ∷ 1 ∷ []) $ join ! $ move ! (4 ∷ 5 ∷ []) $ lend-ref ! tt (Array f64 256) bops oops (zs1 .1 .1 .1 .1 .1 .0) (λ νops2 δops2. move ! (8 ∷ 9 ∷ []) $ lend-ref ! tt (Array f64 256) bps ops qs (λ νps2 δps2. move ! (10 ∷ 11 ∷ []) $ lend-ref ! tt (Array f64 19) bcells ocells cs (λ νcells2 δcells2. move ! (12 ∷ 13 ∷ []) $ lend-ref ! tt (Array f64 1024) bedges oedges es (λ νedges2 δedges2. move ! (14 ∷ 15 ∷ []) $ lend-ref ! tt (Array bool 512) bacross oacross ks (λ νacross2 δacross2. move ! (12 ∷ 13 ∷ []) $ lend ! tt u64 mcmds bcmds ocmds (zs1 .1 .1 .1 .1 .1 .1 .0) (lcmds1 ∙ held .1 .1 .1 .0) (λ νcmds2 δcmds2. move ! (16 ∷ 17 ∷ []) $ lend ! tt T.the-row mstems bstems ostems zs (held .1 .1 .1 .1 .0) (λ νstems2 δstems2. move ! (2 ∷ 0 ∷ []) $ join ! $ move ! (3 ∷ 0 ∷ []) $ join ! $ move ! (4 ∷ 0 ∷ []) $ join ! $ move ! (5 ∷ 0 ∷ []) $ join ! $ move ! (6 ∷ 0 ∷ []) $ join ! $ move ! (7 ∷ 0 ∷ []) $ join ! $ move ! (8 ∷ 0 ∷ []) $ join ! $ asks-all ! fm N.the-row (Is N.the-row) (shows 𝓤 H A N.the-row) (Unit {0} × (Unit {0} × (Unit {0} × (Unit {0} × (Unit {0} × (List Float × (List Float × (List Float × (List Float × (List Bool × (List ℕ × (List Stem × Unit {0})))))))))))) (λ (r : N.the-row .Denot) (lasts : (Unit {0} × (Unit {0} × (Unit {0} × (Unit {0} × (Unit {0} × (List Float × (List Float × (List Float × (List Float × (List Bool × (List ℕ × (List Stem × Unit {0}))))))))))))). Meets r (memOf (lasts .1 .1 .1 .1 .1 .0) (lasts .1 .1 .1 .1 .1 .1 .0) (lasts .1 .1 .1 .1 .1 .1 .1 .0) (lasts .1 .1 .1 .1 .1 .1 .1 .1 .0) (lasts .1 .1 .1 .1 .1 .1 .1 .1 .1 .0) (lasts .1 .1 .1 .1 .1 .1 .1 .1 .1 .1 .0) (lasts .1 .1 .1 .1 .1 .1 .1 .1 .1 .1 .1 .0)) (opD (xbank .now) iv levels (r1 .op) (r1 .st) (memOf (zs1 .1 .1 .1 .1 .1 .0) qs cs es ks (zs1 .1 .1 .1 .1 .1 .1 .0) zs))) (λ (lasts : (Unit {0} × (Unit {0} × (Unit {0} × (Unit {0} × (Unit {0} × (List Float × (List Float × (List Float × (List Float × (List Bool × (List ℕ × (List Stem × Unit {0}))))))))))))). (fsep ftrue (fsep ftrue (fsep ftrue (fsep ftrue (fsep ftrue (fsep (fres δops2 ((Array f64 256) .coded .code (lasts .1 .1 .1 .1 .1 .0))) (fsep (fres δps2 ((Array f64 256) .coded .code (lasts .1 .1 .1 .1 .1 .1 .0))) (fsep (fres δcells2 ((Array f64 19) .coded .code (lasts .1 .1 .1 .1 .1 .1 .1 .0))) (fsep (fres δedges2 ((Array f64 1024) .coded .code (lasts .1 .1 .1 .1 .1 .1 .1 .1 .0))) (fsep (fres δacross2 ((Array bool 512) .coded .code (lasts .1 .1 .1 .1 .1 .1 .1 .1 .1 .0))) (fsep (fsep (finally u64 δcmds2 (lasts .1 .1 .1 .1 .1 .1 .1 .1 .1 .1 .0)) (feq ℕ (length (lasts .1 .1 .1 .1 .1 .1 .1 .1 .1 .1 .0)) (length (zs1 .1 .1 .1 .1 .1 .1 .0)))) (fsep (fsep (finally T.the-row δstems2 (lasts .1 .1 .1 .1 .1 .1 .1 .1 .1 .1 .1 .0)) (feq ℕ (length (lasts .1 .1 .1 .1 .1 .1 .1 .1 .1 .1 .1 .0)) (length zs))) ftrue))))))))))))) (‵ (flft κbank qbank) ⊛ (‵ (flft (νops2 ∷ []) fullShare) ⊛ (‵ (flft (νps2 ∷ []) fullShare) ⊛ (‵ (flft (νcells2 ∷ []) fullShare) ⊛ (‵ (flft (νedges2 ∷ []) fullShare) ⊛ (‵ (flft (νacross2 ∷ []) fullShare) ⊛ (‵ (flft (νcmds2 ∷ []) fullShare) ⊛ (‵ (flft (νstems2 ∷ []) fullShare) ⊛ ‵ ftrue)))))))) ((‵ (flft κbank qbank) ⊛ ‵ (ShrSlice (named 0) κbank u8 .own xbank (sliceVal (xbank .ptr) (length (xbank .now)) ∷ []))) ⊛ ((‵ (flft (νops2 ∷ []) fullShare) ⊛ ‵ (OwnR (Array f64 256) bops oops (νops2 ∷ []) δops2 (zs1 .1 .1 .1 .1 .1 .0))) ⊛ ((‵ (flft (νps2 ∷ []) fullShare) ⊛ ‵ (OwnR (Array f64 256) bps ops (νps2 ∷ []) δps2 qs)) ⊛ ((‵ (flft (νcells2 ∷ []) fullShare) ⊛ ‵ (OwnR (Array f64 19) bcells ocells (νcells2 ∷ []) δcells2 cs)) ⊛ ((‵ (flft (νedges2 ∷ []) fullShare) ⊛ ‵ (OwnR (Array f64 1024) bedges oedges (νedges2 ∷ []) δedges2 es)) ⊛ ((‵ (flft (νacross2 ∷ []) fullShare) ⊛ ‵ (OwnR (Array bool 512) bacross oacross (νacross2 ∷ []) δacross2 ks)) ⊛ ((‵ (flft (νcmds2 ∷ []) fullShare) ⊛ ‵ (Own u64 mcmds bcmds ocmds (νcmds2 ∷ []) δcmds2 (zs1 .1 .1 .1 .1 .1 .1 .0))) ⊛ (‵ (flft (νstems2 ∷ []) fullShare) ⊛ ‵ (Own T.the-row mstems bstems ostems (νstems2 ∷ []) δstems2 zs))))))))) (vint w16 (r1 .op) ∷ sliceVal (xbank .ptr) (length (xbank .now)) ∷ vint w64 iv ∷ vint w64 levels ∷ machS (r1 .st) ∷ vptr bops oops ∷ vptr bps ops ∷ vptr bcells ocells ∷ vptr bedges oedges ∷ vptr bacross oacross ∷ sliceVal (bcmds, ocmds) mcmds ∷ sliceVal (bstems, ostems) mstems ∷ []) (op-as 𝓤 H A mem run′ W C t below κbank qbank xbank (νops2 ∷ []) fullShare bops oops δops2 (zs1 .1 .1 .1 .1 .1 .0) (νps2 ∷ []) fullShare bps ops δps2 qs (νcells2 ∷ []) fullShare bcells ocells δcells2 cs (νedges2 ∷ []) fullShare bedges oedges δedges2 es (νacross2 ∷ []) fullShare bacross oacross δacross2 ks (νcmds2 ∷ []) fullShare mcmds bcmds ocmds δcmds2 (zs1 .1 .1 .1 .1 .1 .1 .0) (νstems2 ∷ []) fullShare mstems bstems ostems δstems2 zs ((r1 .op)) (iv) (levels) ((r1 .st)) ((LL.owed K.the-type K′.the-laws r1 (w1 ∷ []) is1) .1 .1 .1 .1 .0 .1) (iv-fits) (levels-fits) ((LL.owed K.the-type K′.the-laws r1 (w1 ∷ []) is1) .0) (need .0, (need .1 .0, (ready-token (xbank .now) iv levels (xcode .now) enc st (memOf ysops ysps yscells ysedges ysacross yscmds ysstems) i key h (memOf os qs cs es ks ms zs) (held .1 .1 .1 .1 .1 .1) (held .1 .1 .1 .1 .0) (held .1 .1 .1 .0) r1 (zs1 .1 .1 .1 .1 .1 .0) (zs1 .1 .1 .1 .1 .1 .1 .0) e1 (held .1 .1 .1 .1 .1 .0 .1) (held .1 .1 .1 .1 .1 .0 .0) (held .1 .0) go-on))) (omega (arith, measure))) (and-then ! (load ! (from ! (fld ! refl (stop !))) (look-in ! 45 (sub ! 4 refl (whole !)))) (and-then ! (load ! (from ! (stop !)) (look ! 77 refl)) (and-then ! (load ! (from ! (stop !)) (look ! 75 refl)) (and-then ! (load ! (from ! (stop !)) (look ! 73 refl)) (and-then ! (load ! (from ! (stop !)) (look ! 47 refl)) (and-then ! (load ! (from ! (stop !)) (look ! 27 refl)) (and-then ! (load ! (from ! (stop !)) (look ! 25 refl)) (and-then ! (load ! (from ! (stop !)) (look ! 23 refl)) (and-then ! (load ! (from ! (stop !)) (look ! 21 refl)) (and-then ! (load ! (from ! (stop !)) (look ! 19 refl)) (and-then ! (load ! (from ! (stop !)) (look ! 15 refl)) (and-then ! (load ! (from ! (stop !)) (look ! 11 refl)) (no-more !))))))))))))) (λ w2 r2 zs2 e2 is2. land ! (from ! (stop !)) (init ! 43 refl (typedN 𝓤 H A W r2 _ is2)) $ rewrite ! 43 (λ (u : Val). ‵ (fat fullShare tNt l₂₀ 0 u)) (ap only (LL.tells N.the-type N′.the-laws r2 (w2 ∷ []) is2)) refl $ drop ! $ split ! $ move ! (1 ∷ []) $ split ! $ move ! (1 ∷ []) $ split ! $ move ! (1 ∷ []) $ split ! $ move ! (1 ∷ []) $ split ! $ move ! (1 ∷ []) $ split ! $ move ! (1 ∷ []) $ split ! $ move ! (1 ∷ []) $ split ! $ move ! (1 ∷ []) $ drop ! $ move ! (8 ∷ []) $ fsplit ! $ drop ! $ fsplit ! $ drop ! $ fsplit ! $ drop ! $ fsplit ! $ drop ! $ fsplit ! $ drop ! $ fsplit ! $ move ! (1 ∷ []) $ fsplit ! $ move ! (1 ∷ []) $ fsplit ! $ move ! (1 ∷ []) $ fsplit ! $ move ! (1 ∷ []) $ fsplit ! $ move ! (1 ∷ []) $ fsplit ! $ fsplit ! $ move ! (1 ∷ []) $ feqL ! (λ lcmds2. move ! (1 ∷ []) $ fsplit ! $ fsplit ! $ move ! (1 ∷ []) $ feqL ! (λ lstems2. move ! (1 ∷ []) $ drop ! $
+        move ! (13 ∷ 21 ∷ 6 ∷ []) $ returned-ref ! tt (Array f64 256) bops oops νops2 δops2 (zs1 .1 .1 .1 .1 .1 .0) (zs2 .1 .1 .1 .1 .1 .0) (move ! (13 ∷ 20 ∷ 7 ∷ []) $ returned-ref ! tt (Array f64 256) bps ops νps2 δps2 qs (zs2 .1 .1 .1 .1 .1 .1 .0) (move ! (13 ∷ 19 ∷ 8 ∷ []) $ returned-ref ! tt (Array f64 19) bcells ocells νcells2 δcells2 cs (zs2 .1 .1 .1 .1 .1 .1 .1 .0) (move ! (13 ∷ 18 ∷ 9 ∷ []) $ returned-ref ! tt (Array f64 1024) bedges oedges νedges2 δedges2 es (zs2 .1 .1 .1 .1 .1 .1 .1 .1 .0) (move ! (13 ∷ 17 ∷ 10 ∷ []) $ returned-ref ! tt (Array bool 512) bacross oacross νacross2 δacross2 ks (zs2 .1 .1 .1 .1 .1 .1 .1 .1 .1 .0) (move ! (13 ∷ 16 ∷ 11 ∷ []) $ returned ! tt u64 mcmds bcmds ocmds νcmds2 δcmds2 (zs1 .1 .1 .1 .1 .1 .1 .0) (zs2 .1 .1 .1 .1 .1 .1 .1 .1 .1 .1 .0) (lcmds1 ∙ held .1 .1 .1 .0) lcmds2 fitcmds (move ! (13 ∷ 15 ∷ 12 ∷ []) $ returned ! tt T.the-row mstems bstems ostems νstems2 δstems2 zs (zs2 .1 .1 .1 .1 .1 .1 .1 .1 .1 .1 .1 .0) (held .1 .1 .1 .1 .0) lstems2 fitstems (
+        assigns ! (of-opd ! (load ! (from ! (fld ! refl (stop !))) (look-in ! 48 (sub ! 0 refl (whole !))))) (from ! (stop !)) (store ! 54 refl (typedS 𝓤 H A W (r2 .st) _ ((LL.owed N.the-type N′.the-laws r2 (w2 ∷ []) is2) .0))) $
+        assigns ! (of-opd ! (load ! (from ! (fld ! refl (stop !))) (look-in ! 48 (sub ! 1 refl (whole !))))) (from ! (stop !)) (init ! 46 refl (tt, record { fits = (LL.owed N.the-type N′.the-laws r2 (w2 ∷ []) is2) .1 .0 .1 })) $
+        assigns ! (bin ! (load ! (from ! (stop !)) (look ! 46 refl)) (lit ! tt) tt) (from ! (stop !)) (store ! 42 refl (tt, tt)) $
+        branches ! (load ! (from ! (stop !)) (look ! 42 refl))
         (λ off.
         -- `stopped`
-        nothing ! $ asks-all ! fm N.the-row (Is N.the-row) (shows 𝓤 H A N.the-row) (Unit {0} × (Unit {0} × Unit {0})) (λ (r : N.the-row .Denot) (lasts : (Unit {0} × (Unit {0} × Unit {0}))). r ≡ ranOf (r2 .st) (pick (eqb (r2 .flow) 1) 0 (r2 .flow))) (λ (lasts : (Unit {0} × (Unit {0} × Unit {0}))). (fsep ftrue (fsep ftrue ftrue))) (‵ ftrue) (‵ ftrue) (machS (r2 .st) ∷ vint w8 (r2 .flow) ∷ []) (stopped-as 𝓤 H A mem run′ W C known-stopped ((r2 .st)) ((r2 .flow)) ((LL.owed N.the-type N′.the-laws r2 (w2 ∷ []) is2) .0) ((LL.owed N.the-type N′.the-laws r2 (w2 ∷ []) is2) .1 .0 .1)) (and-then ! (load ! (from ! (stop !)) (look ! 51 refl)) (and-then ! (load ! (from ! (stop !)) (look ! 43 refl)) (no-more !))) (λ w3 r3 zs3 e3 is3. land ! (from ! (stop !)) (init ! 87 refl (typedN 𝓤 H A W r3 _ is3)) $ rewrite ! 87 (λ (u : Val). ‵ (fat fullShare tNt l₀ 0 u)) (ap only (LL.tells N.the-type N′.the-laws r3 (w3 ∷ []) is3)) refl $ drop ! $ drop ! $ fsplit ! $ drop ! $ fsplit ! $ drop ! $ drop ! $
+        nothing ! $ asks-all ! fm N.the-row (Is N.the-row) (shows 𝓤 H A N.the-row) (Unit {0} × (Unit {0} × Unit {0})) (λ (r : N.the-row .Denot) (lasts : (Unit {0} × (Unit {0} × Unit {0}))). r ≡ ranOf (r2 .st) (pick (eqb (r2 .flow) 1) 0 (r2 .flow))) (λ (lasts : (Unit {0} × (Unit {0} × Unit {0}))). (fsep ftrue (fsep ftrue ftrue))) (‵ ftrue) (‵ ftrue) (machS (r2 .st) ∷ vint w8 (r2 .flow) ∷ []) (stopped-as 𝓤 H A mem run′ W C known-stopped ((r2 .st)) ((r2 .flow)) ((LL.owed N.the-type N′.the-laws r2 (w2 ∷ []) is2) .0) ((LL.owed N.the-type N′.the-laws r2 (w2 ∷ []) is2) .1 .0 .1)) (and-then ! (load ! (from ! (stop !)) (look ! 55 refl)) (and-then ! (load ! (from ! (stop !)) (look ! 47 refl)) (no-more !))) (λ w3 r3 zs3 e3 is3. land ! (from ! (stop !)) (init ! 91 refl (typedN 𝓤 H A W r3 _ is3)) $ rewrite ! 91 (λ (u : Val). ‵ (fat fullShare tNt l₀ 0 u)) (ap only (LL.tells N.the-type N′.the-laws r3 (w3 ∷ []) is3)) refl $ drop ! $ drop ! $ fsplit ! $ drop ! $ fsplit ! $ drop ! $ drop ! $
         owned ! N.the-row (Is N.the-row) (LL.makes N.the-type N′.the-plain 𝓤 H A) r3 _ (mineN r3 w3 is3) $
-        returns-within ! (Post) refl (look ! 85 refl) $ leave ! (_ ∷ _ ∷ _ ∷ _ ∷ _ ∷ _ ∷ _ ∷ _ ∷ _ ∷ _ ∷ _ ∷ _ ∷ _ ∷ _ ∷ _ ∷ _ ∷ _ ∷ _ ∷ _ ∷ []) (filled _ _ _ ∷ filled _ _ _ ∷ filled _ _ _ ∷ filled _ _ _ ∷ filled _ _ _ ∷ filled _ _ _ ∷ filled _ _ _ ∷ filled _ _ _ ∷ filled _ _ _ ∷ filled _ _ _ ∷ filled _ _ _ ∷ filled _ _ _ ∷ filled _ _ _ ∷ bare _ _ ∷ filled _ _ _ ∷ filled _ _ _ ∷ filled _ _ _ ∷ filled _ _ _ ∷ filled _ _ _ ∷ filled _ _ _ ∷ filled _ _ _ ∷ filled _ _ _ ∷ filled _ _ _ ∷ filled _ _ _ ∷ filled _ _ _ ∷ filled _ _ _ ∷ filled _ _ _ ∷ filled _ _ _ ∷ filled _ _ _ ∷ filled _ _ _ ∷ filled _ _ _ ∷ filled _ _ _ ∷ filled _ _ _ ∷ filled _ _ _ ∷ []) $ keep ! (0 ∷ 18 ∷ 17 ∷ 16 ∷ 15 ∷ 13 ∷ 14 ∷ 11 ∷ 12 ∷ 9 ∷ 10 ∷ 7 ∷ 8 ∷ 5 ∷ 6 ∷ 3 ∷ 4 ∷ 1 ∷ 2 ∷ []) $ by ! (exits r3 (machN r3) (zs2 .1 .1 .1 .1 .1 .0) (zs2 .1 .1 .1 .1 .1 .1 .0) (zs2 .1 .1 .1 .1 .1 .1 .1 .0) (zs2 .1 .1 .1 .1 .1 .1 .1 .1 .0) (zs2 .1 .1 .1 .1 .1 .1 .1 .1 .1 .0) (zs2 .1 .1 .1 .1 .1 .1 .1 .1 .1 .1 .0) (zs2 .1 .1 .1 .1 .1 .1 .1 .1 .1 .1 .1 .0) (op-stopped (xbank .now) iv levels (xcode .now) enc st (memOf ysops ysps yscells ysedges ysacross yscmds ysstems) i key h (memOf os qs cs es ks ms zs) (held .1 .1 .1 .1 .1 .1) r1 (zs1 .1 .1 .1 .1 .1 .0) e1 (held .1 .1 .1 .1 .0) (held .1 .1 .1 .0) go-on r2 r3 (memOf (zs2 .1 .1 .1 .1 .1 .0) (zs2 .1 .1 .1 .1 .1 .1 .0) (zs2 .1 .1 .1 .1 .1 .1 .1 .0) (zs2 .1 .1 .1 .1 .1 .1 .1 .1 .0) (zs2 .1 .1 .1 .1 .1 .1 .1 .1 .1 .0) (zs2 .1 .1 .1 .1 .1 .1 .1 .1 .1 .1 .0) (zs2 .1 .1 .1 .1 .1 .1 .1 .1 .1 .1 .1 .0)) e2 off e3) (lcmds2 ∙ held .1 .1 .1 .0) (lstems2 ∙ held .1 .1 .1 .1 .0))))
-        (λ went. skips ! $ forget ! 48 refl $ forget ! 46 refl $ forget ! 44 refl $ forget ! 42 refl $ forget ! 40 refl $ forget ! 38 refl $ forget ! 36 refl $ forget ! 34 refl $ forget ! 32 refl $ forget ! 30 refl $ forget ! 28 refl $ forget ! 26 refl $ forget ! 24 refl $ forget ! 22 refl $ forget ! 20 refl $ forget ! 18 refl $ keep ! (17 ∷ 16 ∷ 15 ∷ 14 ∷ 12 ∷ 13 ∷ 10 ∷ 11 ∷ 8 ∷ 9 ∷ 6 ∷ 7 ∷ 4 ∷ 5 ∷ 2 ∷ 3 ∷ 0 ∷ 1 ∷ 18 ∷ 19 ∷ 20 ∷ 21 ∷ 22 ∷ 23 ∷ 24 ∷ 25 ∷ 26 ∷ 27 ∷ 28 ∷ 29 ∷ 30 ∷ 31 ∷ 32 ∷ 33 ∷ 34 ∷ 35 ∷ 36 ∷ 37 ∷ 38 ∷ 39 ∷ 40 ∷ 41 ∷ 42 ∷ 43 ∷ 44 ∷ 45 ∷ 46 ∷ 47 ∷ 48 ∷ 49 ∷ 50 ∷ 51 ∷ 52 ∷ 53 ∷ 54 ∷ 55 ∷ 56 ∷ 57 ∷ 58 ∷ 59 ∷ 60 ∷ 61 ∷ 62 ∷ 63 ∷ 64 ∷ 65 ∷ 66 ∷ 67 ∷ 68 ∷ 69 ∷ 70 ∷ 71 ∷ 72 ∷ 73 ∷ 74 ∷ 75 ∷ 76 ∷ 77 ∷ 78 ∷ 79 ∷ 80 ∷ 81 ∷ 82 ∷ 83 ∷ 84 ∷ 85 ∷ []) $ by ! (go (r1 .next) (r1 .key) enc (r2 .st) (zs2 .1 .1 .1 .1 .1 .0) (zs2 .1 .1 .1 .1 .1 .1 .0) (zs2 .1 .1 .1 .1 .1 .1 .1 .0) (zs2 .1 .1 .1 .1 .1 .1 .1 .1 .0) (zs2 .1 .1 .1 .1 .1 .1 .1 .1 .1 .0) (zs2 .1 .1 .1 .1 .1 .1 .1 .1 .1 .1 .0) (zs2 .1 .1 .1 .1 .1 .1 .1 .1 .1 .1 .1 .0) (e1 .on) ((LL.owed K.the-type K′.the-laws r1 (w1 ∷ []) is1) .1 .0 .1, ((LL.owed K.the-type K′.the-laws r1 (w1 ∷ []) is1) .1 .1 .0 .1, ((LL.owed N.the-type N′.the-laws r2 (w2 ∷ []) is2) .0, (lcmds2 ∙ held .1 .1 .1 .0, (lstems2 ∙ held .1 .1 .1 .1 .0, (held .1 .1 .1 .1 .1 .0, op-went (xbank .now) iv levels (xcode .now) enc st (memOf ysops ysps yscells ysedges ysacross yscmds ysstems) i key h (memOf os qs cs es ks ms zs) (held .1 .1 .1 .1 .1 .1) r1 (zs1 .1 .1 .1 .1 .1 .0) e1 (held .1 .1 .1 .1 .0) (held .1 .1 .1 .0) go-on (held .1 .1 .1 .1 .1 .0 .1) (ready-token (xbank .now) iv levels (xcode .now) enc st (memOf ysops ysps yscells ysedges ysacross yscmds ysstems) i key h (memOf os qs cs es ks ms zs) (held .1 .1 .1 .1 .1 .1) r1 (zs1 .1 .1 .1 .1 .1 .0) e1 (held .1 .1 .1 .1 .1 .0 .0) (held .1 .0) go-on) r2 (memOf (zs2 .1 .1 .1 .1 .1 .0) (zs2 .1 .1 .1 .1 .1 .1 .0) (zs2 .1 .1 .1 .1 .1 .1 .1 .0) (zs2 .1 .1 .1 .1 .1 .1 .1 .1 .0) (zs2 .1 .1 .1 .1 .1 .1 .1 .1 .1 .0) (zs2 .1 .1 .1 .1 .1 .1 .1 .1 .1 .1 .0) (zs2 .1 .1 .1 .1 .1 .1 .1 .1 .1 .1 .1 .0)) e2 went)))))))))))))))))))))))))))))
+        returns-within ! (Post) refl (look ! 89 refl) $ move ! (0 ∷ 18 ∷ 17 ∷ 16 ∷ 15 ∷ 13 ∷ 14 ∷ 11 ∷ 12 ∷ 9 ∷ 10 ∷ 7 ∷ 8 ∷ 5 ∷ 6 ∷ 3 ∷ 4 ∷ 1 ∷ 2 ∷ 19 ∷ 20 ∷ 21 ∷ 22 ∷ 23 ∷ 24 ∷ 25 ∷ 26 ∷ 27 ∷ 28 ∷ 29 ∷ 30 ∷ 31 ∷ 32 ∷ 33 ∷ 34 ∷ 35 ∷ 36 ∷ 37 ∷ 38 ∷ 39 ∷ 40 ∷ 41 ∷ 42 ∷ 43 ∷ 44 ∷ 45 ∷ 46 ∷ 47 ∷ 48 ∷ 49 ∷ 50 ∷ 51 ∷ 52 ∷ 53 ∷ 54 ∷ 55 ∷ 56 ∷ 57 ∷ 58 ∷ 59 ∷ 60 ∷ 61 ∷ 62 ∷ 63 ∷ 64 ∷ 65 ∷ 66 ∷ 67 ∷ 68 ∷ 69 ∷ 70 ∷ 71 ∷ 72 ∷ 73 ∷ 74 ∷ 75 ∷ 76 ∷ 77 ∷ 78 ∷ 79 ∷ 80 ∷ 81 ∷ 82 ∷ 83 ∷ 84 ∷ 85 ∷ 86 ∷ 87 ∷ 88 ∷ 89 ∷ 90 ∷ []) $ leave ! (_ ∷ _ ∷ _ ∷ _ ∷ _ ∷ _ ∷ _ ∷ _ ∷ _ ∷ _ ∷ _ ∷ _ ∷ _ ∷ _ ∷ _ ∷ _ ∷ _ ∷ _ ∷ _ ∷ []) (filled _ _ _ ∷ filled _ _ _ ∷ filled _ _ _ ∷ filled _ _ _ ∷ filled _ _ _ ∷ filled _ _ _ ∷ filled _ _ _ ∷ filled _ _ _ ∷ filled _ _ _ ∷ filled _ _ _ ∷ filled _ _ _ ∷ filled _ _ _ ∷ filled _ _ _ ∷ bare _ _ ∷ filled _ _ _ ∷ filled _ _ _ ∷ filled _ _ _ ∷ filled _ _ _ ∷ filled _ _ _ ∷ filled _ _ _ ∷ filled _ _ _ ∷ filled _ _ _ ∷ filled _ _ _ ∷ filled _ _ _ ∷ filled _ _ _ ∷ filled _ _ _ ∷ filled _ _ _ ∷ filled _ _ _ ∷ filled _ _ _ ∷ filled _ _ _ ∷ filled _ _ _ ∷ filled _ _ _ ∷ filled _ _ _ ∷ filled _ _ _ ∷ filled _ _ _ ∷ filled _ _ _ ∷ []) $ keep ! (0 ∷ 1 ∷ 2 ∷ 3 ∷ 4 ∷ 5 ∷ 6 ∷ 7 ∷ 8 ∷ 9 ∷ 10 ∷ 11 ∷ 12 ∷ 13 ∷ 14 ∷ 15 ∷ 16 ∷ 17 ∷ 18 ∷ []) $ by ! (exits r3 (machN r3) (zs2 .1 .1 .1 .1 .1 .0) (zs2 .1 .1 .1 .1 .1 .1 .0) (zs2 .1 .1 .1 .1 .1 .1 .1 .0) (zs2 .1 .1 .1 .1 .1 .1 .1 .1 .0) (zs2 .1 .1 .1 .1 .1 .1 .1 .1 .1 .0) (zs2 .1 .1 .1 .1 .1 .1 .1 .1 .1 .1 .0) (zs2 .1 .1 .1 .1 .1 .1 .1 .1 .1 .1 .1 .0) (op-stopped (xbank .now) iv levels (xcode .now) enc st (memOf ysops ysps yscells ysedges ysacross yscmds ysstems) i key h (memOf os qs cs es ks ms zs) (held .1 .1 .1 .1 .1 .1) (held .1 .1 .1 .1 .0) (held .1 .1 .1 .0) r1 (zs1 .1 .1 .1 .1 .1 .0) (zs1 .1 .1 .1 .1 .1 .1 .0) e1 go-on r2 r3 (memOf (zs2 .1 .1 .1 .1 .1 .0) (zs2 .1 .1 .1 .1 .1 .1 .0) (zs2 .1 .1 .1 .1 .1 .1 .1 .0) (zs2 .1 .1 .1 .1 .1 .1 .1 .1 .0) (zs2 .1 .1 .1 .1 .1 .1 .1 .1 .1 .0) (zs2 .1 .1 .1 .1 .1 .1 .1 .1 .1 .1 .0) (zs2 .1 .1 .1 .1 .1 .1 .1 .1 .1 .1 .1 .0)) e2 off e3) (lcmds2 ∙ lcmds1 ∙ held .1 .1 .1 .0) (lstems2 ∙ held .1 .1 .1 .1 .0))))
+        (λ went. skips ! $ forget ! 52 refl $ forget ! 50 refl $ forget ! 48 refl $ forget ! 46 refl $ forget ! 44 refl $ forget ! 42 refl $ forget ! 40 refl $ forget ! 38 refl $ forget ! 36 refl $ forget ! 34 refl $ forget ! 32 refl $ forget ! 30 refl $ forget ! 28 refl $ forget ! 26 refl $ forget ! 24 refl $ forget ! 22 refl $ forget ! 20 refl $ forget ! 18 refl $ keep ! (17 ∷ 16 ∷ 15 ∷ 14 ∷ 12 ∷ 13 ∷ 10 ∷ 11 ∷ 8 ∷ 9 ∷ 6 ∷ 7 ∷ 4 ∷ 5 ∷ 2 ∷ 3 ∷ 0 ∷ 1 ∷ 18 ∷ 19 ∷ 20 ∷ 21 ∷ 22 ∷ 23 ∷ 24 ∷ 25 ∷ 26 ∷ 27 ∷ 28 ∷ 29 ∷ 30 ∷ 31 ∷ 32 ∷ 33 ∷ 34 ∷ 35 ∷ 36 ∷ 37 ∷ 38 ∷ 39 ∷ 40 ∷ 41 ∷ 42 ∷ 43 ∷ 44 ∷ 45 ∷ 46 ∷ 47 ∷ 48 ∷ 49 ∷ 50 ∷ 51 ∷ 52 ∷ 53 ∷ 54 ∷ 55 ∷ 56 ∷ 57 ∷ 58 ∷ 59 ∷ 60 ∷ 61 ∷ 62 ∷ 63 ∷ 64 ∷ 65 ∷ 66 ∷ 67 ∷ 68 ∷ 69 ∷ 70 ∷ 71 ∷ 72 ∷ 73 ∷ 74 ∷ 75 ∷ 76 ∷ 77 ∷ 78 ∷ 79 ∷ 80 ∷ 81 ∷ 82 ∷ 83 ∷ 84 ∷ 85 ∷ 86 ∷ 87 ∷ 88 ∷ 89 ∷ []) $ by ! (go (r1 .next) (r1 .key) enc (r2 .st) (zs2 .1 .1 .1 .1 .1 .0) (zs2 .1 .1 .1 .1 .1 .1 .0) (zs2 .1 .1 .1 .1 .1 .1 .1 .0) (zs2 .1 .1 .1 .1 .1 .1 .1 .1 .0) (zs2 .1 .1 .1 .1 .1 .1 .1 .1 .1 .0) (zs2 .1 .1 .1 .1 .1 .1 .1 .1 .1 .1 .0) (zs2 .1 .1 .1 .1 .1 .1 .1 .1 .1 .1 .1 .0) (e1 .on) ((LL.owed K.the-type K′.the-laws r1 (w1 ∷ []) is1) .1 .0 .1, ((LL.owed K.the-type K′.the-laws r1 (w1 ∷ []) is1) .1 .1 .0 .1, ((LL.owed N.the-type N′.the-laws r2 (w2 ∷ []) is2) .0, (lcmds2 ∙ lcmds1 ∙ held .1 .1 .1 .0, (lstems2 ∙ held .1 .1 .1 .1 .0, (held .1 .1 .1 .1 .1 .0, op-went (xbank .now) iv levels (xcode .now) enc st (memOf ysops ysps yscells ysedges ysacross yscmds ysstems) i key h (memOf os qs cs es ks ms zs) (held .1 .1 .1 .1 .1 .1) (held .1 .1 .1 .1 .0) (held .1 .1 .1 .0) r1 (zs1 .1 .1 .1 .1 .1 .0) (zs1 .1 .1 .1 .1 .1 .1 .0) e1 go-on (held .1 .1 .1 .1 .1 .0 .1) (ready-token (xbank .now) iv levels (xcode .now) enc st (memOf ysops ysps yscells ysedges ysacross yscmds ysstems) i key h (memOf os qs cs es ks ms zs) (held .1 .1 .1 .1 .1 .1) (held .1 .1 .1 .1 .0) (held .1 .1 .1 .0) r1 (zs1 .1 .1 .1 .1 .1 .0) (zs1 .1 .1 .1 .1 .1 .1 .0) e1 (held .1 .1 .1 .1 .1 .0 .1) (held .1 .1 .1 .1 .1 .0 .0) (held .1 .0) go-on) r2 (memOf (zs2 .1 .1 .1 .1 .1 .0) (zs2 .1 .1 .1 .1 .1 .1 .0) (zs2 .1 .1 .1 .1 .1 .1 .1 .0) (zs2 .1 .1 .1 .1 .1 .1 .1 .1 .0) (zs2 .1 .1 .1 .1 .1 .1 .1 .1 .1 .0) (zs2 .1 .1 .1 .1 .1 .1 .1 .1 .1 .1 .0) (zs2 .1 .1 .1 .1 .1 .1 .1 .1 .1 .1 .1 .0)) e2 went))))))))))))))))))))))))))))))))
 
-    ends : (X : SProp 𝓤) (i : ℕ) (key : ℕ) (enc : Bool) (h : St) (os : List Float) (qs : List Float) (cs : List Float) (es : List Float) (ks : List Bool) (ms : List ℕ) (zs : List Stem) → ltb i (length (xcode .now)) ≡ false → (held : Held i key enc h os qs cs es ks ms zs) (l₀ l₁ l₂ l₃ l₄ l₅ l₆ l₇ l₈ l₉ l₁₀ l₁₁ l₁₂ l₁₃ l₁₄ l₁₅ l₁₆ l₁₇ l₁₈ l₁₉ l₂₀ l₂₁ l₂₂ l₂₃ l₂₄ l₂₅ l₂₆ l₂₇ l₂₈ l₂₉ l₃₀ l₃₁ l₃₂ l₃₃ : ℕ)
-        → ent 𝓤 (⋆ 𝓤 H A (At i key enc h os qs cs es ks ms zs l₀ l₁ l₂ l₃ l₄ l₅ l₆ l₇ l₈ l₉ l₁₀ l₁₁ l₁₂ l₁₃ l₁₄ l₁₅ l₁₆ l₁₇ l₁₈ l₁₉ l₂₀ l₂₁ l₂₂ l₂₃ l₂₄ l₂₅ l₂₆ l₂₇ l₂₈ l₂₉ l₃₀ l₃₁ l₃₂ l₃₃)) (Wp 𝓤 H C Λ (En l₀ l₁ l₂ l₃ l₄ l₅ l₆ l₇ l₈ l₉ l₁₀ l₁₁ l₁₂ l₁₃ l₁₄ l₁₅ l₁₆ l₁₇ l₁₈ l₁₉ l₂₀ l₂₁ l₂₂ l₂₃ l₂₄ l₂₅ l₂₆ l₂₇ l₂₈ l₂₉ l₃₀ l₃₁ l₃₂ l₃₃) text.turn-1 (afterTurn 𝓤 H X (Left l₀ l₁ l₂ l₃ l₄ l₅ l₆ l₇ l₈ l₉ l₁₀ l₁₁ l₁₂ l₁₃ l₁₄ l₁₅ l₁₆ l₁₇ l₁₈ l₁₉ l₂₀ l₂₁ l₂₂ l₂₃ l₂₄ l₂₅ l₂₆ l₂₇ l₂₈ l₂₉ l₃₀ l₃₁ l₃₂ l₃₃)))
+    ends : (X : SProp 𝓤) (i : ℕ) (key : ℕ) (enc : Bool) (h : St) (os : List Float) (qs : List Float) (cs : List Float) (es : List Float) (ks : List Bool) (ms : List ℕ) (zs : List Stem) → ltb i (length (xcode .now)) ≡ false → (held : Held i key enc h os qs cs es ks ms zs) (l₀ l₁ l₂ l₃ l₄ l₅ l₆ l₇ l₈ l₉ l₁₀ l₁₁ l₁₂ l₁₃ l₁₄ l₁₅ l₁₆ l₁₇ l₁₈ l₁₉ l₂₀ l₂₁ l₂₂ l₂₃ l₂₄ l₂₅ l₂₆ l₂₇ l₂₈ l₂₉ l₃₀ l₃₁ l₃₂ l₃₃ l₃₄ l₃₅ : ℕ)
+        → ent 𝓤 (⋆ 𝓤 H A (At i key enc h os qs cs es ks ms zs l₀ l₁ l₂ l₃ l₄ l₅ l₆ l₇ l₈ l₉ l₁₀ l₁₁ l₁₂ l₁₃ l₁₄ l₁₅ l₁₆ l₁₇ l₁₈ l₁₉ l₂₀ l₂₁ l₂₂ l₂₃ l₂₄ l₂₅ l₂₆ l₂₇ l₂₈ l₂₉ l₃₀ l₃₁ l₃₂ l₃₃ l₃₄ l₃₅)) (Wp 𝓤 H C Λ (En l₀ l₁ l₂ l₃ l₄ l₅ l₆ l₇ l₈ l₉ l₁₀ l₁₁ l₁₂ l₁₃ l₁₄ l₁₅ l₁₆ l₁₇ l₁₈ l₁₉ l₂₀ l₂₁ l₂₂ l₂₃ l₂₄ l₂₅ l₂₆ l₂₇ l₂₈ l₂₉ l₃₀ l₃₁ l₃₂ l₃₃ l₃₄ l₃₅) text.turn-1 (afterTurn 𝓤 H X (Left l₀ l₁ l₂ l₃ l₄ l₅ l₆ l₇ l₈ l₉ l₁₀ l₁₁ l₁₂ l₁₃ l₁₄ l₁₅ l₁₆ l₁₇ l₁₈ l₁₉ l₂₀ l₂₁ l₂₂ l₂₃ l₂₄ l₂₅ l₂₆ l₂₇ l₂₈ l₂₉ l₃₀ l₃₁ l₃₂ l₃₃ l₃₄ l₃₅)))
     unfolding afterTurn
-    ends X i key enc h os qs cs es ks ms zs over held l₀ l₁ l₂ l₃ l₄ l₅ l₆ l₇ l₈ l₉ l₁₀ l₁₁ l₁₂ l₁₃ l₁₄ l₁₅ l₁₆ l₁₇ l₁₈ l₁₉ l₂₀ l₂₁ l₂₂ l₂₃ l₂₄ l₂₅ l₂₆ l₂₇ l₂₈ l₂₉ l₃₀ l₃₁ l₃₂ l₃₃ =
-        qed W (At i key enc h os qs cs es ks ms zs l₀ l₁ l₂ l₃ l₄ l₅ l₆ l₇ l₈ l₉ l₁₀ l₁₁ l₁₂ l₁₃ l₁₄ l₁₅ l₁₆ l₁₇ l₁₈ l₁₉ l₂₀ l₂₁ l₂₂ l₂₃ l₂₄ l₂₅ l₂₆ l₂₇ l₂₈ l₂₉ l₃₀ l₃₁ l₃₂ l₃₃) ∵ exec ! C Λ (En l₀ l₁ l₂ l₃ l₄ l₅ l₆ l₇ l₈ l₉ l₁₀ l₁₁ l₁₂ l₁₃ l₁₄ l₁₅ l₁₆ l₁₇ l₁₈ l₁₉ l₂₀ l₂₁ l₂₂ l₂₃ l₂₄ l₂₅ l₂₆ l₂₇ l₂₈ l₂₉ l₃₀ l₃₁ l₃₂ l₃₃) text.turn-1 (anyQ (afterTurn 𝓤 H X (Left l₀ l₁ l₂ l₃ l₄ l₅ l₆ l₇ l₈ l₉ l₁₀ l₁₁ l₁₂ l₁₃ l₁₄ l₁₅ l₁₆ l₁₇ l₁₈ l₁₉ l₂₀ l₂₁ l₂₂ l₂₃ l₂₄ l₂₅ l₂₆ l₂₇ l₂₈ l₂₉ l₃₀ l₃₁ l₃₂ l₃₃))) $
-        assigns ! (of-opd ! (load ! (from ! (fld ! refl (stop !))) (look-in ! 82 (sub ! 1 refl (whole !))))) (from ! (stop !)) (init ! 40 refl (tt, record { fits = fitcode .0 })) $
-        assigns ! (bin ! (load ! (from ! (stop !)) (look ! 54 refl)) (load ! (from ! (stop !)) (look ! 40 refl)) tt) (from ! (stop !)) (init ! 38 refl (tt, tt)) $ rewrite ! 38 (λ (t : Bool). ‵ (fat fullShare tyBool l₂₃ 0 (vbool t))) (over) refl $ leaves-loop ! (load ! (from ! (stop !)) (look ! 38 refl)) $ exec ! C Λ (En l₀ l₁ l₂ l₃ l₄ l₅ l₆ l₇ l₈ l₉ l₁₀ l₁₁ l₁₂ l₁₃ l₁₄ l₁₅ l₁₆ l₁₇ l₁₈ l₁₉ l₂₀ l₂₁ l₂₂ l₂₃ l₂₄ l₂₅ l₂₆ l₂₇ l₂₈ l₂₉ l₃₀ l₃₁ l₃₂ l₃₃) text.t-7 (atRet (En l₀ l₁ l₂ l₃ l₄ l₅ l₆ l₇ l₈ l₉ l₁₀ l₁₁ l₁₂ l₁₃ l₁₄ l₁₅ l₁₆ l₁₇ l₁₈ l₁₉ l₂₀ l₂₁ l₂₂ l₂₃ l₂₄ l₂₅ l₂₆ l₂₇ l₂₈ l₂₉ l₃₀ l₃₁ l₃₂ l₃₃) Post) $
+    ends X i key enc h os qs cs es ks ms zs over held l₀ l₁ l₂ l₃ l₄ l₅ l₆ l₇ l₈ l₉ l₁₀ l₁₁ l₁₂ l₁₃ l₁₄ l₁₅ l₁₆ l₁₇ l₁₈ l₁₉ l₂₀ l₂₁ l₂₂ l₂₃ l₂₄ l₂₅ l₂₆ l₂₇ l₂₈ l₂₉ l₃₀ l₃₁ l₃₂ l₃₃ l₃₄ l₃₅ =
+        qed W (At i key enc h os qs cs es ks ms zs l₀ l₁ l₂ l₃ l₄ l₅ l₆ l₇ l₈ l₉ l₁₀ l₁₁ l₁₂ l₁₃ l₁₄ l₁₅ l₁₆ l₁₇ l₁₈ l₁₉ l₂₀ l₂₁ l₂₂ l₂₃ l₂₄ l₂₅ l₂₆ l₂₇ l₂₈ l₂₉ l₃₀ l₃₁ l₃₂ l₃₃ l₃₄ l₃₅) ∵ exec ! C Λ (En l₀ l₁ l₂ l₃ l₄ l₅ l₆ l₇ l₈ l₉ l₁₀ l₁₁ l₁₂ l₁₃ l₁₄ l₁₅ l₁₆ l₁₇ l₁₈ l₁₉ l₂₀ l₂₁ l₂₂ l₂₃ l₂₄ l₂₅ l₂₆ l₂₇ l₂₈ l₂₉ l₃₀ l₃₁ l₃₂ l₃₃ l₃₄ l₃₅) text.turn-1 (anyQ (afterTurn 𝓤 H X (Left l₀ l₁ l₂ l₃ l₄ l₅ l₆ l₇ l₈ l₉ l₁₀ l₁₁ l₁₂ l₁₃ l₁₄ l₁₅ l₁₆ l₁₇ l₁₈ l₁₉ l₂₀ l₂₁ l₂₂ l₂₃ l₂₄ l₂₅ l₂₆ l₂₇ l₂₈ l₂₉ l₃₀ l₃₁ l₃₂ l₃₃ l₃₄ l₃₅))) $
+        assigns ! (of-opd ! (load ! (from ! (fld ! refl (stop !))) (look-in ! 86 (sub ! 1 refl (whole !))))) (from ! (stop !)) (init ! 44 refl (tt, record { fits = fitcode .0 })) $
+        assigns ! (bin ! (load ! (from ! (stop !)) (look ! 58 refl)) (load ! (from ! (stop !)) (look ! 44 refl)) tt) (from ! (stop !)) (init ! 42 refl (tt, tt)) $ rewrite ! 42 (λ (t : Bool). ‵ (fat fullShare tyBool l₂₃ 0 (vbool t))) (over) refl $ leaves-loop ! (load ! (from ! (stop !)) (look ! 42 refl)) $ exec ! C Λ (En l₀ l₁ l₂ l₃ l₄ l₅ l₆ l₇ l₈ l₉ l₁₀ l₁₁ l₁₂ l₁₃ l₁₄ l₁₅ l₁₆ l₁₇ l₁₈ l₁₉ l₂₀ l₂₁ l₂₂ l₂₃ l₂₄ l₂₅ l₂₆ l₂₇ l₂₈ l₂₉ l₃₀ l₃₁ l₃₂ l₃₃ l₃₄ l₃₅) text.t-7 (atRet (En l₀ l₁ l₂ l₃ l₄ l₅ l₆ l₇ l₈ l₉ l₁₀ l₁₁ l₁₂ l₁₃ l₁₄ l₁₅ l₁₆ l₁₇ l₁₈ l₁₉ l₂₀ l₂₁ l₂₂ l₂₃ l₂₄ l₂₅ l₂₆ l₂₇ l₂₈ l₂₉ l₃₀ l₃₁ l₃₂ l₃₃ l₃₄ l₃₅) Post) $
         -- `made`
-        nothing ! $ asks-all ! fm N.the-row (Is N.the-row) (shows 𝓤 H A N.the-row) (Unit {0} × (Unit {0} × Unit {0})) (λ (r : N.the-row .Denot) (lasts : (Unit {0} × (Unit {0} × Unit {0}))). r ≡ ranOf h 0) (λ (lasts : (Unit {0} × (Unit {0} × Unit {0}))). (fsep ftrue (fsep ftrue ftrue))) (‵ ftrue) (‵ ftrue) (machS h ∷ vint w8 0 ∷ []) (made-as 𝓤 H A mem run′ W C known-made (h) (0) (held .1 .1 .0) (lit< tt)) (and-then ! (load ! (from ! (stop !)) (look ! 51 refl)) (and-then ! (lit ! tt) (no-more !))) (λ w1 r1 zs1 e1 is1. land ! (from ! (stop !)) (init ! 87 refl (typedN 𝓤 H A W r1 _ is1)) $ rewrite ! 87 (λ (u : Val). ‵ (fat fullShare tNt l₀ 0 u)) (ap only (LL.tells N.the-type N′.the-laws r1 (w1 ∷ []) is1)) refl $ drop ! $ drop ! $ fsplit ! $ drop ! $ fsplit ! $ drop ! $ drop ! $
+        nothing ! $ asks-all ! fm N.the-row (Is N.the-row) (shows 𝓤 H A N.the-row) (Unit {0} × (Unit {0} × Unit {0})) (λ (r : N.the-row .Denot) (lasts : (Unit {0} × (Unit {0} × Unit {0}))). r ≡ ranOf h 0) (λ (lasts : (Unit {0} × (Unit {0} × Unit {0}))). (fsep ftrue (fsep ftrue ftrue))) (‵ ftrue) (‵ ftrue) (machS h ∷ vint w8 0 ∷ []) (made-as 𝓤 H A mem run′ W C known-made (h) (0) (held .1 .1 .0) (lit< tt)) (and-then ! (load ! (from ! (stop !)) (look ! 55 refl)) (and-then ! (lit ! tt) (no-more !))) (λ w1 r1 zs1 e1 is1. land ! (from ! (stop !)) (init ! 91 refl (typedN 𝓤 H A W r1 _ is1)) $ rewrite ! 91 (λ (u : Val). ‵ (fat fullShare tNt l₀ 0 u)) (ap only (LL.tells N.the-type N′.the-laws r1 (w1 ∷ []) is1)) refl $ drop ! $ drop ! $ fsplit ! $ drop ! $ fsplit ! $ drop ! $ drop ! $
         owned ! N.the-row (Is N.the-row) (LL.makes N.the-type N′.the-plain 𝓤 H A) r1 _ (mineN r1 w1 is1) $
-        returns ! (look ! 85 refl) $ leave ! (_ ∷ _ ∷ _ ∷ _ ∷ _ ∷ _ ∷ _ ∷ _ ∷ _ ∷ _ ∷ _ ∷ _ ∷ _ ∷ _ ∷ _ ∷ _ ∷ _ ∷ _ ∷ _ ∷ []) (filled _ _ _ ∷ filled _ _ _ ∷ filled _ _ _ ∷ filled _ _ _ ∷ filled _ _ _ ∷ filled _ _ _ ∷ filled _ _ _ ∷ filled _ _ _ ∷ filled _ _ _ ∷ filled _ _ _ ∷ filled _ _ _ ∷ filled _ _ _ ∷ filled _ _ _ ∷ bare _ _ ∷ filled _ _ _ ∷ filled _ _ _ ∷ filled _ _ _ ∷ filled _ _ _ ∷ bare _ _ ∷ bare _ _ ∷ bare _ _ ∷ bare _ _ ∷ filled _ _ _ ∷ filled _ _ _ ∷ bare _ _ ∷ bare _ _ ∷ bare _ _ ∷ bare _ _ ∷ bare _ _ ∷ bare _ _ ∷ bare _ _ ∷ bare _ _ ∷ bare _ _ ∷ bare _ _ ∷ []) $ keep ! (0 ∷ 1 ∷ 2 ∷ 3 ∷ 4 ∷ 5 ∷ 6 ∷ 7 ∷ 8 ∷ 9 ∷ 10 ∷ 11 ∷ 12 ∷ 13 ∷ 14 ∷ 15 ∷ 16 ∷ 17 ∷ 18 ∷ []) $ by ! (exits r1 (machN r1) os qs cs es ks ms zs (ended (xbank .now) iv levels (xcode .now) enc st (memOf ysops ysps yscells ysedges ysacross yscmds ysstems) i key h (memOf os qs cs es ks ms zs) (held .1 .1 .1 .1 .1 .1) over r1 e1) (held .1 .1 .1 .0) (held .1 .1 .1 .1 .0)))
+        returns ! (look ! 89 refl) $ leave ! (_ ∷ _ ∷ _ ∷ _ ∷ _ ∷ _ ∷ _ ∷ _ ∷ _ ∷ _ ∷ _ ∷ _ ∷ _ ∷ _ ∷ _ ∷ _ ∷ _ ∷ _ ∷ _ ∷ []) (filled _ _ _ ∷ filled _ _ _ ∷ filled _ _ _ ∷ filled _ _ _ ∷ filled _ _ _ ∷ filled _ _ _ ∷ filled _ _ _ ∷ filled _ _ _ ∷ filled _ _ _ ∷ filled _ _ _ ∷ filled _ _ _ ∷ filled _ _ _ ∷ filled _ _ _ ∷ bare _ _ ∷ filled _ _ _ ∷ filled _ _ _ ∷ filled _ _ _ ∷ filled _ _ _ ∷ bare _ _ ∷ bare _ _ ∷ bare _ _ ∷ bare _ _ ∷ filled _ _ _ ∷ filled _ _ _ ∷ bare _ _ ∷ bare _ _ ∷ bare _ _ ∷ bare _ _ ∷ bare _ _ ∷ bare _ _ ∷ bare _ _ ∷ bare _ _ ∷ bare _ _ ∷ bare _ _ ∷ bare _ _ ∷ bare _ _ ∷ []) $ keep ! (0 ∷ 1 ∷ 2 ∷ 3 ∷ 4 ∷ 5 ∷ 6 ∷ 7 ∷ 8 ∷ 9 ∷ 10 ∷ 11 ∷ 12 ∷ 13 ∷ 14 ∷ 15 ∷ 16 ∷ 17 ∷ 18 ∷ []) $ by ! (exits r1 (machN r1) os qs cs es ks ms zs (ended (xbank .now) iv levels (xcode .now) enc st (memOf ysops ysps yscells ysedges ysacross yscmds ysstems) i key h (memOf os qs cs es ks ms zs) (held .1 .1 .1 .1 .1 .1) over r1 e1) (held .1 .1 .1 .0) (held .1 .1 .1 .1 .0)))
 
     in-range : (i : ℕ) → ltb i (length (xcode .now)) ≡ true → i < length (xcode .now)
     in-range i is = ltb→lt i (length (xcode .now)) (subst So (sym is) tt)
@@ -254,34 +256,34 @@ module _ {M : Type 1} (𝓤 : URA M) (H : Heap 𝓤) (A : Atoms 𝓤) (W : Given
     nearer : (i i′ u : ℕ) → length (xcode .now) ≤ i + suc u → i < i′ → length (xcode .now) ≤ i′ + u
     nearer i i′ u e up = omega (arith, e, up)
 
-    module _ (l₀ l₁ l₂ l₃ l₄ l₅ l₆ l₇ l₈ l₉ l₁₀ l₁₁ l₁₂ l₁₃ l₁₄ l₁₅ l₁₆ l₁₇ l₁₈ l₁₉ l₂₀ l₂₁ l₂₂ l₂₃ l₂₄ l₂₅ l₂₆ l₂₇ l₂₈ l₂₉ l₃₀ l₃₁ l₃₂ l₃₃ : ℕ) where
+    module _ (l₀ l₁ l₂ l₃ l₄ l₅ l₆ l₇ l₈ l₉ l₁₀ l₁₁ l₁₂ l₁₃ l₁₄ l₁₅ l₁₆ l₁₇ l₁₈ l₁₉ l₂₀ l₂₁ l₂₂ l₂₃ l₂₄ l₂₅ l₂₆ l₂₇ l₂₈ l₂₉ l₃₀ l₃₁ l₃₂ l₃₃ l₃₄ l₃₅ : ℕ) where
       abbrev Turn : ℕ → ℕ → ℕ → Bool → St → (List Float) → (List Float) → (List Float) → (List Float) → (List Bool) → (List ℕ) → (List Stem) → Type 1
-      Turn u i key enc h os qs cs es ks ms zs = ent 𝓤 (⋆ 𝓤 H A (At i key enc h os qs cs es ks ms zs l₀ l₁ l₂ l₃ l₄ l₅ l₆ l₇ l₈ l₉ l₁₀ l₁₁ l₁₂ l₁₃ l₁₄ l₁₅ l₁₆ l₁₇ l₁₈ l₁₉ l₂₀ l₂₁ l₂₂ l₂₃ l₂₄ l₂₅ l₂₆ l₂₇ l₂₈ l₂₉ l₃₀ l₃₁ l₃₂ l₃₃)) (Wp 𝓤 H C Λ (En l₀ l₁ l₂ l₃ l₄ l₅ l₆ l₇ l₈ l₉ l₁₀ l₁₁ l₁₂ l₁₃ l₁₄ l₁₅ l₁₆ l₁₇ l₁₈ l₁₉ l₂₀ l₂₁ l₂₂ l₂₃ l₂₄ l₂₅ l₂₆ l₂₇ l₂₈ l₂₉ l₃₀ l₃₁ l₃₂ l₃₃) text.turn-1 (afterTurn 𝓤 H (Below l₀ l₁ l₂ l₃ l₄ l₅ l₆ l₇ l₈ l₉ l₁₀ l₁₁ l₁₂ l₁₃ l₁₄ l₁₅ l₁₆ l₁₇ l₁₈ l₁₉ l₂₀ l₂₁ l₂₂ l₂₃ l₂₄ l₂₅ l₂₆ l₂₇ l₂₈ l₂₉ l₃₀ l₃₁ l₃₂ l₃₃ u) (Left l₀ l₁ l₂ l₃ l₄ l₅ l₆ l₇ l₈ l₉ l₁₀ l₁₁ l₁₂ l₁₃ l₁₄ l₁₅ l₁₆ l₁₇ l₁₈ l₁₉ l₂₀ l₂₁ l₂₂ l₂₃ l₂₄ l₂₅ l₂₆ l₂₇ l₂₈ l₂₉ l₃₀ l₃₁ l₃₂ l₃₃)))
+      Turn u i key enc h os qs cs es ks ms zs = ent 𝓤 (⋆ 𝓤 H A (At i key enc h os qs cs es ks ms zs l₀ l₁ l₂ l₃ l₄ l₅ l₆ l₇ l₈ l₉ l₁₀ l₁₁ l₁₂ l₁₃ l₁₄ l₁₅ l₁₆ l₁₇ l₁₈ l₁₉ l₂₀ l₂₁ l₂₂ l₂₃ l₂₄ l₂₅ l₂₆ l₂₇ l₂₈ l₂₉ l₃₀ l₃₁ l₃₂ l₃₃ l₃₄ l₃₅)) (Wp 𝓤 H C Λ (En l₀ l₁ l₂ l₃ l₄ l₅ l₆ l₇ l₈ l₉ l₁₀ l₁₁ l₁₂ l₁₃ l₁₄ l₁₅ l₁₆ l₁₇ l₁₈ l₁₉ l₂₀ l₂₁ l₂₂ l₂₃ l₂₄ l₂₅ l₂₆ l₂₇ l₂₈ l₂₉ l₃₀ l₃₁ l₃₂ l₃₃ l₃₄ l₃₅) text.turn-1 (afterTurn 𝓤 H (Below l₀ l₁ l₂ l₃ l₄ l₅ l₆ l₇ l₈ l₉ l₁₀ l₁₁ l₁₂ l₁₃ l₁₄ l₁₅ l₁₆ l₁₇ l₁₈ l₁₉ l₂₀ l₂₁ l₂₂ l₂₃ l₂₄ l₂₅ l₂₆ l₂₇ l₂₈ l₂₉ l₃₀ l₃₁ l₃₂ l₃₃ l₃₄ l₃₅ u) (Left l₀ l₁ l₂ l₃ l₄ l₅ l₆ l₇ l₈ l₉ l₁₀ l₁₁ l₁₂ l₁₃ l₁₄ l₁₅ l₁₆ l₁₇ l₁₈ l₁₉ l₂₀ l₂₁ l₂₂ l₂₃ l₂₄ l₂₅ l₂₆ l₂₇ l₂₈ l₂₉ l₃₀ l₃₁ l₃₂ l₃₃ l₃₄ l₃₅)))
 
-      turn-at : (u : ℕ) (i : ℕ) (key : ℕ) (enc : Bool) (h : St) (os : List Float) (qs : List Float) (cs : List Float) (es : List Float) (ks : List Bool) (ms : List ℕ) (zs : List Stem) → Facts l₀ l₁ l₂ l₃ l₄ l₅ l₆ l₇ l₈ l₉ l₁₀ l₁₁ l₁₂ l₁₃ l₁₄ l₁₅ l₁₆ l₁₇ l₁₈ l₁₉ l₂₀ l₂₁ l₂₂ l₂₃ l₂₄ l₂₅ l₂₆ l₂₇ l₂₈ l₂₉ l₃₀ l₃₁ l₃₂ l₃₃ u i key enc h os qs cs es ks ms zs → (c : Bool) → ltb i (length (xcode .now)) ≡ c → Turn u i key enc h os qs cs es ks ms zs
-      turn-at u i key enc h os qs cs es ks ms zs e false is = ends (Below l₀ l₁ l₂ l₃ l₄ l₅ l₆ l₇ l₈ l₉ l₁₀ l₁₁ l₁₂ l₁₃ l₁₄ l₁₅ l₁₆ l₁₇ l₁₈ l₁₉ l₂₀ l₂₁ l₂₂ l₂₃ l₂₄ l₂₅ l₂₆ l₂₇ l₂₈ l₂₉ l₃₀ l₃₁ l₃₂ l₃₃ u) i key enc h os qs cs es ks ms zs is (e .1) l₀ l₁ l₂ l₃ l₄ l₅ l₆ l₇ l₈ l₉ l₁₀ l₁₁ l₁₂ l₁₃ l₁₄ l₁₅ l₁₆ l₁₇ l₁₈ l₁₉ l₂₀ l₂₁ l₂₂ l₂₃ l₂₄ l₂₅ l₂₆ l₂₇ l₂₈ l₂₉ l₃₀ l₃₁ l₃₂ l₃₃
+      turn-at : (u : ℕ) (i : ℕ) (key : ℕ) (enc : Bool) (h : St) (os : List Float) (qs : List Float) (cs : List Float) (es : List Float) (ks : List Bool) (ms : List ℕ) (zs : List Stem) → Facts l₀ l₁ l₂ l₃ l₄ l₅ l₆ l₇ l₈ l₉ l₁₀ l₁₁ l₁₂ l₁₃ l₁₄ l₁₅ l₁₆ l₁₇ l₁₈ l₁₉ l₂₀ l₂₁ l₂₂ l₂₃ l₂₄ l₂₅ l₂₆ l₂₇ l₂₈ l₂₉ l₃₀ l₃₁ l₃₂ l₃₃ l₃₄ l₃₅ u i key enc h os qs cs es ks ms zs → (c : Bool) → ltb i (length (xcode .now)) ≡ c → Turn u i key enc h os qs cs es ks ms zs
+      turn-at u i key enc h os qs cs es ks ms zs e false is = ends (Below l₀ l₁ l₂ l₃ l₄ l₅ l₆ l₇ l₈ l₉ l₁₀ l₁₁ l₁₂ l₁₃ l₁₄ l₁₅ l₁₆ l₁₇ l₁₈ l₁₉ l₂₀ l₂₁ l₂₂ l₂₃ l₂₄ l₂₅ l₂₆ l₂₇ l₂₈ l₂₉ l₃₀ l₃₁ l₃₂ l₃₃ l₃₄ l₃₅ u) i key enc h os qs cs es ks ms zs is (e .1) l₀ l₁ l₂ l₃ l₄ l₅ l₆ l₇ l₈ l₉ l₁₀ l₁₁ l₁₂ l₁₃ l₁₄ l₁₅ l₁₆ l₁₇ l₁₈ l₁₉ l₂₀ l₂₁ l₂₂ l₂₃ l₂₄ l₂₅ l₂₆ l₂₇ l₂₈ l₂₉ l₃₀ l₃₁ l₃₂ l₃₃ l₃₄ l₃₅
       turn-at zero i key enc h os qs cs es ks ms zs e true is = absurd (never-below i (e .0) is)
-      turn-at (suc u) i key enc h os qs cs es ks ms zs e true is = more (Below l₀ l₁ l₂ l₃ l₄ l₅ l₆ l₇ l₈ l₉ l₁₀ l₁₁ l₁₂ l₁₃ l₁₄ l₁₅ l₁₆ l₁₇ l₁₈ l₁₉ l₂₀ l₂₁ l₂₂ l₂₃ l₂₄ l₂₅ l₂₆ l₂₇ l₂₈ l₂₉ l₃₀ l₃₁ l₃₂ l₃₃ (suc u)) i key enc h os qs cs es ks ms zs (in-range i is) (e .1) l₀ l₁ l₂ l₃ l₄ l₅ l₆ l₇ l₈ l₉ l₁₀ l₁₁ l₁₂ l₁₃ l₁₄ l₁₅ l₁₆ l₁₇ l₁₈ l₁₉ l₂₀ l₂₁ l₂₂ l₂₃ l₂₄ l₂₅ l₂₆ l₂₇ l₂₈ l₂₉ l₃₀ l₃₁ l₃₂ l₃₃ (λ i′ key′ enc′ h′ os′ qs′ cs′ es′ ks′ ms′ zs′ rises held′.
-          via 𝓤 (Inv l₀ l₁ l₂ l₃ l₄ l₅ l₆ l₇ l₈ l₉ l₁₀ l₁₁ l₁₂ l₁₃ l₁₄ l₁₅ l₁₆ l₁₇ l₁₈ l₁₉ l₂₀ l₂₁ l₂₂ l₂₃ l₂₄ l₂₅ l₂₆ l₂₇ l₂₈ l₂₉ l₃₀ l₃₁ l₃₂ l₃₃ u) (enters l₀ l₁ l₂ l₃ l₄ l₅ l₆ l₇ l₈ l₉ l₁₀ l₁₁ l₁₂ l₁₃ l₁₄ l₁₅ l₁₆ l₁₇ l₁₈ l₁₉ l₂₀ l₂₁ l₂₂ l₂₃ l₂₄ l₂₅ l₂₆ l₂₇ l₂₈ l₂₉ l₃₀ l₃₁ l₃₂ l₃₃ u i′ key′ enc′ h′ os′ qs′ cs′ es′ ks′ ms′ zs′ (nearer i i′ u (e .0) rises, held′))
-          (via 𝓤 (guard 𝓤 (u < suc u) (Inv l₀ l₁ l₂ l₃ l₄ l₅ l₆ l₇ l₈ l₉ l₁₀ l₁₁ l₁₂ l₁₃ l₁₄ l₁₅ l₁₆ l₁₇ l₁₈ l₁₉ l₂₀ l₂₁ l₂₂ l₂₃ l₂₄ l₂₅ l₂₆ l₂₇ l₂₈ l₂₉ l₃₀ l₃₁ l₃₂ l₃₃ u)) (guardI 𝓤 (u < suc u) (Inv l₀ l₁ l₂ l₃ l₄ l₅ l₆ l₇ l₈ l₉ l₁₀ l₁₁ l₁₂ l₁₃ l₁₄ l₁₅ l₁₆ l₁₇ l₁₈ l₁₉ l₂₀ l₂₁ l₂₂ l₂₃ l₂₄ l₂₅ l₂₆ l₂₇ l₂₈ l₂₉ l₃₀ l₃₁ l₃₂ l₃₃ u) (omega arith)) (exI 𝓤 (λ (v : ℕ). guard 𝓤 (v < suc u) (Inv l₀ l₁ l₂ l₃ l₄ l₅ l₆ l₇ l₈ l₉ l₁₀ l₁₁ l₁₂ l₁₃ l₁₄ l₁₅ l₁₆ l₁₇ l₁₈ l₁₉ l₂₀ l₂₁ l₂₂ l₂₃ l₂₄ l₂₅ l₂₆ l₂₇ l₂₈ l₂₉ l₃₀ l₃₁ l₃₂ l₃₃ v)) u)))
+      turn-at (suc u) i key enc h os qs cs es ks ms zs e true is = more (Below l₀ l₁ l₂ l₃ l₄ l₅ l₆ l₇ l₈ l₉ l₁₀ l₁₁ l₁₂ l₁₃ l₁₄ l₁₅ l₁₆ l₁₇ l₁₈ l₁₉ l₂₀ l₂₁ l₂₂ l₂₃ l₂₄ l₂₅ l₂₆ l₂₇ l₂₈ l₂₉ l₃₀ l₃₁ l₃₂ l₃₃ l₃₄ l₃₅ (suc u)) i key enc h os qs cs es ks ms zs (in-range i is) (e .1) l₀ l₁ l₂ l₃ l₄ l₅ l₆ l₇ l₈ l₉ l₁₀ l₁₁ l₁₂ l₁₃ l₁₄ l₁₅ l₁₆ l₁₇ l₁₈ l₁₉ l₂₀ l₂₁ l₂₂ l₂₃ l₂₄ l₂₅ l₂₆ l₂₇ l₂₈ l₂₉ l₃₀ l₃₁ l₃₂ l₃₃ l₃₄ l₃₅ (λ i′ key′ enc′ h′ os′ qs′ cs′ es′ ks′ ms′ zs′ rises held′.
+          via 𝓤 (Inv l₀ l₁ l₂ l₃ l₄ l₅ l₆ l₇ l₈ l₉ l₁₀ l₁₁ l₁₂ l₁₃ l₁₄ l₁₅ l₁₆ l₁₇ l₁₈ l₁₉ l₂₀ l₂₁ l₂₂ l₂₃ l₂₄ l₂₅ l₂₆ l₂₇ l₂₈ l₂₉ l₃₀ l₃₁ l₃₂ l₃₃ l₃₄ l₃₅ u) (enters l₀ l₁ l₂ l₃ l₄ l₅ l₆ l₇ l₈ l₉ l₁₀ l₁₁ l₁₂ l₁₃ l₁₄ l₁₅ l₁₆ l₁₇ l₁₈ l₁₉ l₂₀ l₂₁ l₂₂ l₂₃ l₂₄ l₂₅ l₂₆ l₂₇ l₂₈ l₂₉ l₃₀ l₃₁ l₃₂ l₃₃ l₃₄ l₃₅ u i′ key′ enc′ h′ os′ qs′ cs′ es′ ks′ ms′ zs′ (nearer i i′ u (e .0) rises, held′))
+          (via 𝓤 (guard 𝓤 (u < suc u) (Inv l₀ l₁ l₂ l₃ l₄ l₅ l₆ l₇ l₈ l₉ l₁₀ l₁₁ l₁₂ l₁₃ l₁₄ l₁₅ l₁₆ l₁₇ l₁₈ l₁₉ l₂₀ l₂₁ l₂₂ l₂₃ l₂₄ l₂₅ l₂₆ l₂₇ l₂₈ l₂₉ l₃₀ l₃₁ l₃₂ l₃₃ l₃₄ l₃₅ u)) (guardI 𝓤 (u < suc u) (Inv l₀ l₁ l₂ l₃ l₄ l₅ l₆ l₇ l₈ l₉ l₁₀ l₁₁ l₁₂ l₁₃ l₁₄ l₁₅ l₁₆ l₁₇ l₁₈ l₁₉ l₂₀ l₂₁ l₂₂ l₂₃ l₂₄ l₂₅ l₂₆ l₂₇ l₂₈ l₂₉ l₃₀ l₃₁ l₃₂ l₃₃ l₃₄ l₃₅ u) (omega arith)) (exI 𝓤 (λ (v : ℕ). guard 𝓤 (v < suc u) (Inv l₀ l₁ l₂ l₃ l₄ l₅ l₆ l₇ l₈ l₉ l₁₀ l₁₁ l₁₂ l₁₃ l₁₄ l₁₅ l₁₆ l₁₇ l₁₈ l₁₉ l₂₀ l₂₁ l₂₂ l₂₃ l₂₄ l₂₅ l₂₆ l₂₇ l₂₈ l₂₉ l₃₀ l₃₁ l₃₂ l₃₃ l₃₄ l₃₅ v)) u)))
 
-      turns : (u : ℕ) → ent 𝓤 (Inv l₀ l₁ l₂ l₃ l₄ l₅ l₆ l₇ l₈ l₉ l₁₀ l₁₁ l₁₂ l₁₃ l₁₄ l₁₅ l₁₆ l₁₇ l₁₈ l₁₉ l₂₀ l₂₁ l₂₂ l₂₃ l₂₄ l₂₅ l₂₆ l₂₇ l₂₈ l₂₉ l₃₀ l₃₁ l₃₂ l₃₃ u) (Wp 𝓤 H C Λ (En l₀ l₁ l₂ l₃ l₄ l₅ l₆ l₇ l₈ l₉ l₁₀ l₁₁ l₁₂ l₁₃ l₁₄ l₁₅ l₁₆ l₁₇ l₁₈ l₁₉ l₂₀ l₂₁ l₂₂ l₂₃ l₂₄ l₂₅ l₂₆ l₂₇ l₂₈ l₂₉ l₃₀ l₃₁ l₃₂ l₃₃) text.turn-1 (afterTurn 𝓤 H (Below l₀ l₁ l₂ l₃ l₄ l₅ l₆ l₇ l₈ l₉ l₁₀ l₁₁ l₁₂ l₁₃ l₁₄ l₁₅ l₁₆ l₁₇ l₁₈ l₁₉ l₂₀ l₂₁ l₂₂ l₂₃ l₂₄ l₂₅ l₂₆ l₂₇ l₂₈ l₂₉ l₃₀ l₃₁ l₃₂ l₃₃ u) (Left l₀ l₁ l₂ l₃ l₄ l₅ l₆ l₇ l₈ l₉ l₁₀ l₁₁ l₁₂ l₁₃ l₁₄ l₁₅ l₁₆ l₁₇ l₁₈ l₁₉ l₂₀ l₂₁ l₂₂ l₂₃ l₂₄ l₂₅ l₂₆ l₂₇ l₂₈ l₂₉ l₃₀ l₃₁ l₃₂ l₃₃)))
-      turns u = exE 𝓤 (λ (x : ℕ × (ℕ × (Bool × (St × (List Float × (List Float × (List Float × (List Float × (List Bool × (List ℕ × (List Stem))))))))))). guard 𝓤 (Facts l₀ l₁ l₂ l₃ l₄ l₅ l₆ l₇ l₈ l₉ l₁₀ l₁₁ l₁₂ l₁₃ l₁₄ l₁₅ l₁₆ l₁₇ l₁₈ l₁₉ l₂₀ l₂₁ l₂₂ l₂₃ l₂₄ l₂₅ l₂₆ l₂₇ l₂₈ l₂₉ l₃₀ l₃₁ l₃₂ l₃₃ u (x .0) (x .1 .0) (x .1 .1 .0) (x .1 .1 .1 .0) (x .1 .1 .1 .1 .0) (x .1 .1 .1 .1 .1 .0) (x .1 .1 .1 .1 .1 .1 .0) (x .1 .1 .1 .1 .1 .1 .1 .0) (x .1 .1 .1 .1 .1 .1 .1 .1 .0) (x .1 .1 .1 .1 .1 .1 .1 .1 .1 .0) (x .1 .1 .1 .1 .1 .1 .1 .1 .1 .1)) (⋆ 𝓤 H A (At (x .0) (x .1 .0) (x .1 .1 .0) (x .1 .1 .1 .0) (x .1 .1 .1 .1 .0) (x .1 .1 .1 .1 .1 .0) (x .1 .1 .1 .1 .1 .1 .0) (x .1 .1 .1 .1 .1 .1 .1 .0) (x .1 .1 .1 .1 .1 .1 .1 .1 .0) (x .1 .1 .1 .1 .1 .1 .1 .1 .1 .0) (x .1 .1 .1 .1 .1 .1 .1 .1 .1 .1) l₀ l₁ l₂ l₃ l₄ l₅ l₆ l₇ l₈ l₉ l₁₀ l₁₁ l₁₂ l₁₃ l₁₄ l₁₅ l₁₆ l₁₇ l₁₈ l₁₉ l₂₀ l₂₁ l₂₂ l₂₃ l₂₄ l₂₅ l₂₆ l₂₇ l₂₈ l₂₉ l₃₀ l₃₁ l₃₂ l₃₃))) (λ x.
-          guardE 𝓤 (Facts l₀ l₁ l₂ l₃ l₄ l₅ l₆ l₇ l₈ l₉ l₁₀ l₁₁ l₁₂ l₁₃ l₁₄ l₁₅ l₁₆ l₁₇ l₁₈ l₁₉ l₂₀ l₂₁ l₂₂ l₂₃ l₂₄ l₂₅ l₂₆ l₂₇ l₂₈ l₂₉ l₃₀ l₃₁ l₃₂ l₃₃ u (x .0) (x .1 .0) (x .1 .1 .0) (x .1 .1 .1 .0) (x .1 .1 .1 .1 .0) (x .1 .1 .1 .1 .1 .0) (x .1 .1 .1 .1 .1 .1 .0) (x .1 .1 .1 .1 .1 .1 .1 .0) (x .1 .1 .1 .1 .1 .1 .1 .1 .0) (x .1 .1 .1 .1 .1 .1 .1 .1 .1 .0) (x .1 .1 .1 .1 .1 .1 .1 .1 .1 .1)) (⋆ 𝓤 H A (At (x .0) (x .1 .0) (x .1 .1 .0) (x .1 .1 .1 .0) (x .1 .1 .1 .1 .0) (x .1 .1 .1 .1 .1 .0) (x .1 .1 .1 .1 .1 .1 .0) (x .1 .1 .1 .1 .1 .1 .1 .0) (x .1 .1 .1 .1 .1 .1 .1 .1 .0) (x .1 .1 .1 .1 .1 .1 .1 .1 .1 .0) (x .1 .1 .1 .1 .1 .1 .1 .1 .1 .1) l₀ l₁ l₂ l₃ l₄ l₅ l₆ l₇ l₈ l₉ l₁₀ l₁₁ l₁₂ l₁₃ l₁₄ l₁₅ l₁₆ l₁₇ l₁₈ l₁₉ l₂₀ l₂₁ l₂₂ l₂₃ l₂₄ l₂₅ l₂₆ l₂₇ l₂₈ l₂₉ l₃₀ l₃₁ l₃₂ l₃₃)) (λ e. turn-at u (x .0) (x .1 .0) (x .1 .1 .0) (x .1 .1 .1 .0) (x .1 .1 .1 .1 .0) (x .1 .1 .1 .1 .1 .0) (x .1 .1 .1 .1 .1 .1 .0) (x .1 .1 .1 .1 .1 .1 .1 .0) (x .1 .1 .1 .1 .1 .1 .1 .1 .0) (x .1 .1 .1 .1 .1 .1 .1 .1 .1 .0) (x .1 .1 .1 .1 .1 .1 .1 .1 .1 .1) e (ltb (x .0) (length (xcode .now))) refl))
+      turns : (u : ℕ) → ent 𝓤 (Inv l₀ l₁ l₂ l₃ l₄ l₅ l₆ l₇ l₈ l₉ l₁₀ l₁₁ l₁₂ l₁₃ l₁₄ l₁₅ l₁₆ l₁₇ l₁₈ l₁₉ l₂₀ l₂₁ l₂₂ l₂₃ l₂₄ l₂₅ l₂₆ l₂₇ l₂₈ l₂₉ l₃₀ l₃₁ l₃₂ l₃₃ l₃₄ l₃₅ u) (Wp 𝓤 H C Λ (En l₀ l₁ l₂ l₃ l₄ l₅ l₆ l₇ l₈ l₉ l₁₀ l₁₁ l₁₂ l₁₃ l₁₄ l₁₅ l₁₆ l₁₇ l₁₈ l₁₉ l₂₀ l₂₁ l₂₂ l₂₃ l₂₄ l₂₅ l₂₆ l₂₇ l₂₈ l₂₉ l₃₀ l₃₁ l₃₂ l₃₃ l₃₄ l₃₅) text.turn-1 (afterTurn 𝓤 H (Below l₀ l₁ l₂ l₃ l₄ l₅ l₆ l₇ l₈ l₉ l₁₀ l₁₁ l₁₂ l₁₃ l₁₄ l₁₅ l₁₆ l₁₇ l₁₈ l₁₉ l₂₀ l₂₁ l₂₂ l₂₃ l₂₄ l₂₅ l₂₆ l₂₇ l₂₈ l₂₉ l₃₀ l₃₁ l₃₂ l₃₃ l₃₄ l₃₅ u) (Left l₀ l₁ l₂ l₃ l₄ l₅ l₆ l₇ l₈ l₉ l₁₀ l₁₁ l₁₂ l₁₃ l₁₄ l₁₅ l₁₆ l₁₇ l₁₈ l₁₉ l₂₀ l₂₁ l₂₂ l₂₃ l₂₄ l₂₅ l₂₆ l₂₇ l₂₈ l₂₉ l₃₀ l₃₁ l₃₂ l₃₃ l₃₄ l₃₅)))
+      turns u = exE 𝓤 (λ (x : ℕ × (ℕ × (Bool × (St × (List Float × (List Float × (List Float × (List Float × (List Bool × (List ℕ × (List Stem))))))))))). guard 𝓤 (Facts l₀ l₁ l₂ l₃ l₄ l₅ l₆ l₇ l₈ l₉ l₁₀ l₁₁ l₁₂ l₁₃ l₁₄ l₁₅ l₁₆ l₁₇ l₁₈ l₁₉ l₂₀ l₂₁ l₂₂ l₂₃ l₂₄ l₂₅ l₂₆ l₂₇ l₂₈ l₂₉ l₃₀ l₃₁ l₃₂ l₃₃ l₃₄ l₃₅ u (x .0) (x .1 .0) (x .1 .1 .0) (x .1 .1 .1 .0) (x .1 .1 .1 .1 .0) (x .1 .1 .1 .1 .1 .0) (x .1 .1 .1 .1 .1 .1 .0) (x .1 .1 .1 .1 .1 .1 .1 .0) (x .1 .1 .1 .1 .1 .1 .1 .1 .0) (x .1 .1 .1 .1 .1 .1 .1 .1 .1 .0) (x .1 .1 .1 .1 .1 .1 .1 .1 .1 .1)) (⋆ 𝓤 H A (At (x .0) (x .1 .0) (x .1 .1 .0) (x .1 .1 .1 .0) (x .1 .1 .1 .1 .0) (x .1 .1 .1 .1 .1 .0) (x .1 .1 .1 .1 .1 .1 .0) (x .1 .1 .1 .1 .1 .1 .1 .0) (x .1 .1 .1 .1 .1 .1 .1 .1 .0) (x .1 .1 .1 .1 .1 .1 .1 .1 .1 .0) (x .1 .1 .1 .1 .1 .1 .1 .1 .1 .1) l₀ l₁ l₂ l₃ l₄ l₅ l₆ l₇ l₈ l₉ l₁₀ l₁₁ l₁₂ l₁₃ l₁₄ l₁₅ l₁₆ l₁₇ l₁₈ l₁₉ l₂₀ l₂₁ l₂₂ l₂₃ l₂₄ l₂₅ l₂₆ l₂₇ l₂₈ l₂₉ l₃₀ l₃₁ l₃₂ l₃₃ l₃₄ l₃₅))) (λ x.
+          guardE 𝓤 (Facts l₀ l₁ l₂ l₃ l₄ l₅ l₆ l₇ l₈ l₉ l₁₀ l₁₁ l₁₂ l₁₃ l₁₄ l₁₅ l₁₆ l₁₇ l₁₈ l₁₉ l₂₀ l₂₁ l₂₂ l₂₃ l₂₄ l₂₅ l₂₆ l₂₇ l₂₈ l₂₉ l₃₀ l₃₁ l₃₂ l₃₃ l₃₄ l₃₅ u (x .0) (x .1 .0) (x .1 .1 .0) (x .1 .1 .1 .0) (x .1 .1 .1 .1 .0) (x .1 .1 .1 .1 .1 .0) (x .1 .1 .1 .1 .1 .1 .0) (x .1 .1 .1 .1 .1 .1 .1 .0) (x .1 .1 .1 .1 .1 .1 .1 .1 .0) (x .1 .1 .1 .1 .1 .1 .1 .1 .1 .0) (x .1 .1 .1 .1 .1 .1 .1 .1 .1 .1)) (⋆ 𝓤 H A (At (x .0) (x .1 .0) (x .1 .1 .0) (x .1 .1 .1 .0) (x .1 .1 .1 .1 .0) (x .1 .1 .1 .1 .1 .0) (x .1 .1 .1 .1 .1 .1 .0) (x .1 .1 .1 .1 .1 .1 .1 .0) (x .1 .1 .1 .1 .1 .1 .1 .1 .0) (x .1 .1 .1 .1 .1 .1 .1 .1 .1 .0) (x .1 .1 .1 .1 .1 .1 .1 .1 .1 .1) l₀ l₁ l₂ l₃ l₄ l₅ l₆ l₇ l₈ l₉ l₁₀ l₁₁ l₁₂ l₁₃ l₁₄ l₁₅ l₁₆ l₁₇ l₁₈ l₁₉ l₂₀ l₂₁ l₂₂ l₂₃ l₂₄ l₂₅ l₂₆ l₂₇ l₂₈ l₂₉ l₃₀ l₃₁ l₃₂ l₃₃ l₃₄ l₃₅)) (λ e. turn-at u (x .0) (x .1 .0) (x .1 .1 .0) (x .1 .1 .1 .0) (x .1 .1 .1 .1 .0) (x .1 .1 .1 .1 .1 .0) (x .1 .1 .1 .1 .1 .1 .0) (x .1 .1 .1 .1 .1 .1 .1 .0) (x .1 .1 .1 .1 .1 .1 .1 .1 .0) (x .1 .1 .1 .1 .1 .1 .1 .1 .1 .0) (x .1 .1 .1 .1 .1 .1 .1 .1 .1 .1) e (ltb (x .0) (length (xcode .now))) refl))
 
-      loops : (i key : ℕ) (enc : Bool) → Held i key enc st ysops ysps yscells ysedges ysacross yscmds ysstems → ent 𝓤 (⋆ 𝓤 H A (At i key enc st ysops ysps yscells ysedges ysacross yscmds ysstems l₀ l₁ l₂ l₃ l₄ l₅ l₆ l₇ l₈ l₉ l₁₀ l₁₁ l₁₂ l₁₃ l₁₄ l₁₅ l₁₆ l₁₇ l₁₈ l₁₉ l₂₀ l₂₁ l₂₂ l₂₃ l₂₄ l₂₅ l₂₆ l₂₇ l₂₈ l₂₉ l₃₀ l₃₁ l₃₂ l₃₃)) (Wp 𝓤 H C Λ (En l₀ l₁ l₂ l₃ l₄ l₅ l₆ l₇ l₈ l₉ l₁₀ l₁₁ l₁₂ l₁₃ l₁₄ l₁₅ l₁₆ l₁₇ l₁₈ l₁₉ l₂₀ l₂₁ l₂₂ l₂₃ l₂₄ l₂₅ l₂₆ l₂₇ l₂₈ l₂₉ l₃₀ l₃₁ l₃₂ l₃₃) (loop text.turn-1) (Left l₀ l₁ l₂ l₃ l₄ l₅ l₆ l₇ l₈ l₉ l₁₀ l₁₁ l₁₂ l₁₃ l₁₄ l₁₅ l₁₆ l₁₇ l₁₈ l₁₉ l₂₀ l₂₁ l₂₂ l₂₃ l₂₄ l₂₅ l₂₆ l₂₇ l₂₈ l₂₉ l₃₀ l₃₁ l₃₂ l₃₃))
-      loops i key enc held = via 𝓤 (Inv l₀ l₁ l₂ l₃ l₄ l₅ l₆ l₇ l₈ l₉ l₁₀ l₁₁ l₁₂ l₁₃ l₁₄ l₁₅ l₁₆ l₁₇ l₁₈ l₁₉ l₂₀ l₂₁ l₂₂ l₂₃ l₂₄ l₂₅ l₂₆ l₂₇ l₂₈ l₂₉ l₃₀ l₃₁ l₃₂ l₃₃ (length (xcode .now))) (enters l₀ l₁ l₂ l₃ l₄ l₅ l₆ l₇ l₈ l₉ l₁₀ l₁₁ l₁₂ l₁₃ l₁₄ l₁₅ l₁₆ l₁₇ l₁₈ l₁₉ l₂₀ l₂₁ l₂₂ l₂₃ l₂₄ l₂₅ l₂₆ l₂₇ l₂₈ l₂₉ l₃₀ l₃₁ l₃₂ l₃₃ (length (xcode .now)) i key enc st ysops ysps yscells ysedges ysacross yscmds ysstems (omega arith, held))
-          (loop-rule 𝓤 H (W .laws) 𝓣 _<_ (Nat·lt-wfRel .wf) (En l₀ l₁ l₂ l₃ l₄ l₅ l₆ l₇ l₈ l₉ l₁₀ l₁₁ l₁₂ l₁₃ l₁₄ l₁₅ l₁₆ l₁₇ l₁₈ l₁₉ l₂₀ l₂₁ l₂₂ l₂₃ l₂₄ l₂₅ l₂₆ l₂₇ l₂₈ l₂₉ l₃₀ l₃₁ l₃₂ l₃₃) text.turn-1 (Left l₀ l₁ l₂ l₃ l₄ l₅ l₆ l₇ l₈ l₉ l₁₀ l₁₁ l₁₂ l₁₃ l₁₄ l₁₅ l₁₆ l₁₇ l₁₈ l₁₉ l₂₀ l₂₁ l₂₂ l₂₃ l₂₄ l₂₅ l₂₆ l₂₇ l₂₈ l₂₉ l₃₀ l₃₁ l₃₂ l₃₃) (Inv l₀ l₁ l₂ l₃ l₄ l₅ l₆ l₇ l₈ l₉ l₁₀ l₁₁ l₁₂ l₁₃ l₁₄ l₁₅ l₁₆ l₁₇ l₁₈ l₁₉ l₂₀ l₂₁ l₂₂ l₂₃ l₂₄ l₂₅ l₂₆ l₂₇ l₂₈ l₂₉ l₃₀ l₃₁ l₃₂ l₃₃) turns (length (xcode .now)))
+      loops : (i key : ℕ) (enc : Bool) → Held i key enc st ysops ysps yscells ysedges ysacross yscmds ysstems → ent 𝓤 (⋆ 𝓤 H A (At i key enc st ysops ysps yscells ysedges ysacross yscmds ysstems l₀ l₁ l₂ l₃ l₄ l₅ l₆ l₇ l₈ l₉ l₁₀ l₁₁ l₁₂ l₁₃ l₁₄ l₁₅ l₁₆ l₁₇ l₁₈ l₁₉ l₂₀ l₂₁ l₂₂ l₂₃ l₂₄ l₂₅ l₂₆ l₂₇ l₂₈ l₂₉ l₃₀ l₃₁ l₃₂ l₃₃ l₃₄ l₃₅)) (Wp 𝓤 H C Λ (En l₀ l₁ l₂ l₃ l₄ l₅ l₆ l₇ l₈ l₉ l₁₀ l₁₁ l₁₂ l₁₃ l₁₄ l₁₅ l₁₆ l₁₇ l₁₈ l₁₉ l₂₀ l₂₁ l₂₂ l₂₃ l₂₄ l₂₅ l₂₆ l₂₇ l₂₈ l₂₉ l₃₀ l₃₁ l₃₂ l₃₃ l₃₄ l₃₅) (loop text.turn-1) (Left l₀ l₁ l₂ l₃ l₄ l₅ l₆ l₇ l₈ l₉ l₁₀ l₁₁ l₁₂ l₁₃ l₁₄ l₁₅ l₁₆ l₁₇ l₁₈ l₁₉ l₂₀ l₂₁ l₂₂ l₂₃ l₂₄ l₂₅ l₂₆ l₂₇ l₂₈ l₂₉ l₃₀ l₃₁ l₃₂ l₃₃ l₃₄ l₃₅))
+      loops i key enc held = via 𝓤 (Inv l₀ l₁ l₂ l₃ l₄ l₅ l₆ l₇ l₈ l₉ l₁₀ l₁₁ l₁₂ l₁₃ l₁₄ l₁₅ l₁₆ l₁₇ l₁₈ l₁₉ l₂₀ l₂₁ l₂₂ l₂₃ l₂₄ l₂₅ l₂₆ l₂₇ l₂₈ l₂₉ l₃₀ l₃₁ l₃₂ l₃₃ l₃₄ l₃₅ (length (xcode .now))) (enters l₀ l₁ l₂ l₃ l₄ l₅ l₆ l₇ l₈ l₉ l₁₀ l₁₁ l₁₂ l₁₃ l₁₄ l₁₅ l₁₆ l₁₇ l₁₈ l₁₉ l₂₀ l₂₁ l₂₂ l₂₃ l₂₄ l₂₅ l₂₆ l₂₇ l₂₈ l₂₉ l₃₀ l₃₁ l₃₂ l₃₃ l₃₄ l₃₅ (length (xcode .now)) i key enc st ysops ysps yscells ysedges ysacross yscmds ysstems (omega arith, held))
+          (loop-rule 𝓤 H (W .laws) 𝓣 _<_ (Nat·lt-wfRel .wf) (En l₀ l₁ l₂ l₃ l₄ l₅ l₆ l₇ l₈ l₉ l₁₀ l₁₁ l₁₂ l₁₃ l₁₄ l₁₅ l₁₆ l₁₇ l₁₈ l₁₉ l₂₀ l₂₁ l₂₂ l₂₃ l₂₄ l₂₅ l₂₆ l₂₇ l₂₈ l₂₉ l₃₀ l₃₁ l₃₂ l₃₃ l₃₄ l₃₅) text.turn-1 (Left l₀ l₁ l₂ l₃ l₄ l₅ l₆ l₇ l₈ l₉ l₁₀ l₁₁ l₁₂ l₁₃ l₁₄ l₁₅ l₁₆ l₁₇ l₁₈ l₁₉ l₂₀ l₂₁ l₂₂ l₂₃ l₂₄ l₂₅ l₂₆ l₂₇ l₂₈ l₂₉ l₃₀ l₃₁ l₃₂ l₃₃ l₃₄ l₃₅) (Inv l₀ l₁ l₂ l₃ l₄ l₅ l₆ l₇ l₈ l₉ l₁₀ l₁₁ l₁₂ l₁₃ l₁₄ l₁₅ l₁₆ l₁₇ l₁₈ l₁₉ l₂₀ l₂₁ l₂₂ l₂₃ l₂₄ l₂₅ l₂₆ l₂₇ l₂₈ l₂₉ l₃₀ l₃₁ l₃₂ l₃₃ l₃₄ l₃₅) turns (length (xcode .now)))
 
     -- the MIR, up to the loop
     pub walk : ent 𝓤 (onEntry 𝓤 H A f.signature (κcode, (κbank, (κops, (κps, (κcells, (κedges, (κacross, (κcmds, (κstems, tt))))))))) (qcode, (qbank, (qops, (qps, (qcells, (qedges, (qacross, (qcmds, (qstems, tt))))))))) a vals) (WpFn 𝓤 H C Λ code.run-function args Post)
     walk =
         qed W ((‵ (flft κcode qcode) ⊛ (‵ (flft κbank qbank) ⊛ (‵ (flft κops qops) ⊛ (‵ (flft κps qps) ⊛ (‵ (flft κcells qcells) ⊛ (‵ (flft κedges qedges) ⊛ (‵ (flft κacross qacross) ⊛ (‵ (flft κcmds qcmds) ⊛ (‵ (flft κstems qstems) ⊛ ‵ ftrue))))))))) ∷ ‵ (owns (ShrSlice (named 0) κcode u8 ∷ ShrSlice (named 1) κbank u8 ∷ usize ∷ usize ∷ S.the-row ∷ MutRef (named 2) κops (Array f64 256) ∷ MutRef (named 3) κps (Array f64 256) ∷ MutRef (named 4) κcells (Array f64 19) ∷ MutRef (named 5) κedges (Array f64 1024) ∷ MutRef (named 6) κacross (Array bool 512) ∷ MutSlice (named 7) κcmds u64 ∷ MutSlice (named 8) κstems T.the-row ∷ []) a vals) ∷ []) ∵ enter ! C Λ code.run-function args _ $
-        alloc1 ! (λ l₀. alloc1 ! (λ l₁. alloc1 ! (λ l₂. alloc1 ! (λ l₃. alloc1 ! (λ l₄. alloc1 ! (λ l₅. alloc1 ! (λ l₆. alloc1 ! (λ l₇. alloc1 ! (λ l₈. alloc1 ! (λ l₉. alloc1 ! (λ l₁₀. alloc1 ! (λ l₁₁. alloc1 ! (λ l₁₂. alloc1 ! (λ l₁₃. alloc1 ! (λ l₁₄. alloc1 ! (λ l₁₅. alloc1 ! (λ l₁₆. alloc1 ! (λ l₁₇. alloc1 ! (λ l₁₈. alloc1 ! (λ l₁₉. alloc1 ! (λ l₂₀. alloc1 ! (λ l₂₁. alloc1 ! (λ l₂₂. alloc1 ! (λ l₂₃. alloc1 ! (λ l₂₄. alloc1 ! (λ l₂₅. alloc1 ! (λ l₂₆. alloc1 ! (λ l₂₇. alloc1 ! (λ l₂₈. alloc1 ! (λ l₂₉. alloc1 ! (λ l₃₀. alloc1 ! (λ l₃₁. alloc1 ! (λ l₃₂. alloc1 ! (λ l₃₃. alloc0 ! $ params1 ! $
-        pass1 ! (init ! 64 refl (tt, (tt, (record { fits = fitcode .0 }, tt)))) $ pass1 ! (init ! 62 refl (tt, (tt, (record { fits = fitbank .0 }, tt)))) $ pass1 ! (init ! 60 refl (tt, record { fits = iv-fits })) $ pass1 ! (init ! 58 refl (tt, record { fits = levels-fits })) $ pass1 ! (init ! 56 refl (typedS 𝓤 H A W st _ st-fits)) $ pass1 ! (init ! 54 refl (tt, tt)) $ pass1 ! (init ! 52 refl (tt, tt)) $ pass1 ! (init ! 50 refl (tt, tt)) $ pass1 ! (init ! 48 refl (tt, tt)) $ pass1 ! (init ! 46 refl (tt, tt)) $ pass1 ! (init ! 44 refl (tt, (tt, (record { fits = fitcmds .0 }, tt)))) $ pass1 ! (init ! 42 refl (tt, (tt, (record { fits = fitstems .0 }, tt)))) $ pass0 ! $ move ! (69 ∷ []) $ fsplit ! $ move ! (1 ∷ []) $ fsplit ! $ move ! (1 ∷ []) $ fsplit ! $ drop ! $ fsplit ! $ drop ! $ fsplit ! $ drop ! $ fsplit ! $ move ! (1 ∷ []) $ fsplit ! $ move ! (1 ∷ []) $ fsplit ! $ move ! (1 ∷ []) $ fsplit ! $ move ! (1 ∷ []) $ fsplit ! $ move ! (1 ∷ []) $ fsplit ! $ move ! (1 ∷ []) $ fsplit ! $ move ! (1 ∷ []) $ drop ! $ move ! (77 ∷ []) $ split ! $ move ! (1 ∷ []) $ split ! $ move ! (1 ∷ []) $ split ! $ move ! (1 ∷ []) $ split ! $ move ! (1 ∷ []) $ split ! $ move ! (1 ∷ []) $ split ! $ move ! (1 ∷ []) $ split ! $ move ! (1 ∷ []) $ split ! $ move ! (1 ∷ []) $ split ! $ move ! (1 ∷ []) $ drop ! $ move ! (17 ∷ 8 ∷ 16 ∷ 7 ∷ 15 ∷ 6 ∷ 14 ∷ 5 ∷ 13 ∷ 4 ∷ 12 ∷ 3 ∷ 11 ∷ 2 ∷ 10 ∷ 1 ∷ 9 ∷ 0 ∷ []) $ knows-bytes ! tt xcode (λ octets. move ! (2 ∷ 3 ∷ []) $ knows-bytes ! tt xbank (λ octets′.
+        alloc1 ! (λ l₀. alloc1 ! (λ l₁. alloc1 ! (λ l₂. alloc1 ! (λ l₃. alloc1 ! (λ l₄. alloc1 ! (λ l₅. alloc1 ! (λ l₆. alloc1 ! (λ l₇. alloc1 ! (λ l₈. alloc1 ! (λ l₉. alloc1 ! (λ l₁₀. alloc1 ! (λ l₁₁. alloc1 ! (λ l₁₂. alloc1 ! (λ l₁₃. alloc1 ! (λ l₁₄. alloc1 ! (λ l₁₅. alloc1 ! (λ l₁₆. alloc1 ! (λ l₁₇. alloc1 ! (λ l₁₈. alloc1 ! (λ l₁₉. alloc1 ! (λ l₂₀. alloc1 ! (λ l₂₁. alloc1 ! (λ l₂₂. alloc1 ! (λ l₂₃. alloc1 ! (λ l₂₄. alloc1 ! (λ l₂₅. alloc1 ! (λ l₂₆. alloc1 ! (λ l₂₇. alloc1 ! (λ l₂₈. alloc1 ! (λ l₂₉. alloc1 ! (λ l₃₀. alloc1 ! (λ l₃₁. alloc1 ! (λ l₃₂. alloc1 ! (λ l₃₃. alloc1 ! (λ l₃₄. alloc1 ! (λ l₃₅. alloc0 ! $ params1 ! $
+        pass1 ! (init ! 68 refl (tt, (tt, (record { fits = fitcode .0 }, tt)))) $ pass1 ! (init ! 66 refl (tt, (tt, (record { fits = fitbank .0 }, tt)))) $ pass1 ! (init ! 64 refl (tt, record { fits = iv-fits })) $ pass1 ! (init ! 62 refl (tt, record { fits = levels-fits })) $ pass1 ! (init ! 60 refl (typedS 𝓤 H A W st _ st-fits)) $ pass1 ! (init ! 58 refl (tt, tt)) $ pass1 ! (init ! 56 refl (tt, tt)) $ pass1 ! (init ! 54 refl (tt, tt)) $ pass1 ! (init ! 52 refl (tt, tt)) $ pass1 ! (init ! 50 refl (tt, tt)) $ pass1 ! (init ! 48 refl (tt, (tt, (record { fits = fitcmds .0 }, tt)))) $ pass1 ! (init ! 46 refl (tt, (tt, (record { fits = fitstems .0 }, tt)))) $ pass0 ! $ move ! (73 ∷ []) $ fsplit ! $ move ! (1 ∷ []) $ fsplit ! $ move ! (1 ∷ []) $ fsplit ! $ drop ! $ fsplit ! $ drop ! $ fsplit ! $ drop ! $ fsplit ! $ move ! (1 ∷ []) $ fsplit ! $ move ! (1 ∷ []) $ fsplit ! $ move ! (1 ∷ []) $ fsplit ! $ move ! (1 ∷ []) $ fsplit ! $ move ! (1 ∷ []) $ fsplit ! $ move ! (1 ∷ []) $ fsplit ! $ move ! (1 ∷ []) $ drop ! $ move ! (81 ∷ []) $ split ! $ move ! (1 ∷ []) $ split ! $ move ! (1 ∷ []) $ split ! $ move ! (1 ∷ []) $ split ! $ move ! (1 ∷ []) $ split ! $ move ! (1 ∷ []) $ split ! $ move ! (1 ∷ []) $ split ! $ move ! (1 ∷ []) $ split ! $ move ! (1 ∷ []) $ split ! $ move ! (1 ∷ []) $ drop ! $ move ! (17 ∷ 8 ∷ 16 ∷ 7 ∷ 15 ∷ 6 ∷ 14 ∷ 5 ∷ 13 ∷ 4 ∷ 12 ∷ 3 ∷ 11 ∷ 2 ∷ 10 ∷ 1 ∷ 9 ∷ 0 ∷ []) $ knows-bytes ! tt xcode (λ octets. move ! (2 ∷ 3 ∷ []) $ knows-bytes ! tt xbank (λ octets′.
         -- `begin`
-        move ! (2 ∷ []) $ use1 W (‵ (ShrSlice (named 0) κcode u8 .own xcode (sliceVal (xcode .ptr) (length (xcode .now)) ∷ [])) ⊛ ‵ (ShrSlice (named 0) κcode u8 .own xcode (sliceVal (xcode .ptr) (length (xcode .now)) ∷ []))) (shr-slice-copy 𝓤 H A W (named 0) κcode u8 .twice xcode (sliceVal (xcode .ptr) (length (xcode .now)) ∷ [])) $ split ! $ move ! (4 ∷ 1 ∷ []) $ join ! $ asks-all ! fm B.the-row (Is B.the-row) (shows 𝓤 H A B.the-row) (Unit {0} × (Unit {0} × Unit {0})) (λ (r : B.the-row .Denot) (lasts : (Unit {0} × (Unit {0} × Unit {0}))). cursorOf (r .at) (r .key) (r .encrypted) ≡ start iv (xcode .now)) (λ (lasts : (Unit {0} × (Unit {0} × Unit {0}))). (fsep ftrue (fsep ftrue ftrue))) (‵ (flft κcode qcode) ⊛ ‵ ftrue) (‵ (flft κcode qcode) ⊛ ‵ (ShrSlice (named 0) κcode u8 .own xcode (sliceVal (xcode .ptr) (length (xcode .now)) ∷ []))) (sliceVal (xcode .ptr) (length (xcode .now)) ∷ vint w64 iv ∷ []) (begin-as 𝓤 H A mem run′ W C known-begin κcode qcode xcode (iv) (iv-fits)) (and-then ! (load ! (from ! (stop !)) (look ! 82 refl)) (and-then ! (load ! (from ! (stop !)) (look ! 78 refl)) (no-more !))) (λ w1 r1 zs1 e1 is1. land ! (from ! (stop !)) (init ! 60 refl (typedB 𝓤 H A W r1 _ is1)) $ rewrite ! 60 (λ (u : Val). ‵ (fat fullShare tBt l₁₃ 0 u)) (ap only (LL.tells B.the-type B′.the-laws r1 (w1 ∷ []) is1)) refl $ drop ! $ split ! $ move ! (1 ∷ []) $ drop ! $ move ! (1 ∷ []) $ fsplit ! $ drop ! $ fsplit ! $ drop ! $ drop ! $
-        assigns ! (of-opd ! (load ! (from ! (fld ! refl (stop !))) (look-in ! 58 (sub ! 2 refl (whole !))))) (from ! (stop !)) (init ! 56 refl (tt, tt)) $
-        assigns ! (of-opd ! (load ! (from ! (fld ! refl (stop !))) (look-in ! 58 (sub ! 0 refl (whole !))))) (from ! (stop !)) (init ! 54 refl (tt, record { fits = (LL.owed B.the-type B′.the-laws r1 (w1 ∷ []) is1) .0 .1 })) $
-        assigns ! (of-opd ! (load ! (from ! (fld ! refl (stop !))) (look-in ! 58 (sub ! 1 refl (whole !))))) (from ! (stop !)) (init ! 52 refl (tt, record { fits = (LL.owed B.the-type B′.the-laws r1 (w1 ∷ []) is1) .1 .0 .1 })) $
-        assigns ! (of-opd ! (load ! (from ! (stop !)) (look ! 74 refl))) (from ! (stop !)) (init ! 50 refl (typedS 𝓤 H A W st _ st-fits)) $ forget ! 58 refl $ keep ! (1 ∷ 0 ∷ 2 ∷ 3 ∷ 4 ∷ 5 ∷ 6 ∷ 7 ∷ 8 ∷ 9 ∷ 10 ∷ 11 ∷ 12 ∷ 13 ∷ 14 ∷ 15 ∷ 16 ∷ 17 ∷ 18 ∷ 19 ∷ 20 ∷ 21 ∷ 22 ∷ 23 ∷ 24 ∷ 25 ∷ 26 ∷ 27 ∷ 28 ∷ 29 ∷ 30 ∷ 31 ∷ 32 ∷ 33 ∷ 34 ∷ 35 ∷ 36 ∷ 37 ∷ 38 ∷ 39 ∷ 40 ∷ 41 ∷ 42 ∷ 43 ∷ 44 ∷ 45 ∷ 46 ∷ 47 ∷ 48 ∷ 49 ∷ 50 ∷ 51 ∷ 52 ∷ 53 ∷ 54 ∷ 55 ∷ 56 ∷ 57 ∷ 58 ∷ 59 ∷ 60 ∷ 61 ∷ 62 ∷ 63 ∷ 64 ∷ 65 ∷ 66 ∷ 67 ∷ 68 ∷ 69 ∷ 70 ∷ 71 ∷ 72 ∷ 73 ∷ 74 ∷ 75 ∷ 76 ∷ 77 ∷ 78 ∷ 79 ∷ 80 ∷ 81 ∷ 82 ∷ 83 ∷ 84 ∷ 85 ∷ []) $ by ! (loops l₀ l₁ l₂ l₃ l₄ l₅ l₆ l₇ l₈ l₉ l₁₀ l₁₁ l₁₂ l₁₃ l₁₄ l₁₅ l₁₆ l₁₇ l₁₈ l₁₉ l₂₀ l₂₁ l₂₂ l₂₃ l₂₄ l₂₅ l₂₆ l₂₇ l₂₈ l₂₉ l₃₀ l₃₁ l₃₂ l₃₃ (r1 .at) (r1 .key) (r1 .encrypted) ((LL.owed B.the-type B′.the-laws r1 (w1 ∷ []) is1) .0 .1, ((LL.owed B.the-type B′.the-laws r1 (w1 ∷ []) is1) .1 .0 .1, (st-fits, (refl, (refl, ((octets, octets′), starts (xbank .now) iv levels (xcode .now) (r1 .encrypted) st (memOf ysops ysps yscells ysedges ysacross yscmds ysstems) (r1 .at) (r1 .key) e1 (need .1 .1)))))))))))))))))))))))))))))))))))))))))))))
+        move ! (2 ∷ []) $ use1 W (‵ (ShrSlice (named 0) κcode u8 .own xcode (sliceVal (xcode .ptr) (length (xcode .now)) ∷ [])) ⊛ ‵ (ShrSlice (named 0) κcode u8 .own xcode (sliceVal (xcode .ptr) (length (xcode .now)) ∷ []))) (shr-slice-copy 𝓤 H A W (named 0) κcode u8 .twice xcode (sliceVal (xcode .ptr) (length (xcode .now)) ∷ [])) $ split ! $ move ! (4 ∷ 1 ∷ []) $ join ! $ asks-all ! fm B.the-row (Is B.the-row) (shows 𝓤 H A B.the-row) (Unit {0} × (Unit {0} × Unit {0})) (λ (r : B.the-row .Denot) (lasts : (Unit {0} × (Unit {0} × Unit {0}))). cursorOf (r .at) (r .key) (r .encrypted) ≡ start iv (xcode .now)) (λ (lasts : (Unit {0} × (Unit {0} × Unit {0}))). (fsep ftrue (fsep ftrue ftrue))) (‵ (flft κcode qcode) ⊛ ‵ ftrue) (‵ (flft κcode qcode) ⊛ ‵ (ShrSlice (named 0) κcode u8 .own xcode (sliceVal (xcode .ptr) (length (xcode .now)) ∷ []))) (sliceVal (xcode .ptr) (length (xcode .now)) ∷ vint w64 iv ∷ []) (begin-as 𝓤 H A mem run′ W C known-begin κcode qcode xcode (iv) (iv-fits)) (and-then ! (load ! (from ! (stop !)) (look ! 86 refl)) (and-then ! (load ! (from ! (stop !)) (look ! 82 refl)) (no-more !))) (λ w1 r1 zs1 e1 is1. land ! (from ! (stop !)) (init ! 64 refl (typedB 𝓤 H A W r1 _ is1)) $ rewrite ! 64 (λ (u : Val). ‵ (fat fullShare tBt l₁₃ 0 u)) (ap only (LL.tells B.the-type B′.the-laws r1 (w1 ∷ []) is1)) refl $ drop ! $ split ! $ move ! (1 ∷ []) $ drop ! $ move ! (1 ∷ []) $ fsplit ! $ drop ! $ fsplit ! $ drop ! $ drop ! $
+        assigns ! (of-opd ! (load ! (from ! (fld ! refl (stop !))) (look-in ! 62 (sub ! 2 refl (whole !))))) (from ! (stop !)) (init ! 60 refl (tt, tt)) $
+        assigns ! (of-opd ! (load ! (from ! (fld ! refl (stop !))) (look-in ! 62 (sub ! 0 refl (whole !))))) (from ! (stop !)) (init ! 58 refl (tt, record { fits = (LL.owed B.the-type B′.the-laws r1 (w1 ∷ []) is1) .0 .1 })) $
+        assigns ! (of-opd ! (load ! (from ! (fld ! refl (stop !))) (look-in ! 62 (sub ! 1 refl (whole !))))) (from ! (stop !)) (init ! 56 refl (tt, record { fits = (LL.owed B.the-type B′.the-laws r1 (w1 ∷ []) is1) .1 .0 .1 })) $
+        assigns ! (of-opd ! (load ! (from ! (stop !)) (look ! 78 refl))) (from ! (stop !)) (init ! 54 refl (typedS 𝓤 H A W st _ st-fits)) $ forget ! 62 refl $ keep ! (1 ∷ 0 ∷ 2 ∷ 3 ∷ 4 ∷ 5 ∷ 6 ∷ 7 ∷ 8 ∷ 9 ∷ 10 ∷ 11 ∷ 12 ∷ 13 ∷ 14 ∷ 15 ∷ 16 ∷ 17 ∷ 18 ∷ 19 ∷ 20 ∷ 21 ∷ 22 ∷ 23 ∷ 24 ∷ 25 ∷ 26 ∷ 27 ∷ 28 ∷ 29 ∷ 30 ∷ 31 ∷ 32 ∷ 33 ∷ 34 ∷ 35 ∷ 36 ∷ 37 ∷ 38 ∷ 39 ∷ 40 ∷ 41 ∷ 42 ∷ 43 ∷ 44 ∷ 45 ∷ 46 ∷ 47 ∷ 48 ∷ 49 ∷ 50 ∷ 51 ∷ 52 ∷ 53 ∷ 54 ∷ 55 ∷ 56 ∷ 57 ∷ 58 ∷ 59 ∷ 60 ∷ 61 ∷ 62 ∷ 63 ∷ 64 ∷ 65 ∷ 66 ∷ 67 ∷ 68 ∷ 69 ∷ 70 ∷ 71 ∷ 72 ∷ 73 ∷ 74 ∷ 75 ∷ 76 ∷ 77 ∷ 78 ∷ 79 ∷ 80 ∷ 81 ∷ 82 ∷ 83 ∷ 84 ∷ 85 ∷ 86 ∷ 87 ∷ 88 ∷ 89 ∷ []) $ by ! (loops l₀ l₁ l₂ l₃ l₄ l₅ l₆ l₇ l₈ l₉ l₁₀ l₁₁ l₁₂ l₁₃ l₁₄ l₁₅ l₁₆ l₁₇ l₁₈ l₁₉ l₂₀ l₂₁ l₂₂ l₂₃ l₂₄ l₂₅ l₂₆ l₂₇ l₂₈ l₂₉ l₃₀ l₃₁ l₃₂ l₃₃ l₃₄ l₃₅ (r1 .at) (r1 .key) (r1 .encrypted) ((LL.owed B.the-type B′.the-laws r1 (w1 ∷ []) is1) .0 .1, ((LL.owed B.the-type B′.the-laws r1 (w1 ∷ []) is1) .1 .0 .1, (st-fits, (refl, (refl, ((octets, octets′), starts (xbank .now) iv levels (xcode .now) (r1 .encrypted) st (memOf ysops ysps yscells ysedges ysacross yscmds ysstems) (r1 .at) (r1 .key) e1 (need .1 .1)))))))))))))))))))))))))))))))))))))))))))))))

@@ -1,0 +1,146 @@
+-- Laws: a line or a curve of an open subpath is one entry, where the stems in force did not change.
+use mathlib.Core.Path.{_≡_, refl, sym, ap, _∙_, subst}
+use Prim.Native.Nat.{ℕ, _+_, _-_, _*_, _≤_, _<_}
+use native.Mathlib.Omega.{arith}
+use mathlib.Core.Bool.{Bool, true, false, true≢false, _&&_}
+use mathlib.Core.List.{List}
+use lib.Dec.{T}
+use lib.ListN.{length, getD, set}
+use lib.Ieee.{Float, nan, binary64, add, fits, toBits}
+use Rattle.type1.specs.declared.Stem.{Stem}
+use Rattle.type1.specs.declared.St.{St}
+use Rattle.type1.specs.declared.Ran.{Ran}
+use Rattle.type1.specs.declared.Drawn.{Drawn}
+use Rattle.type1.specs.Operator as op
+use Rattle.type1.specs.Operator.{Operator}
+use Rattle.type1.specs.State.{Command, line, curve, State, plusZero}
+use Rattle.type1.specs.Run.{Limits, within, Outcome, refused, pointAt, isFinite, enter, list, lineBy, curveBy, operate}
+use Rattle.type1.specs.Memory.{Mem, Holds, Meets, operatorOf, withOps, withCmds, withPath, withStems, pointCommand}
+use Rattle.type1.specs.Small.{ranOf}
+use Rattle.type1.specs.Reading.{placed, drawnTo, isDrawn, Stores, Adds, Draws}
+use Rattle.type1.proofs.Store.{withEntries, enter-full, wrote-3, wrote-7, point-entered, curve-entered}
+use Rattle.type1.proofs.Groups.{Step, kept-none, commits-none}
+use Rattle.type1.proofs.Paths.{lists-on, lines-listed, line-open, curves-listed, curve-open}
+use Rattle.type1.proofs.Operands.{Operates, does-rlineto, does-hlineto, does-vlineto, does-rrcurveto, does-vhcurveto, does-hvcurveto}
+
+-- ---- entries
+pub stores-none : (X : Command) (k : ℕ) (c : List ℕ) → length c - 14 * k < 14 → Stores X k c false c
+stores-none X k c h = record { done = λ w. absurd (true≢false (sym w)); space = λ w. absurd (true≢false (sym w)); full = λ w. (refl, h); same = refl }
+
+module _ (k : ℕ) (c : List ℕ) (b : 14 * k ≤ length c) (h : 14 ≤ length c - 14 * k) where
+  stores-more : (X : Command) (at : ℕ → List ℕ) → ((t : St) (m : Mem) (s : State) (room : ℕ) → 14 ≤ length c - 14 * t .entries → Holds t (withCmds c m) s → Meets (ranOf (withEntries (t .entries + 1) t) 0) (withCmds (at (t .entries)) m) (enter (within room (length c)) X s)) → length (at k) ≡ length c → Stores X k c true (at k)
+  stores-more X at E l = record {
+    done = λ w t m s room e H.
+        subst (λ (j : ℕ). Meets (ranOf (placed (t .operands) (t .x) (t .y) (j + 1) t) 0) (withCmds (at j) m) (enter (within room (length c)) X s)) e (E t m s room (subst (λ (j : ℕ). 14 ≤ length c - 14 * j) (sym e) h) H);
+    space = λ w. omega arith;
+    full = λ w. absurd (true≢false w);
+    same = l;
+  }
+
+  pub stores-point : (kind : ℕ) (x y : Float) → T (fits binary64 x) → T (fits binary64 y) → 0 < kind → kind < 3 → Stores (pointCommand kind (pointAt x y)) k c true (set (set (set c (14 * k) kind) (14 * k + 1) (toBits binary64 x)) (14 * k + 2) (toBits binary64 y))
+  stores-point kind x y fx fy lo hi =
+      stores-more (pointCommand kind (pointAt x y)) (λ j. set (set (set c (14 * j) kind) (14 * j + 1) (toBits binary64 x)) (14 * j + 2) (toBits binary64 y))
+      (λ t m s room g H. point-entered t (withCmds c m) s H room (ranOf (withEntries (t .entries + 1) t) 0) refl g kind x y fx fy lo hi) (wrote-3 (14 * k) c kind (toBits binary64 x) (toBits binary64 y) (omega arith) .same)
+
+  pub stores-curve : (x1 y1 x2 y2 x3 y3 : Float) → T (fits binary64 x1) → T (fits binary64 y1) → T (fits binary64 x2) → T (fits binary64 y2) → T (fits binary64 x3) → T (fits binary64 y3)
+      → Stores (curve (pointAt x1 y1) (pointAt x2 y2) (pointAt x3 y3)) k c true (set (set (set (set (set (set (set c (14 * k) 3) (14 * k + 1) (toBits binary64 x1)) (14 * k + 2) (toBits binary64 y1)) (14 * k + 3) (toBits binary64 x2)) (14 * k + 4) (toBits binary64 y2)) (14 * k + 5) (toBits binary64 x3)) (14 * k + 6) (toBits binary64 y3))
+  stores-curve x1 y1 x2 y2 x3 y3 f1 f2 f3 f4 f5 f6 =
+      stores-more (curve (pointAt x1 y1) (pointAt x2 y2) (pointAt x3 y3)) (λ j. set (set (set (set (set (set (set c (14 * j) 3) (14 * j + 1) (toBits binary64 x1)) (14 * j + 2) (toBits binary64 y1)) (14 * j + 3) (toBits binary64 x2)) (14 * j + 4) (toBits binary64 y2)) (14 * j + 5) (toBits binary64 x3)) (14 * j + 6) (toBits binary64 y3))
+      (λ t m s room g H. curve-entered t (withCmds c m) s H room (ranOf (withEntries (t .entries + 1) t) 0) refl g x1 y1 x2 y2 x3 y3 f1 f2 f3 f4 f5 f6) (wrote-7 (14 * k) c 3 (toBits binary64 x1) (toBits binary64 y1) (toBits binary64 x2) (toBits binary64 y2) (toBits binary64 x3) (toBits binary64 y3) (omega arith) .same)
+
+-- what an entry did to the whole state
+pub entered-so : (X : Command) (t : St) (c d : List ℕ) (b : Bool) (r : Ran) → Stores X (t .entries) c b d → b ≡ true → r ≡ ranOf (withEntries (t .entries + 1) t) 0 → (m : Mem) (s : State) (room : ℕ) → Holds t (withCmds c m) s → Meets r (withCmds d m) (enter (within room (length c)) X s)
+entered-so X t c d b r S z e m s room H = subst (λ (q : Ran). Meets q (withCmds d m) (enter (within room (length c)) X s)) (sym e) (S .done z t m s room refl H)
+
+pub entered-not : (X : Command) (t : St) (c d : List ℕ) (b : Bool) (r : Ran) → Stores X (t .entries) c b d → b ≡ false → r ≡ ranOf t 17 → (m : Mem) (s : State) (room : ℕ) → Holds t (withCmds c m) s → Meets r (withCmds d m) (enter (within room (length c)) X s)
+entered-not X t c d b r S z e m s room H =
+    subst (λ (q : List ℕ). Meets r (withCmds q m) (enter (within room (length c)) X s)) (sym (S .full z .0)) (enter-full t (withCmds c m) s H room X r e (S .full z .1))
+
+-- ---- nothing was done
+pub adds-none : (D : Limits → State → Outcome) (x y : Float) (k : ℕ) (c d : List ℕ) (r : Drawn) → r .done ≡ false → d ≡ c → Adds D x y k c r d
+adds-none D x y k c d r z e = record { done = λ w. absurd (true≢false (sym w ∙ z)); space = λ w. absurd (true≢false (sym w ∙ z)); none = λ w. e; same = ap length e }
+
+pub draws-none : (v n : ℕ) (x y : Float) (k : ℕ) (ops : List Float) (c d : List ℕ) (r : Drawn) → r .done ≡ false → d ≡ c → Draws v n x y k ops c r d
+draws-none v n x y k ops c d r z e = record { done = λ w. absurd (true≢false (sym w ∙ z)); drawn = λ w. absurd (true≢false (sym w ∙ z)); space = λ w. absurd (true≢false (sym w ∙ z)); none = λ w. e; same = ap length e }
+
+abbrev drawnOf : Float → Float → Drawn
+drawnOf x y = record { x = x; y = y; done = true }
+
+-- ---- an entry, after a commit that has nothing to do
+module _ (X : Command) (x y : Float) (k : ℕ) (c d : List ℕ) (b : Bool) (S : Stores X k c b d) (z : b ≡ true) (t : St) (e : List Float) (a : List Bool) (room : ℕ) (ch : t .changed ≡ false) where
+  abbrev at : St
+  at = placed 0 x y k t
+
+  abbrev next : Ran
+  next = ranOf (placed 0 x y (k + 1) t) 0
+
+  lists : Step at next e a c e a d room (λ lim. list lim X)
+  lists = lists-on at (ranOf at 0) next e e a a c c d room X (commits-none at (ranOf at 0) e a c room refl ch) refl refl (λ m s n H. S .done z at m s n refl H) (record { hints = refl; changed = refl; last = refl; groups = refl; stems = refl })
+
+pub line-added : (dx dy x y : Float) (k : ℕ) (c d : List ℕ) (b : Bool) → isFinite (pointAt (add binary64 x dx) (add binary64 y dy)) ≡ true → Stores (line (pointAt (add binary64 x dx) (add binary64 y dy))) k c b d → b ≡ true → Adds (λ lim. lineBy lim dx dy) x y k c (drawnOf (add binary64 x dx) (add binary64 y dy)) d
+line-added dx dy x y k c d b f S z = record {
+  done = λ w t e a room o ch.
+      let T0 = placed 0 x y k t in
+      let r = ranOf (placed 0 (add binary64 x dx) (add binary64 y dy) (k + 1) t) 0 in
+      line-open T0 e e a a c d room dx dy r o (lines-listed T0 (placed 0 (add binary64 x dx) (add binary64 y dy) k t) r r e e a a c d room dx dy refl f (lists (line (pointAt (add binary64 x dx) (add binary64 y dy))) (add binary64 x dx) (add binary64 y dy) k c d b S z t e a room ch));
+  space = λ w. S .space z;
+  none = λ w. absurd (true≢false w);
+  same = S .same;
+}
+
+pub curve-added : (x y dx1 dy1 dx2 dy2 dx3 dy3 x1 y1 x2 y2 x3 y3 : Float) (k : ℕ) (c d : List ℕ) (b : Bool) → (x1 ≡ add binary64 x dx1) × ((y1 ≡ add binary64 y dy1) × ((x2 ≡ add binary64 x1 dx2) × ((y2 ≡ add binary64 y1 dy2) × ((x3 ≡ add binary64 x2 dx3) × (y3 ≡ add binary64 y2 dy3)))))
+    → (isFinite (pointAt x1 y1) && (isFinite (pointAt x2 y2) && isFinite (pointAt x3 y3))) ≡ true → Stores (curve (pointAt x1 y1) (pointAt x2 y2) (pointAt x3 y3)) k c b d → b ≡ true → Adds (λ lim. curveBy lim dx1 dy1 dx2 dy2 dx3 dy3) x y k c (drawnOf x3 y3) d
+curve-added x y dx1 dy1 dx2 dy2 dx3 dy3 x1 y1 x2 y2 x3 y3 k c d b is f S z = record {
+  done = λ w t e a room o ch.
+      let T0 = placed 0 x y k t in
+      let r = ranOf (placed 0 x3 y3 (k + 1) t) 0 in
+      curve-open T0 e e a a c d room dx1 dy1 dx2 dy2 dx3 dy3 r o (curves-listed T0 x1 y1 x2 y2 x3 y3 dx1 dy1 dx2 dy2 dx3 dy3 is (placed 0 x3 y3 k t) r e e a a c d room refl f (lists (curve (pointAt x1 y1) (pointAt x2 y2) (pointAt x3 y3)) x3 y3 k c d b S z t e a room ch));
+  space = λ w. S .space z;
+  none = λ w. absurd (true≢false w);
+  same = S .same;
+}
+
+-- ---- the operators
+module _ (v n : ℕ) (x y : Float) (k : ℕ) (ops : List Float) (c : List ℕ) (r : Drawn) (d : List ℕ) where
+  drawn-by : (o : Operator) → operatorOf v ≡ o → T (isDrawn o) → (v ≡ 12 → ⊥) → (E : Limits → State → Outcome)
+      → ((t : St) (e : List Float) (a : List Bool) (room : ℕ) → Step (placed 0 x y k t) (ranOf (drawnTo r k t) 0) e a c e a d room E → Operates (placed n x y k t) (ranOf (drawnTo r k t) 0) ops e a c e a d room o)
+      → Adds E x y k c r d → Draws v n x y k ops c r d
+  drawn-by o is dr not-12 E does A = record {
+    done = λ w t m s op ch H.
+        let room = length (m .stems) in
+        let q = ranOf (drawnTo r k t) 0 in
+        let got = does t (m .edges) (m .across) room (A .done w t (m .edges) (m .across) room op ch) m s (refused 6) refl H in
+        subst (λ (z : Operator). Meets q (withOps ops (withCmds d m)) (operate (within room (length c)) (refused 6) z s)) (sym is)
+        (subst (λ (z : List Stem). Meets q (withOps ops (withPath (m .edges) (m .across) d (withStems z m))) (operate (within room (length c)) (refused 6) o s)) (kept-none (placed n x y k t) (drawnTo r k t) (m .edges) (m .across) (m .stems) refl) got);
+    drawn = λ w. (subst (λ (z : Operator). T (isDrawn z)) (sym is) dr, not-12);
+    space = A .space;
+    none = A .none;
+    same = A .same;
+  }
+
+  abbrev op-at : ℕ → Float
+  op-at j = getD ops (n - j) nan
+
+  pub rlineto-drawn : v ≡ 5 → 2 ≤ n → Adds (λ lim. lineBy lim (op-at 2) (op-at 1)) x y k c r d → Draws v n x y k ops c r d
+  unfolding operatorOf op.ofByte
+  rlineto-drawn e h = drawn-by op.rlineto (ap operatorOf e) tt (λ q. let z : ⊥ = omega arith in z) (λ lim. lineBy lim (op-at 2) (op-at 1)) (λ t ed ac room S. does-rlineto (placed n x y k t) (placed 0 x y k t) _ ops ed ed ac ac c d room refl h S)
+
+  pub hlineto-drawn : v ≡ 6 → 1 ≤ n → Adds (λ lim. lineBy lim (op-at 1) plusZero) x y k c r d → Draws v n x y k ops c r d
+  unfolding operatorOf op.ofByte
+  hlineto-drawn e h = drawn-by op.hlineto (ap operatorOf e) tt (λ q. let z : ⊥ = omega arith in z) (λ lim. lineBy lim (op-at 1) plusZero) (λ t ed ac room S. does-hlineto (placed n x y k t) (placed 0 x y k t) _ ops ed ed ac ac c d room refl h S)
+
+  pub vlineto-drawn : v ≡ 7 → 1 ≤ n → Adds (λ lim. lineBy lim plusZero (op-at 1)) x y k c r d → Draws v n x y k ops c r d
+  unfolding operatorOf op.ofByte
+  vlineto-drawn e h = drawn-by op.vlineto (ap operatorOf e) tt (λ q. let z : ⊥ = omega arith in z) (λ lim. lineBy lim plusZero (op-at 1)) (λ t ed ac room S. does-vlineto (placed n x y k t) (placed 0 x y k t) _ ops ed ed ac ac c d room refl h S)
+
+  pub rrcurveto-drawn : v ≡ 8 → 6 ≤ n → Adds (λ lim. curveBy lim (op-at 6) (op-at 5) (op-at 4) (op-at 3) (op-at 2) (op-at 1)) x y k c r d → Draws v n x y k ops c r d
+  unfolding operatorOf op.ofByte
+  rrcurveto-drawn e h = drawn-by op.rrcurveto (ap operatorOf e) tt (λ q. let z : ⊥ = omega arith in z) (λ lim. curveBy lim (op-at 6) (op-at 5) (op-at 4) (op-at 3) (op-at 2) (op-at 1)) (λ t ed ac room S. does-rrcurveto (placed n x y k t) (placed 0 x y k t) _ ops ed ed ac ac c d room refl h S)
+
+  pub vhcurveto-drawn : v ≡ 30 → 4 ≤ n → Adds (λ lim. curveBy lim plusZero (op-at 4) (op-at 3) (op-at 2) (op-at 1) plusZero) x y k c r d → Draws v n x y k ops c r d
+  unfolding operatorOf op.ofByte
+  vhcurveto-drawn e h = drawn-by op.vhcurveto (ap operatorOf e) tt (λ q. let z : ⊥ = omega arith in z) (λ lim. curveBy lim plusZero (op-at 4) (op-at 3) (op-at 2) (op-at 1) plusZero) (λ t ed ac room S. does-vhcurveto (placed n x y k t) (placed 0 x y k t) _ ops ed ed ac ac c d room refl h S)
+
+  pub hvcurveto-drawn : v ≡ 31 → 4 ≤ n → Adds (λ lim. curveBy lim (op-at 4) plusZero (op-at 3) (op-at 2) plusZero (op-at 1)) x y k c r d → Draws v n x y k ops c r d
+  unfolding operatorOf op.ofByte
+  hvcurveto-drawn e h = drawn-by op.hvcurveto (ap operatorOf e) tt (λ q. let z : ⊥ = omega arith in z) (λ lim. curveBy lim (op-at 4) plusZero (op-at 3) (op-at 2) plusZero (op-at 1)) (λ t ed ac room S. does-hvcurveto (placed n x y k t) (placed 0 x y k t) _ ops ed ed ac ac c d room refl h S)
