@@ -1,4 +1,4 @@
--- Definitions: what the functions that read bytes and call bodies say of the run.
+-- Definitions: what the functions that read bytes and call bodies say of the run (document 01, "Reading", "Bytes run"; T1, 6.2 and 6.4).
 use Prim.Native.Nat.{ℕ, _+_, _-_, _*_, _≤_, _<_}
 use mathlib.Core.Path.{_≡_}
 use mathlib.Core.Bool.{Bool, true, false, cond}
@@ -62,7 +62,7 @@ pub record Operated (code : List ℕ) (i key : ℕ) (encrypted : Bool) (v : ℕ)
   pub state : t .st ≡ st
   pub on : (i ≤ t .next) × (t .next ≤ length code)
 
--- ---- lines and curves that are listed as they are read: 5, 6, 7, 8, 30, 31
+-- ---- lines and curves that are listed as they are read: 5, 6, 7, 8, 30, 31 (document 01, "Reading" and "Hints"; T1, 6.4)
 abbrev pub isDrawn : Operator → Bool
 isDrawn op.hstem = false
 isDrawn op.vstem = false
@@ -91,7 +91,7 @@ isDrawn op.pop = false
 isDrawn op.setcurrentpoint = false
 isDrawn op.unknown = false
 
--- a line or a curve is then one entry
+-- a subpath is open, and the stems in force did not change: a line or a curve is then one entry, with no move and no group before it
 abbrev pub isQuick : St → Bool
 isQuick t = pick (t .changed) false (t .opened)
 
