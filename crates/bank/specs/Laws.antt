@@ -5,6 +5,7 @@
 --     found-body                       in a valid bank, what is found is the body
 --     body-some, body-none             body n exists exactly where n is below the count
 --     body-length                      a body has at most the bank's bytes
+--     called-below, called-is          a call of a number below 0, and of any other
 use Prim.Native.Nat.{ℕ, zero, suc, _+_, _-_, _*_, _<_, _≤_}
 use native.Mathlib.Nat.{eq-or-lt-of-le, le-of-suc-le-suc}
 use native.Mathlib.Omega.{arith}
@@ -13,11 +14,15 @@ use mathlib.Core.Logic.{⊎-elim}
 use mathlib.Core.Bool.{Bool, true, false, _&&_}
 use mathlib.Core.List.{List}
 use mathlib.Core.Option.{none, some}
+use lib.IntN.{pos}
+use lib.Ieee.{Float, fin, le, toUnsigned}
 use borrow.Author.Tests.{lt-ltb, le-ltb, le-leb, eq-eqb, ltb-true, ltb-false, leb-true, eqb-true}
 use lib.Dec.{leb, ltb}
 use lib.ListN.{length, length-take, length-drop}
 use Rattle.bank.specs.declared.Found.{Found}
 use Rattle.bank.specs.declared.Found.the-variants.{At, Nothing}
+use Rattle.bank.specs.declared.Callee.{Callee}
+use Rattle.bank.specs.Call.{refusedWith, counted, called}
 use Rattle.bank.specs.Bank.{be32, count, offset, Valid, rises, valid, part, bodyStart, bodyEnd, body, Within, within, found, bodyAt}
 
 both : (a b : Bool) → a && b ≡ true → (a ≡ true) × (b ≡ true)
@@ -147,3 +152,14 @@ module _ (bank : List ℕ) where
       by-test false is =
           let z : _≡_ {A = ℕ} 0 1 = cc (body-none n (ltb-false _ _ is), e) in
           omega arith
+
+  -- ---- calls
+
+  module _ (v : Float) (ran : ℕ) where
+    pub called-below : le (fin false 0 (pos 0)) v ≡ false → called bank v ran ≡ refusedWith 8
+    unfolding called
+    called-below e = rw e
+
+    pub called-is : le (fin false 0 (pos 0)) v ≡ true → (n : ℕ) → n ≡ toUnsigned 64 v → (f : Found) → found n bank ≡ f → called bank v ran ≡ counted n ran f
+    unfolding called
+    called-is e n q f p = rw (e, ← q, p)

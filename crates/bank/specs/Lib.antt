@@ -1,3 +1,4 @@
 pub mod Bank
+pub mod Call
 pub mod Laws
 pub mod Examples

@@ -1,8 +1,9 @@
-// The subroutine bank: a check of its layout, and where a body lies.
+// The subroutine bank: a check of its layout, where a body lies, and the body that a call names.
 ghost use mathlib.Core.Path.{_≡_};
 ghost use Prim.Native.Nat.{_+_, _<_};
 ghost use lib.ListN.{length};
 ghost use Rattle.bank.specs.Bank.{be16, be32, valid, found, bytesAt};
+ghost use Rattle.bank.specs.Call.{maxDepth, refusedWith, called};
 
 // Where a body starts and ends in the bank, or that there is none.
 pub enum Found {
@@ -61,7 +62,7 @@ pub fn is_valid(bank: &[u8]) -> bool
 }
 
 // Where body n lies. It looks at the count and at two offsets: of a bank that is not valid, too, what is found is within the bank.
-pub fn find(bank: &[u8], n: usize) -> Found
+fn find(bank: &[u8], n: usize) -> Found
     ensures { λ r. ⌜ r ≡ found n (now (bank .entry)) ⌝ }
 {
     if bank.len() < 6 {
@@ -94,4 +95,57 @@ pub fn body(bank: &[u8], n: usize) -> &[u8]
         return &bank[..0];
     };
     &bank[start..end]
+}
+
+// A subroutine to call: document 01's number (0 where it is not refused), which body, and the bytes run with the body's.
+pub struct Callee {
+    pub number: u8,
+    pub index: usize,
+    pub ran: usize,
+}
+
+fn refused(number: u8) -> Callee
+    ensures { λ r. ⌜ r ≡ refusedWith number ⌝ }
+{
+    Callee {
+        number,
+        index: 0,
+        ran: 0,
+    }
+}
+
+// The call of the subroutine that a number names, after so many bytes run. The body's encrypted bytes are counted.
+pub fn call(bank: &[u8], number: f64, ran: usize) -> Callee
+    ensures { λ r. ⌜ r ≡ called (now (bank .entry)) number ran ⌝ }
+{
+    if number >= 0.0 {
+        let index = binary64::to_usize(number);
+        let Found::At(start, end) = find(bank, index) else {
+            return refused(8);
+        };
+        let size = end - start;
+        if charstring::MAX_CHARSTRING_BYTES < ran {
+            return refused(3);
+        }
+        if charstring::MAX_CHARSTRING_BYTES - ran < size {
+            return refused(3);
+        }
+        let total = ran + size;
+        return Callee {
+            number: 0,
+            index,
+            ran: total,
+        };
+    }
+    refused(8)
+}
+
+// Levels of subroutines that run.
+const MAX_SUBR_DEPTH: usize = 10;
+
+// How deep a subroutine may be called.
+pub fn max_depth() -> usize
+    ensures { λ r. ⌜ r ≡ maxDepth ⌝ }
+{
+    MAX_SUBR_DEPTH
 }

@@ -6,16 +6,18 @@ use native.Mathlib.Omega.{arith}
 use mathlib.Core.Bool.{Bool, true, false}
 use mathlib.Core.List.{List, [], _∷_, _++_}
 use mathlib.Core.Option.{Option, none, some}
-use borrow.Author.Tests.{le-leb, lt-leb}
+use borrow.Author.Tests.{le-leb, lt-leb, leb-true, leb-false}
 use lib.Dec.{leb, lit≤}
 use lib.ListN.{length, getD, take, drop, length-drop}
 use lib.Seq.{length-take-le}
 use lib.Ieee.{Float, nan, le, toUnsigned}
 use Rattle.charstring.specs.Cipher.{maxCharstringBytes}
 use Rattle.bank.specs.Bank.{Valid, body, found, bodyAt, bytesAt, part}
-use Rattle.bank.specs.Laws.{found-body, found-within}
+use Rattle.bank.specs.Call.{counted, called}
+use Rattle.bank.specs.Laws.{found-body, found-within, called-below, called-is}
 use Rattle.bank.specs.declared.Found.{Found}
 use Rattle.bank.specs.declared.Found.the-variants.{At, Nothing}
+use Rattle.bank.specs.declared.Callee.{Callee}
 use Rattle.type1.specs.declared.St.{St}
 use Rattle.type1.specs.declared.Called.{Called}
 use Rattle.type1.specs.State.{State, plusZero, withRan}
@@ -27,9 +29,13 @@ use Rattle.type1.proofs.Stacks.{small, small-fit, operand-count, top-is
 abbrev Deep : Type 0
 Deep = List ℕ → State → Outcome
 
--- one operand less, and so many bytes more
-abbrev pub calling : ℕ → St → St
-calling n t = small (t .operands - 1) (t .postscript) (t .x) (t .y) (t .opened) (t .flexing) (t .points) (t .hints) (t .changed) (t .divided) (t .ran + n) t
+-- one operand less, and so many bytes run
+abbrev ranTo : ℕ → St → St
+ranTo n t = small (t .operands - 1) (t .postscript) (t .x) (t .y) (t .opened) (t .flexing) (t .points) (t .hints) (t .changed) (t .divided) n t
+
+-- so many bytes more
+abbrev calling : ℕ → St → St
+calling n t = ranTo (t .ran + n) t
 
 module _ (bank : List ℕ) (lenIV : ℕ) (t : St) (m : Mem) (s : State) (H : Holds t m s) where
   abbrev font : Font
@@ -64,7 +70,7 @@ module _ (bank : List ℕ) (lenIV : ℕ) (t : St) (m : Mem) (s : State) (H : Hol
     unfolding named
     below e = ap (λ (b : Bool). pick b (body (toUnsigned 64 v) bank) none) e
 
-    pub call-below : le plusZero v ≡ false → Calls bank lenIV m s (record { st = t; flow = 8; index = 0 })
+    call-below : le plusZero v ≡ false → Calls bank lenIV m s (record { st = t; flow = 8; index = 0 })
     call-below e = stops 8 (lit≤ tt) (nobody (below e))
 
     module _ (ge : le plusZero v ≡ true) (ok : Valid bank) (i : ℕ) (is : i ≡ toUnsigned 64 v) where
@@ -72,7 +78,7 @@ module _ (bank : List ℕ) (lenIV : ℕ) (t : St) (m : Mem) (s : State) (H : Hol
       unfolding named
       named-is f e = ap (λ (b : Bool). pick b (body (toUnsigned 64 v) bank) none) ge ∙ ap (λ (n : ℕ). body n bank) (sym is) ∙ sym (found-body bank i ok) ∙ ap (λ (g : Found). bodyAt g bank) e
 
-      pub call-nothing : found i bank ≡ Nothing → Calls bank lenIV m s (record { st = t; flow = 8; index = 0 })
+      call-nothing : found i bank ≡ Nothing → Calls bank lenIV m s (record { st = t; flow = 8; index = 0 })
       call-nothing e = stops 8 (lit≤ tt) (nobody (named-is Nothing e))
 
       module _ (start end : ℕ) (e : found i bank ≡ At start end) where
@@ -94,7 +100,7 @@ module _ (bank : List ℕ) (lenIV : ℕ) (t : St) (m : Mem) (s : State) (H : Hol
         unfolding charge
         charge-is b q = ap (λ (k : Bool). check k 3 (going (withRan (s .ran + length l) (without 1 s)))) (ap₂ (λ (x y : ℕ). leb (x + y) maxCharstringBytes) ran-is part-length ∙ q)
 
-        pub call-large : t .ran ≤ maxCharstringBytes → maxCharstringBytes - t .ran < end - start → Calls bank lenIV m s (record { st = t; flow = 3; index = 0 })
+        call-large : t .ran ≤ maxCharstringBytes → maxCharstringBytes - t .ran < end - start → Calls bank lenIV m s (record { st = t; flow = 3; index = 0 })
         call-large a b = stops 3 (lit≤ tt) (λ deep. somebody deep ∙ ap (λ (o : Outcome). andThen o (λ (u : State). returned (deep l u))) (charge-is false (lt-leb (t .ran + (end - start)) maxCharstringBytes (omega arith))))
 
         charged : t .ran + (end - start) ≤ maxCharstringBytes → Holds (calling (end - start) t) m (withRan (s .ran + length l) (without 1 s))
@@ -107,8 +113,34 @@ module _ (bank : List ℕ) (lenIV : ℕ) (t : St) (m : Mem) (s : State) (H : Hol
               fit = small-fit (withCount (t .operands - 1) t) m F _ _ _ _ _ _ _ _ _ _ _ _ _ _ (F .bounds .operands) (F .bounds .postscript) (F .bounds .points) (F .bounds .hints) h (F .ops) (F .ps) (F .cells);
             }
 
-        pub call-made : t .ran ≤ maxCharstringBytes → end - start ≤ maxCharstringBytes - t .ran → Calls bank lenIV m s (record { st = calling (end - start) t; flow = 0; index = i })
+        call-made : t .ran ≤ maxCharstringBytes → end - start ≤ maxCharstringBytes - t .ran → Calls bank lenIV m s (record { st = calling (end - start) t; flow = 0; index = i })
         call-made a b = record {
           called = λ z. (withRan (s .ran + length l) (without 1 s), charged (omega arith), λ deep. somebody deep ∙ ap (λ (o : Outcome). andThen o (λ (u : State). returned (deep l u))) (charge-is true (le-leb (t .ran + (end - start)) maxCharstringBytes (omega arith))) ∙ ap (λ (f : Found). returned (deep (bytesAt f bank) (withRan (s .ran + length l) (without 1 s)))) (sym e));
           stopped = λ z. absurd (z refl);
         }
+
+    -- ---- as `bank::call` answers
+    module _ (ok : Valid bank) (a : t .ran ≤ maxCharstringBytes) (k : Callee) (is : k ≡ called bank v (t .ran)) where
+      abbrev Answer : Callee → Type 0
+      Answer j = ((j .number ≡ 0 → ⊥) → Calls bank lenIV m s (record { st = t; flow = j .number; index = 0 })) × (j .number ≡ 0 → Calls bank lenIV m s (record { st = ranTo (j .ran) t; flow = 0; index = j .index }))
+
+      answers : Answer (called bank v (t .ran))
+      answers = by-sign (le plusZero v) refl
+        where
+          by-size : (start end : ℕ) → found (toUnsigned 64 v) bank ≡ At start end → le plusZero v ≡ true → (b : Bool) → leb (t .ran + (end - start)) maxCharstringBytes ≡ b → Answer (counted (toUnsigned 64 v) (t .ran) (At start end))
+          by-size start end e ge true q = let h = leb-true (t .ran + (end - start)) maxCharstringBytes q in rw q (λ n. absurd (n refl), λ z. call-made ge ok (toUnsigned 64 v) refl start end e a (omega arith))
+          by-size start end e ge false q = let h = leb-false (t .ran + (end - start)) maxCharstringBytes q in rw q (λ n. call-large ge ok (toUnsigned 64 v) refl start end e a (omega arith), λ z. absurd (let y : ⊥ = omega arith in y))
+
+          by-place : (f : Found) → found (toUnsigned 64 v) bank ≡ f → le plusZero v ≡ true → Answer (counted (toUnsigned 64 v) (t .ran) f)
+          by-place (At start end) e ge = by-size start end e ge (leb (t .ran + (end - start)) maxCharstringBytes) refl
+          by-place Nothing e ge = (λ n. call-nothing ge ok (toUnsigned 64 v) refl e, λ z. absurd (let y : ⊥ = omega arith in y))
+
+          by-sign : (b : Bool) → le plusZero v ≡ b → Answer (called bank v (t .ran))
+          by-sign true q = subst Answer (sym (called-is bank v (t .ran) q (toUnsigned 64 v) refl _ refl)) (by-place (found (toUnsigned 64 v) bank) refl q)
+          by-sign false q = subst Answer (sym (called-below bank v (t .ran) q)) (λ n. call-below q, λ z. absurd (let y : ⊥ = omega arith in y))
+
+      pub call-refused : (k .number ≡ 0 → ⊥) → Calls bank lenIV m s (record { st = t; flow = k .number; index = 0 })
+      call-refused = subst Answer (sym is) answers .0
+
+      pub call-goes : k .number ≡ 0 → Calls bank lenIV m s (record { st = ranTo (k .ran) t; flow = 0; index = k .index })
+      call-goes = subst Answer (sym is) answers .1

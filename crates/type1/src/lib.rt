@@ -1882,37 +1882,21 @@ fn callsubr(bank: &[u8], st: St, ops: &[f64; 256]) -> Called
             index: 0,
         };
     }
-    let number = ops[n - 1];
-    if number >= 0.0 {
-        let index = binary64::to_usize(number);
-        let bank::Found::At(start, end) = bank::find(bank, index) else {
-            return Called {
-                st,
-                flow: 8,
-                index: 0,
-            };
-        };
-        let size = end - start;
-        if charstring::MAX_CHARSTRING_BYTES - st.ran < size {
-            return Called {
-                st,
-                flow: 3,
-                index: 0,
-            };
-        }
-        let mut s = st;
-        s.operands = n - 1;
-        s.ran = st.ran + size;
+    let c = bank::call(bank, ops[n - 1], st.ran);
+    if c.number != 0 {
         return Called {
-            st: s,
-            flow: 0,
-            index,
+            st,
+            flow: c.number,
+            index: 0,
         };
     }
+    let mut s = st;
+    s.operands = n - 1;
+    s.ran = c.ran;
     Called {
-        st,
-        flow: 8,
-        index: 0,
+        st: s,
+        flow: 0,
+        index: c.index,
     }
 }
 
@@ -2214,12 +2198,10 @@ fn answer(st: St, cells: &[f64; 19]) -> Interpreted
 }
 
 // Levels of subroutines that run: depth 10 does, 11 is refused.
-const MAX_SUBR_DEPTH: usize = 10;
-
 fn deepest() -> usize
     ensures { λ r. ⌜ r ≡ 10 ⌝ }
 {
-    MAX_SUBR_DEPTH
+    bank::max_depth()
 }
 
 // The entry's work, on arrays that are zero.
