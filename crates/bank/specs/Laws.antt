@@ -21,7 +21,6 @@ use lib.Dec.{leb, ltb}
 use lib.ListN.{length, length-take, length-drop}
 use Rattle.bank.specs.declared.Found.{Found}
 use Rattle.bank.specs.declared.Found.the-variants.{At, Nothing}
-use Rattle.bank.specs.declared.Callee.{Callee}
 use Rattle.bank.specs.Call.{refusedWith, counted, called}
 use Rattle.bank.specs.Bank.{be32, count, offset, Valid, rises, valid, part, bodyStart, bodyEnd, body, Within, within, found, bodyAt}
 

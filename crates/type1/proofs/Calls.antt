@@ -1,14 +1,14 @@
 -- Laws: `callsubr` names a body of the bank, whose bytes are counted before it runs.
 use mathlib.Core.Path.{_≡_, refl, sym, ap, ap₂, _∙_, subst}
-use Prim.Native.Nat.{ℕ, zero, suc, _+_, _-_, _*_, _≤_, _<_}
+use Prim.Native.Nat.{ℕ, _+_, _-_, _≤_, _<_}
 use native.Mathlib.Nat.{pos-of-ne-zero}
 use native.Mathlib.Omega.{arith}
 use mathlib.Core.Bool.{Bool, true, false}
-use mathlib.Core.List.{List, [], _∷_, _++_}
-use mathlib.Core.Option.{Option, none, some}
+use mathlib.Core.List.{List}
+use mathlib.Core.Option.{Option, none}
 use borrow.Author.Tests.{le-leb, lt-leb, leb-true, leb-false}
 use lib.Dec.{leb, lit≤}
-use lib.ListN.{length, getD, take, drop, length-drop}
+use lib.ListN.{length, getD, drop, length-drop}
 use lib.Seq.{length-take-le}
 use lib.Ieee.{Float, nan, le, toUnsigned}
 use Rattle.charstring.specs.Cipher.{maxCharstringBytes}
@@ -19,10 +19,9 @@ use Rattle.bank.specs.declared.Found.{Found}
 use Rattle.bank.specs.declared.Found.the-variants.{At, Nothing}
 use Rattle.bank.specs.declared.Callee.{Callee}
 use Rattle.type1.specs.declared.St.{St}
-use Rattle.type1.specs.declared.Called.{Called}
 use Rattle.type1.specs.State.{State, plusZero, withRan}
-use Rattle.type1.specs.Run.{pick, Outcome, going, refused, check, andThen, returned, top, without, needs, Font, charge, named, callBody, callSubr}
-use Rattle.type1.specs.Memory.{Mem, abs, Fit, Holds}
+use Rattle.type1.specs.Run.{pick, Outcome, going, refused, check, andThen, returned, top, without, Font, charge, named, callBody, callSubr}
+use Rattle.type1.specs.Memory.{Mem, abs, Holds}
 use Rattle.type1.specs.Reading.{Calls, withCount}
 use Rattle.type1.proofs.Stacks.{small, small-fit, operand-count, top-is, without-holds}
 

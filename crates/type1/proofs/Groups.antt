@@ -1,25 +1,26 @@
 -- Laws: the stems in force become a group.
 use mathlib.Core.Path.{_≡_, refl, sym, ap, ap₂, _∙_, subst}
 use Prim.Native.Nat.{ℕ, zero, suc, _+_, _-_, _*_, _≤_, _<_, min}
-use native.Mathlib.Nat.{le-trans, zero-add}
 use native.Mathlib.Numerals.{add-one}
 use native.Mathlib.Omega.{arith}
-use mathlib.Core.Bool.{Bool, true, false, not, _&&_, true≢false}
+use mathlib.Core.Bool.{Bool, true, false, cond, _&&_, true≢false}
 use mathlib.Core.List.{List, [], _∷_, _++_, append-nil, append-assoc}
-use borrow.Author.Tests.{eq-eqb, ne-eqb, le-leb, lt-leb, eqb-true, eqb-false, ltb-true, ltb-false}
-use lib.Dec.{T, eqb, leb, ltb, lit≤}
+use borrow.Author.Tests.{eq-eqb, ne-eqb, le-leb, leb-true, eqb-true, eqb-false, ltb-true, ltb-false}
+use lib.Dec.{eqb, leb, ltb, lit≤}
 use lib.Arith.{lt-of-le-ne}
-use lib.ListN.{length, getD, take, drop, set, length-append, length-take}
+use lib.ListN.{length, take, drop, length-append, length-take}
 use lib.Seq.{paste, length-paste, take-paste, take-append-le, drop-at}
-use lib.Ieee.{Float, nan}
+use lib.Ieee.{Float}
+use Rattle.hints.specs.Hints as Hints
+use Rattle.hints.specs.Laws.{group-number}
 use Rattle.type1.specs.declared.Stem.{Stem}
 use Rattle.type1.specs.declared.St.{St}
 use Rattle.type1.specs.declared.Ran.{Ran}
 use Rattle.type1.specs.State.{Command, Group, State, settled, stemCount, lastIs, sameStems}
-use Rattle.type1.specs.Run.{pick, Limits, within, Outcome, going, refused, check, newGroup, commit}
+use Rattle.type1.specs.Run.{pick, Limits, within, Outcome, going, check, newGroup, commit}
 use Rattle.type1.specs.Memory.{Mem, word, commandIn, drawnIn, groupIn, groupsIn, stemAt, stemsAt, abs, Bounds, Fit, Holds, Meets, kept, after, withPath, withStems, Path}
 use Rattle.type1.specs.Small.{ranOf, Copied, Grown, Space}
-use Rattle.type1.proofs.Store.{Alike, Wrote, drawn-same, groups-same, entries-is}
+use Rattle.type1.proofs.Store.{Wrote, drawn-same, groups-same, entries-is}
 use Rattle.type1.proofs.Hints.{stems-same, stems-length}
 
 -- ---- groups at the end of the list
@@ -196,11 +197,20 @@ module _ (t : St) (m : Mem) (s : State) (H : Holds t m s) where
       let n = entries-is t m s H in
       ap₂ (λ (x y : Bool). check x 16 (check y 17 (going next))) (ap₂ (λ (i j : ℕ). leb (i + 1) 256 && leb j room) g (ap₂ _+_ u h) ∙ p) (ap (λ (i : ℕ). leb (14 * (i + 1)) words) n ∙ q)
 
-  pub no-group : (r : Ran) (M : Mem) (room words : ℕ) → r ≡ ranOf t 16 → (leb (t .groups + 1) 256 && leb (t .stems + t .hints) room) ≡ false → Meets r M (newGroup (within room words) s)
-  no-group r M room words e p = subst (Meets r M) (sym (unfolded room words false (leb (14 * (t .entries + 1)) words) p refl)) (ap (λ (q : Ran). q .flow) e, lit≤ tt)
+  -- what `hints::new_group` answers
+  abbrev number : ℕ → ℕ → ℕ
+  number room words = Hints.newGroup (t .groups) room (t .stems) (t .hints) words (t .entries)
 
-  pub no-entry : (r : Ran) (M : Mem) (room words : ℕ) → r ≡ ranOf t 17 → t .groups < 256 → t .stems + t .hints ≤ room → words < 14 * (t .entries + 1) → Meets r M (newGroup (within room words) s)
-  no-entry r M room words e g u w = subst (Meets r M) (sym (unfolded room words true false (ap₂ (λ (x y : Bool). x && y) (le-leb (t .groups + 1) 256 (omega arith)) (le-leb (t .stems + t .hints) room u)) (lt-leb (14 * (t .entries + 1)) words w))) (ap (λ (q : Ran). q .flow) e, lit≤ tt)
+  pub no-group : (r : Ran) (M : Mem) (room words n : ℕ) → n ≡ number room words → (n ≡ 0 → ⊥) → r ≡ ranOf t n → Meets r M (newGroup (within room words) s)
+  no-group r M room words n p q e =
+      let b = leb (t .groups + 1) 256 && leb (t .stems + t .hints) room in
+      let d = leb (14 * (t .entries + 1)) words in
+      subst (Meets r M) (sym (unfolded room words b d refl refl)) (by-tests b d (ap (λ (x : Ran). x .flow) e ∙ p ∙ group-number (t .groups) room (t .stems) (t .hints) words (t .entries) b d refl refl) (λ z. q (sym (ap (λ (x : Ran). x .flow) e) ∙ z)))
+    where
+      by-tests : (b d : Bool) → r .flow ≡ cond b (cond d 0 17) 16 → (r .flow ≡ 0 → ⊥) → Meets r M (check b 16 (check d 17 (going next)))
+      by-tests true true f z = absurd (z f)
+      by-tests true false f z = (f, lit≤ tt)
+      by-tests false d f z = (f, lit≤ tt)
 
   kept-is : (r : Ran) (e : List Float) (a : List Bool) → r ≡ ranOf (withGroup t) 0 → kept t (r .st) e a (m .stems) ≡ paste (m .stems) (t .stems) (stemsAt 0 (t .hints) e a) (t .hints)
   unfolding kept
@@ -228,16 +238,15 @@ grown-group t r words room e b g u w = subst (λ (q : Ran). Grown t (q .st) word
   y = refl;
 })
 
--- 16: as the code tests it
-pub groups-full : (g u room : ℕ) → g ≡ 256 → (leb (g + 1) 256 && leb u room) ≡ false
-groups-full g u room e = ap (λ (b : Bool). b && leb u room) (lt-leb (g + 1) 256 (omega arith))
-
-pub stems-full : (g u h room : ℕ) → u ≤ room → room - u < h → (leb (g + 1) 256 && leb (u + h) room) ≡ false
-stems-full g u h room l k = ap (λ (b : Bool). leb (g + 1) 256 && b) (lt-leb (u + h) room (omega arith)) ∙ none (leb (g + 1) 256)
+-- where `hints::new_group` answers 0 there is room
+pub group-room : (groups room used n words entries f : ℕ) → f ≡ Hints.newGroup groups room used n words entries → f ≡ 0 → (groups < 256) × (used + n ≤ room) × (14 * (entries + 1) ≤ words)
+group-room groups room used n words entries f p q = by-tests (leb (groups + 1) 256) (leb (used + n) room) (leb (14 * (entries + 1)) words) refl refl refl (sym q ∙ p)
   where
-    none : (b : Bool) → (b && false) ≡ false
-    none true = refl
-    none false = refl
+    by-tests : (a b d : Bool) → leb (groups + 1) 256 ≡ a → leb (used + n) room ≡ b → leb (14 * (entries + 1)) words ≡ d → 0 ≡ Hints.newGroup groups room used n words entries → (groups < 256) × (used + n ≤ room) × (14 * (entries + 1) ≤ words)
+    by-tests true true true x y z e = (let g = leb-true (groups + 1) 256 x in omega arith, leb-true (used + n) room y, leb-true (14 * (entries + 1)) words z)
+    by-tests true true false x y z e = absurd (let g = group-number groups room used n words entries true false (ap₂ (λ (k l : Bool). k && l) x y) z in let h : ⊥ = omega arith in h)
+    by-tests true false d x y z e = absurd (let g = group-number groups room used n words entries false d (ap₂ (λ (k l : Bool). k && l) x y) z in let h : ⊥ = omega arith in h)
+    by-tests false b d x y z e = absurd (let g = group-number groups room used n words entries false d (ap₂ (λ (k l : Bool). k && l) x y) z in let h : ⊥ = omega arith in h)
 
 -- with the room as a number
 pub made-in : (t : St) (m : Mem) (s : State) (room : ℕ) → length (m .stems) ≡ room → (H : Holds t m s) → (r : Ran) (c : List ℕ) (e : List Float) (a : List Bool) → r ≡ ranOf (withGroup t) 0 → Wrote (14 * t .entries) (5 ∷ t .stems ∷ t .hints ∷ []) (m .cmds) c → Copied (t .hints) (m .edges) (m .across) e a
@@ -245,8 +254,8 @@ pub made-in : (t : St) (m : Mem) (s : State) (room : ℕ) → length (m .stems) 
 made-in t m s room q H r c e a p W C g u w = subst (λ (n : ℕ). Meets r (after t r e a c m) (newGroup (within n (length (m .cmds))) s)) q (made-group t m s H r c e a p W C g (omega arith) w)
 
 -- a refusal does not go on
-pub refused-not : (t : St) (r : Ran) (n : ℕ) {A : Type 0} → r ≡ ranOf t (suc n) → r .flow ≡ 0 → A
-refused-not t r n e z = absurd (let y : suc n ≡ 0 = sym (ap (λ (q : Ran). q .flow) e) ∙ z in let x : ⊥ = omega arith in x)
+pub refused-not : (t : St) (r : Ran) (n : ℕ) {A : Type 0} → r ≡ ranOf t n → (n ≡ 0 → ⊥) → r .flow ≡ 0 → A
+refused-not t r n e q z = absurd (q (sym (ap (λ (x : Ran). x .flow) e) ∙ z))
 
 pub goes-settled : (t : St) (r : Ran) → r ≡ ranOf (withGroup t) 0 → r .st .changed ≡ false
 goes-settled t r e = ap (λ (q : Ran). q .st .changed) e

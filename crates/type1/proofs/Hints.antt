@@ -1,24 +1,26 @@
 -- Laws: the stems in force and those of the last group, as the arrays hold them.
 use mathlib.Core.Path.{_≡_, refl, sym, ap, ap₂, _∙_, subst}
 use Prim.Native.Nat.{ℕ, zero, suc, _+_, _-_, _*_, _≤_, _<_}
-use native.Mathlib.Nat.{zero-add, pos-of-ne-zero}
+use native.Mathlib.Nat.{zero-add}
 use native.Mathlib.Numerals.{add-one}
 use native.Mathlib.Omega.{arith}
-use mathlib.Core.Bool.{Bool, true, false, not, _&&_, _||_, Bool·beq, true≢false}
+use mathlib.Core.Bool.{Bool, true, false, _&&_, _||_}
 use mathlib.Core.List.{List, [], _∷_, _++_}
-use borrow.Author.Tests.{eq-eqb, ne-eqb, le-leb, lt-leb, eqb-true, eqb-false, lt-ltb, le-ltb}
-use lib.Dec.{T, eqb, leb, ltb, lit≤}
+use borrow.Author.Tests.{le-leb, lt-leb, eqb-true, eqb-false}
+use lib.Dec.{eqb, leb, ltb, lit≤}
 use lib.Arith.{lt-of-le-ne}
-use lib.ListN.{length, getD, take, drop, set, length-set, length-append}
-use lib.Seq.{getD-set-same, getD-set-other, getD-take}
-use lib.Ieee.{Float, nan, binary64, eq}
+use lib.ListN.{length, getD, set, length-set, length-append}
+use lib.Seq.{getD-set-same, getD-set-other}
+use lib.Ieee.{Float, nan}
 use lib.Ieee.Scale.{finite}
+use Rattle.hints.specs.Hints.{isAmong, sameFirst, cut, inForce, isLast}
+use Rattle.hints.specs.Laws.{cut-below}
 use Rattle.type1.specs.declared.Stem.{Stem}
 use Rattle.type1.specs.declared.St.{St}
 use Rattle.type1.specs.declared.Ran.{Ran}
 use Rattle.type1.specs.State.{State, withHints, sameStem, isIn, sameStems}
-use Rattle.type1.specs.Run.{pick, Limits, within, Outcome, going, refused, check, stemOf, stem}
-use Rattle.type1.specs.Memory.{Mem, stemAt, stemsAt, abs, Bounds, Fit, Holds, Meets}
+use Rattle.type1.specs.Run.{pick, within, going, check, stemOf, stem}
+use Rattle.type1.specs.Memory.{Mem, stemAt, stemsAt, abs, Holds, Meets}
 use Rattle.type1.specs.Memory as Memory
 use Rattle.type1.specs.Small.{ranOf, Copied}
 
@@ -40,49 +42,15 @@ stems-suc : (e : List Float) (a : List Bool) (i : ℕ) → stemsAt 0 (suc i) e a
 unfolding stemsAt
 stems-suc e a i = ap (λ (n : ℕ). stemsAt 0 i e a ++ (stemAt e a n ∷ [])) (zero-add i)
 
--- none of the first i is the stem
-pub none-more : (e : List Float) (a : List Bool) (i : ℕ) (s : Stem) → isIn (stemsAt 0 i e a) s ≡ false → sameStem (stemAt e a i) s ≡ false → isIn (stemsAt 0 (i + 1) e a) s ≡ false
-none-more e a i s h k = ap (λ (n : ℕ). isIn (stemsAt 0 n e a) s) (add-one i) ∙ ap (λ (l : List Stem). isIn l s) (stems-suc e a i) ∙ in-more (stemsAt 0 i e a) (stemAt e a i) s ∙ ap₂ (λ (x y : Bool). x || y) h k
+-- what `hints::in_force` says of a stem
+among-is : (e : List Float) (a : List Bool) (n : ℕ) (h : Bool) (p w : Float) → isAmong n e a h p w ≡ isIn (stemsAt 0 n e a) (stemOf h p w)
+unfolding isAmong isIn stemsAt
+among-is e a zero h p w = refl
+among-is e a (suc n) h p w = ap (λ (b : Bool). b || sameStem (stemAt e a n) (stemOf h p w)) (among-is e a n h p w) ∙ sym (ap (λ (l : List Stem). isIn l (stemOf h p w)) (stems-suc e a n) ∙ in-more (stemsAt 0 n e a) (stemAt e a n) (stemOf h p w))
 
--- the one at i is
-pub found-at : (e : List Float) (a : List Bool) (i n : ℕ) (s : Stem) → i < n → sameStem (stemAt e a i) s ≡ true → true ≡ isIn (stemsAt 0 n e a) s
-found-at e a i zero s l h = absurd (let z : ⊥ = omega arith in z)
-found-at e a i (suc n) s l h = sym (ap (λ (q : List Stem). isIn q s) (stems-suc e a n) ∙ in-more (stemsAt 0 n e a) (stemAt e a n) s ∙ split (eqb i n) refl (λ k. found-at e a i n s k h))
-  where
-    or-true : (b : Bool) → (b || true) ≡ true
-    or-true true = refl
-    or-true false = refl
-
-    split : (b : Bool) → eqb i n ≡ b → (i < n → true ≡ isIn (stemsAt 0 n e a) s) → (isIn (stemsAt 0 n e a) s || sameStem (stemAt e a n) s) ≡ true
-    split true q rec = ap (λ (x : Bool). isIn (stemsAt 0 n e a) s || x) (ap (λ (j : ℕ). sameStem (stemAt e a j) s) (sym (eqb-true i n q)) ∙ h) ∙ or-true (isIn (stemsAt 0 n e a) s)
-    split false q rec = let g : i ≤ n = omega arith in ap (λ (x : Bool). x || sameStem (stemAt e a n) s) (sym (rec (lt-of-le-ne g (eqb-false i n q))))
-
--- ---- two stems, field by field
-pub other-way : (h g : Bool) (p w q v : Float) → h ≡ not g → false ≡ sameStem (stemOf h p w) (stemOf g q v)
-other-way true true p w q v e = absurd (true≢false e)
-other-way true false p w q v e = refl
-other-way false true p w q v e = refl
-other-way false false p w q v e = absurd (true≢false (sym e))
-
-pub same-way : (h g : Bool) (p w q v : Float) → h ≡ g → eq p q ≡ true → eq w v ≡ sameStem (stemOf h p w) (stemOf g q v)
-same-way true true p w q v e k = sym (ap (λ (b : Bool). b && eq w v) k)
-same-way false false p w q v e k = sym (ap (λ (b : Bool). b && eq w v) k)
-same-way true false p w q v e k = absurd (true≢false e)
-same-way false true p w q v e k = absurd (true≢false (sym e))
-
-pub other-edge : (h g : Bool) (p w q v : Float) → eq p q ≡ false → false ≡ sameStem (stemOf h p w) (stemOf g q v)
-other-edge h g p w q v k = sym (ap (λ (b : Bool). Bool·beq h g && (b && eq w v)) k ∙ none (Bool·beq h g))
-  where
-    none : (b : Bool) → (b && false) ≡ false
-    none true = refl
-    none false = refl
-
-pub none-first : (e : List Float) (a : List Bool) (s : Stem) → isIn (stemsAt 0 0 e a) s ≡ false
-unfolding isIn stemsAt
-none-first e a s = refl
-
-pub none-all : (e : List Float) (a : List Bool) (i n : ℕ) (s : Stem) → i ≤ n → n ≤ i → isIn (stemsAt 0 i e a) s ≡ false → false ≡ isIn (stemsAt 0 n e a) s
-none-all e a i n s h k p = sym (ap (λ (j : ℕ). isIn (stemsAt 0 j e a) s) (let z : n ≡ i = omega arith in z) ∙ p)
+pub in-force-is : (e : List Float) (a : List Bool) (n : ℕ) (h : Bool) (p w : Float) → n ≤ 256 → inForce n e a h p w ≡ isIn (stemsAt 0 n e a) (stemOf h p w)
+unfolding inForce
+in-force-is e a n h p w l = ap (λ (k : ℕ). isAmong k e a h p w) (cut-below n l) ∙ among-is e a n h p w
 
 -- ---- the same stems in other arrays
 pub stems-same : (from k : ℕ) (e e' : List Float) (a a' : List Bool) → ((i : ℕ) → i < k → stemAt e a (from + i) ≡ stemAt e' a' (from + i)) → stemsAt from k e a ≡ stemsAt from k e' a'
@@ -223,40 +191,19 @@ module _ (e : List Float) (a : List Bool) where
   unfolding stemsAt
   both-suc n = ap (λ (k : ℕ). sameStems (stemsAt 256 n e a ++ (stemAt e a (256 + n) ∷ [])) (stemsAt 0 n e a ++ (stemAt e a k ∷ []))) (zero-add n) ∙ sames-more (stemsAt 256 n e a) (stemsAt 0 n e a) (stemAt e a (256 + n)) (stemAt e a n) (stems-length 256 n e a ∙ sym (stems-length 0 n e a))
 
-  pub both-none : both 0 ≡ true
-  unfolding stemsAt sameStems
-  both-none = refl
+  first-is : (n : ℕ) → sameFirst n e a ≡ both n
+  unfolding sameFirst sameStems stemsAt
+  first-is zero = refl
+  first-is (suc n) = ap (λ (b : Bool). b && sameStem (stemAt e a (256 + n)) (stemAt e a n)) (first-is n) ∙ sym (both-suc n)
 
-  pub both-more : (n : ℕ) → both n ≡ true → sameStem (stemAt e a (256 + n)) (stemAt e a n) ≡ true → both (n + 1) ≡ true
-  both-more n h k = ap both (add-one n) ∙ both-suc n ∙ ap₂ (λ (x y : Bool). x && y) h k
-
-  -- a difference at i tells the lists apart
-  pub both-not : (i n : ℕ) → i < n → sameStem (stemAt e a (256 + i)) (stemAt e a i) ≡ false → both n ≡ false
-  both-not i zero l h = absurd (let z : ⊥ = omega arith in z)
-  both-not i (suc n) l h = both-suc n ∙ split (eqb i n) refl (λ k. both-not i n k h)
+  -- what `hints::is_last` says of the last group
+  pub is-last-is : (g l n : ℕ) → n ≤ 256 → isLast g l n e a ≡ (ltb 0 g && sameStems (stemsAt 256 l e a) (stemsAt 0 n e a))
+  unfolding isLast
+  is-last-is g l n k = ap (λ (b : Bool). ltb 0 g && b) (split (eqb l n) refl)
     where
-      none : (b : Bool) → (b && false) ≡ false
-      none true = refl
-      none false = refl
-
-      split : (b : Bool) → eqb i n ≡ b → (i < n → both n ≡ false) → (both n && sameStem (stemAt e a (256 + n)) (stemAt e a n)) ≡ false
-      split true q rec = ap (λ (x : Bool). both n && x) (ap (λ (j : ℕ). sameStem (stemAt e a (256 + j)) (stemAt e a j)) (sym (eqb-true i n q)) ∙ h) ∙ none (both n)
-      split false q rec = let g : i ≤ n = omega arith in ap (λ (x : Bool). x && sameStem (stemAt e a (256 + n)) (stemAt e a n)) (rec (lt-of-le-ne g (eqb-false i n q)))
-
-  pub last-none : (g l n : ℕ) → g ≡ 0 → false ≡ (ltb 0 g && sameStems (stemsAt 256 l e a) (stemsAt 0 n e a))
-  last-none g l n p = sym (ap (λ (b : Bool). b && sameStems (stemsAt 256 l e a) (stemsAt 0 n e a)) (le-ltb 0 g (omega arith)))
-
-  last-some : (g l n : ℕ) → (g ≡ 0 → ⊥) → (ltb 0 g && sameStems (stemsAt 256 l e a) (stemsAt 0 n e a)) ≡ sameStems (stemsAt 256 l e a) (stemsAt 0 n e a)
-  last-some g l n p = ap (λ (b : Bool). b && sameStems (stemsAt 256 l e a) (stemsAt 0 n e a)) (lt-ltb 0 g (pos-of-ne-zero p))
-
-  pub last-count : (g l n : ℕ) → (g ≡ 0 → ⊥) → (l ≡ n → ⊥) → false ≡ (ltb 0 g && sameStems (stemsAt 256 l e a) (stemsAt 0 n e a))
-  last-count g l n p q = sym (last-some g l n p ∙ sames-length (stemsAt 256 l e a) (stemsAt 0 n e a) (λ z. q (sym (stems-length 256 l e a) ∙ z ∙ stems-length 0 n e a)))
-
-  pub last-differs : (g l n i : ℕ) → (g ≡ 0 → ⊥) → l ≡ n → i < n → sameStem (stemAt e a (256 + i)) (stemAt e a i) ≡ false → false ≡ (ltb 0 g && sameStems (stemsAt 256 l e a) (stemsAt 0 n e a))
-  last-differs g l n i p q k h = sym (last-some g l n p ∙ ap (λ (j : ℕ). sameStems (stemsAt 256 j e a) (stemsAt 0 n e a)) q ∙ both-not i n k h)
-
-  pub last-same : (g l n i : ℕ) → (g ≡ 0 → ⊥) → l ≡ n → i ≡ n → both i ≡ true → true ≡ (ltb 0 g && sameStems (stemsAt 256 l e a) (stemsAt 0 n e a))
-  last-same g l n i p q k h = sym (last-some g l n p ∙ ap (λ (j : ℕ). sameStems (stemsAt 256 j e a) (stemsAt 0 n e a)) q ∙ ap both (sym k) ∙ h)
+      split : (b : Bool) → eqb l n ≡ b → (b && sameFirst (cut n) e a) ≡ sameStems (stemsAt 256 l e a) (stemsAt 0 n e a)
+      split true q = ap (λ (j : ℕ). sameFirst j e a) (cut-below n k) ∙ first-is n ∙ ap (λ (j : ℕ). sameStems (stemsAt 256 j e a) (stemsAt 0 n e a)) (sym (eqb-true l n q))
+      split false q = sym (sames-length (stemsAt 256 l e a) (stemsAt 0 n e a) (λ z. eqb-false l n q (sym (stems-length 256 l e a) ∙ z ∙ stems-length 0 n e a)))
 
 -- ---- the stems in force are copied to the last group's place
 pub copy-begun : (e : List Float) (a : List Bool) → Copied 0 e a e a

@@ -653,7 +653,7 @@ fn enter_flex(height: f64, st: St, cells: &[f64; 19], cmds: &mut [u64]) -> Ran
 
 // ---- hints
 
-// Whether the stem is among the first count of those that begin at a place.
+// Whether the stem is among the first count in force.
 fn in_force(
     horizontal: bool,
     pos: f64,
@@ -665,34 +665,7 @@ fn in_force(
     requires { ⌜ count ≤ 256 ⌝ }
     ensures { λ r. ⌜ r ≡ State.isIn (stemsAt 0 count (now (edges .entry)) (now (across .entry))) (stemOf horizontal pos width) ⌝ }
 {
-    let mut i = 0;
-    while i < count {
-        if same_stem(
-            across[i],
-            edges[2 * i],
-            edges[2 * i + 1],
-            horizontal,
-            pos,
-            width,
-        ) {
-            return true;
-        }
-        i += 1;
-    }
-    false
-}
-
-fn same_stem(h: bool, p: f64, w: f64, horizontal: bool, pos: f64, width: f64) -> bool
-    ensures { λ r. ⌜ r ≡ State.sameStem (stemOf h p w) (stemOf horizontal pos width) ⌝ }
-{
-    if h {
-        if !horizontal {
-            return false;
-        }
-    } else if horizontal {
-        return false;
-    }
-    if p == pos { w == width } else { false }
+    hints::in_force(horizontal, pos, width, count, edges, across)
 }
 
 // A stem comes in force, unless an equal one is.
@@ -733,29 +706,7 @@ fn is_last(st: St, edges: &[f64; 1024], across: &[bool; 512]) -> bool
     requires { ⌜ (st .hints ≤ 256) × (st .last ≤ 256) ⌝ }
     ensures { λ r. ⌜ r ≡ (ltb 0 (st .groups) && State.sameStems (stemsAt 256 (st .last) (now (edges .entry)) (now (across .entry))) (stemsAt 0 (st .hints) (now (edges .entry)) (now (across .entry)))) ⌝ }
 {
-    if st.groups == 0 {
-        return false;
-    }
-    let n = st.hints;
-    if st.last != n {
-        return false;
-    }
-    let mut i = 0;
-    while i < n {
-        let j = LAST + i;
-        if !same_stem(
-            across[j],
-            edges[2 * j],
-            edges[2 * j + 1],
-            across[i],
-            edges[2 * i],
-            edges[2 * i + 1],
-        ) {
-            return false;
-        }
-        i += 1;
-    }
-    true
+    hints::is_last(st.groups, st.last, st.hints, edges, across)
 }
 
 // The stems in force become the last group's.
@@ -791,17 +742,12 @@ fn new_group(
 {
     let n = st.hints;
     let used = st.stems;
-    if st.groups == 256 {
-        return made(st, 16);
-    }
-    if room - used < n {
-        return made(st, 16);
-    }
     let k = st.entries;
-    let at = ENTRY * k;
-    if cmds.len() - at < ENTRY {
-        return made(st, 17);
+    let f = hints::new_group(st.groups, room, used, n, cmds.len(), k);
+    if f != 0 {
+        return made(st, f);
     }
+    let at = ENTRY * k;
     cmds[at] = GROUP;
     cmds[at + 1] = used as u64;
     cmds[at + 2] = n as u64;

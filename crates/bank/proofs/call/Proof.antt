@@ -4,11 +4,10 @@ use native.Mathlib.Omega.{arith}
 use borrow.Author.Tests.{le-leb, lt-leb}
 use Rattle.charstring.specs.Cipher.{maxCharstringBytes}
 use Rattle.bank.specs.declared.Found.the-variants.{At}
-use Rattle.bank.specs.declared.Callee.{Callee}
 use Rattle.bank.specs.Call.{refusedWith, counted}
 use Rattle.bank.specs.Laws.{found-within, called-below, called-is}
 use lib.Ieee.{ofBits}
-use mathlib.Core.Path.{_≡_, sym, ap, _∙_}
+use mathlib.Core.Path.{_≡_, sym, _∙_}
 use borrow.Author.Needs.{needs}
 use Rattle.bank.proofs.call.Statement.{statement}
 use Rattle.bank.proofs.call.Tie as tie

@@ -6,37 +6,29 @@ use Rattle.type1.proofs.callsubr.Reads as reads
 use Rattle.type1.proofs.callsubr.Lts as lts
 use Rattle.bank.proofs.call.Reads as call-reads
 
--- src/lib.rt:1879:9
 returns : tie.Need-returns
 returns c =
     λ m s lenIV H. call-none _ lenIV _ _ s H (c .if1 .taken)
 
--- src/lib.rt:1885:34
 sub-call : tie.Need-sub-call
 sub-call c = search needs
 
--- src/lib.rt:1885:30
 mul-call : tie.Need-mul-call
 mul-call c = search needs
 
--- src/lib.rt:1885:30
 element-copy-out-call : tie.Need-element-copy-out-call
 element-copy-out-call c = search needs
 
--- src/lib.rt:1885:9
 call-requires : tie.Need-call-requires
 call-requires c κs = search needs
 
--- src/lib.rt:1887:9
 returns-2 : tie.Need-returns-2
 returns-2 c =
     λ m s lenIV H. call-refused _ lenIV _ _ s H (c .before .before .before .before .if1 .left) (c .before .before .before .before .before .before .pre .0) (c .before .before .before .before .before .before .pre .1 .1) _ (c .before .before .call .ensures) (c .if2 .taken)
 
--- src/lib.rt:1894:18
 sub-s : tie.Need-sub-s
 sub-s c = search needs
 
--- src/lib.rt:1872:1
 returns-3 : tie.Need-returns-3
 returns-3 c =
     λ m s lenIV H. call-goes _ lenIV _ _ s H (c .before .before .before .before .if1 .left) (c .before .before .before .before .before .before .pre .0) (c .before .before .before .before .before .before .pre .1 .1) _ (c .before .before .call .ensures) (c .if2 .left)

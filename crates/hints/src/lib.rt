@@ -1,0 +1,123 @@
+// Stem hints: the stems in force and those of the last group, and when a new group is refused.
+ghost use mathlib.Core.Path.{_≡_};
+ghost use Prim.Native.Nat.{_≤_};
+ghost use Rattle.hints.specs.Hints.{sameStem, cut, inForce, isLast, newGroup};
+
+// Groups, and stems in force, at the most.
+const MOST: usize = 256;
+
+// Where the last group's stems begin.
+const LAST: usize = 256;
+
+// Words of an entry of the command store.
+const ENTRY: usize = 14;
+
+fn same_stem(h: bool, p: f64, w: f64, horizontal: bool, pos: f64, width: f64) -> bool
+    ensures { λ r. ⌜ r ≡ sameStem h p w horizontal pos width ⌝ }
+{
+    if h {
+        if !horizontal {
+            return false;
+        }
+    } else if horizontal {
+        return false;
+    }
+    if p == pos { w == width } else { false }
+}
+
+fn at_most(count: usize) -> usize
+    ensures { λ r. ⌜ (r ≡ cut count) × (r ≤ 256) ⌝ }
+{
+    if count < MOST { count } else { MOST }
+}
+
+// Whether the stem equals one of so many in force, 256 at the most.
+pub fn in_force(
+    horizontal: bool,
+    pos: f64,
+    width: f64,
+    count: usize,
+    edges: &[f64; 1024],
+    across: &[bool; 512],
+) -> bool
+    ensures { λ r. ⌜ r ≡ inForce count (now (edges .entry)) (now (across .entry)) horizontal pos width ⌝ }
+{
+    let n = at_most(count);
+    let mut i = 0;
+    while i < n {
+        if same_stem(
+            across[i],
+            edges[2 * i],
+            edges[2 * i + 1],
+            horizontal,
+            pos,
+            width,
+        ) {
+            return true;
+        }
+        i += 1;
+    }
+    false
+}
+
+// Whether the stems in force are the last group's, in the same order. With no group they are not.
+pub fn is_last(
+    groups: usize,
+    last: usize,
+    count: usize,
+    edges: &[f64; 1024],
+    across: &[bool; 512],
+) -> bool
+    ensures { λ r. ⌜ r ≡ isLast groups last count (now (edges .entry)) (now (across .entry)) ⌝ }
+{
+    if groups == 0 {
+        return false;
+    }
+    if last != count {
+        return false;
+    }
+    let n = at_most(count);
+    let mut i = 0;
+    while i < n {
+        let j = LAST + i;
+        if !same_stem(
+            across[j],
+            edges[2 * j],
+            edges[2 * j + 1],
+            across[i],
+            edges[2 * i],
+            edges[2 * i + 1],
+        ) {
+            return false;
+        }
+        i += 1;
+    }
+    true
+}
+
+// The number with which a new group of n stems is refused, 0 where it is not: of so many groups, with so many records
+// used of the stem store's, and so many entries in a command store of so many words.
+pub fn new_group(
+    groups: usize,
+    records: usize,
+    used: usize,
+    n: usize,
+    words: usize,
+    entries: usize,
+) -> u8
+    ensures { λ r. ⌜ r ≡ newGroup groups records used n words entries ⌝ }
+{
+    if MOST <= groups {
+        return 16;
+    }
+    if records < used {
+        return 16;
+    }
+    if records - used < n {
+        return 16;
+    }
+    if words / ENTRY <= entries {
+        return 17;
+    }
+    0
+}
