@@ -1,23 +1,24 @@
 -- Laws: the end of a flex: it is listed, and its end point handed back.
 use mathlib.Core.Path.{_≡_, refl, sym, ap, ap₂, _∙_, subst}
-use Prim.Native.Nat.{ℕ, zero, suc, _+_, _-_, _*_, _≤_, _<_}
+use Prim.Native.Nat.{ℕ, suc, _+_, _-_, _≤_, _<_}
 use native.Mathlib.Numerals.{add-one}
 use native.Mathlib.Omega.{arith}
-use mathlib.Core.Bool.{Bool, true, false}
+use mathlib.Core.Bool.{Bool, true, false, _&&_}
 use mathlib.Core.List.{List, [], _∷_, _++_, append-assoc}
-use mathlib.Core.Option.{Option, none, some}
-use borrow.Author.Tests.{eq-eqb, ne-eqb}
+use mathlib.Core.Option.{none, some}
+use borrow.Author.Tests.{ne-eqb, eqb-false}
 use lib.Dec.{eqb, lit≤}
-use lib.ListN.{length, getD, take, drop, set, length-set}
+use lib.ListN.{length, take, set, length-set}
 use lib.Seq.{take-suc-set}
-use lib.Ieee.{Float, nan}
+use lib.Ieee.{Float}
 use Rattle.geometry.specs.declared.Point.{Point}
+use Rattle.othersubrs.specs.OtherSubrs.{wholeFlex}
 use Rattle.type1.specs.declared.Stem.{Stem}
 use Rattle.type1.specs.declared.St.{St}
 use Rattle.type1.specs.declared.Ran.{Ran}
-use Rattle.type1.specs.State.{Command, flex, State, origin, withPoint, withFlex}
-use Rattle.type1.specs.Run.{pick, Limits, within, Outcome, going, refused, andThen, check, commit, enter, list, handBack, heightOf, endFlex, otherSubr0, pointAt}
-use Rattle.type1.specs.Memory.{Mem, pointsAt, flexIn, abs, Bounds, Fit, Holds, Meets, kept, after, withPs, withCells, withCmds, withPath, withStems, Plain, Path}
+use Rattle.type1.specs.State.{State, withPoint, withFlex}
+use Rattle.type1.specs.Run.{Limits, within, Outcome, refused, andThen, commit, enter, list, handBack, heightOf, endFlex, otherSubr0}
+use Rattle.type1.specs.Memory.{Mem, pointsAt, abs, Holds, Meets, kept, after, withPs, withCells, withCmds, withPath, withStems, Path}
 use Rattle.type1.specs.Small.{ranOf, withXY, cellPoint, flexOf, Space}
 use Rattle.type1.proofs.Stacks.{small, small-fit, flexing-is, points-length, withPostscripts, back-full, back-done}
 use Rattle.type1.proofs.Groups.{Step}
@@ -78,11 +79,11 @@ abbrev pub EntersFlex : St → Ran → List Float → List ℕ → List ℕ → 
 EntersFlex t r x c c' h = (m : Mem) (s : State) (room : ℕ) → Holds t (withCells x (withCmds c m)) s → Meets r (withCells x (withCmds c' m)) (enter (within room (length c)) (flexOf x h) s)
 
 module _ (t : St) (ps x : List Float) (e : List Float) (a : List Bool) (c : List ℕ) (room : ℕ) (h : Float) where
-  pub ends-none : (r : Ran) (ps' e' : List Float) (a' : List Bool) (c' : List ℕ) → r ≡ ranOf t 9 → t .flexing ≡ false → Ends t r ps x e a c ps' e' a' c' room h
+  ends-none : (r : Ran) (ps' e' : List Float) (a' : List Bool) (c' : List ℕ) → r ≡ ranOf t 9 → t .flexing ≡ false → Ends t r ps x e a c ps' e' a' c' room h
   ends-none r ps' e' a' c' p f m s args g q H = subst (Meets r (withPs ps' (withCells x (after t r e' a' c' m)))) (sym (no-flex (within room (length c)) args s (flexing-is t _ s H false f))) (ap (λ (z : Ran). z .flow) p, lit≤ tt)
 
   module _ (f : t .flexing ≡ true) where
-    pub ends-count : (r : Ran) (ps' e' : List Float) (a' : List Bool) (c' : List ℕ) → r ≡ ranOf t 9 → (t .points ≡ 7 → ⊥) → Ends t r ps x e a c ps' e' a' c' room h
+    ends-count : (r : Ran) (ps' e' : List Float) (a' : List Bool) (c' : List ℕ) → r ≡ ranOf t 9 → (t .points ≡ 7 → ⊥) → Ends t r ps x e a c ps' e' a' c' room h
     ends-count r ps' e' a' c' p n m s args g q H =
         subst (Meets r (withPs ps' (withCells x (after t r e' a' c' m)))) (sym (a-flex (within room (length c)) args s (pointsAt (t .points) x) (flexing-is t _ s H true f) ∙ end-not (within room (length c)) (heightOf args) (pointsAt (t .points) x) s (λ z. n (sym (points-length (t .points) x) ∙ z))))
         (ap (λ (z : Ran). z .flow) p, lit≤ tt)
@@ -142,6 +143,14 @@ module _ (t : St) (ps x : List Float) (e : List Float) (a : List Bool) (c : List
                 let w = r .st .postscript in
                 ends-back (set (set ps w (end x .y)) (w + 1) (end x .x)) (ap (λ (q : Ran). q .st .groups) k ∙ p)
                 (λ n v K. back-done (withXY (end x .x) (end x .y) (r .st)) (withPs ps n) (withPoint (end x) v) (moved (r .st) (withPs ps n) v (end x .x) (end x .y) K) room (length c) (end x .y ∷ end x .x ∷ []) (set (set ps w (end x .y)) (w + 1) (end x .x)) 2 u k refl (omega arith) (length-set (set ps w (end x .y)) (w + 1) (end x .x) ∙ length-set ps w (end x .y)) (two ps w (end x .y) (end x .x) (let b = K .fit .ps in omega arith)))
+
+-- as `othersubrs::is_whole_flex` refuses
+pub ends-not : (t : St) (ps x e : List Float) (a : List Bool) (c : List ℕ) (room : ℕ) (h : Float) (r : Ran) (ps' e' : List Float) (a' : List Bool) (c' : List ℕ) → r ≡ ranOf t 9 → wholeFlex (t .flexing) (t .points) ≡ false → Ends t r ps x e a c ps' e' a' c' room h
+ends-not t ps x e a c room h r ps' e' a' c' p w = by-flex (t .flexing) refl
+  where
+    by-flex : (b : Bool) → t .flexing ≡ b → Ends t r ps x e a c ps' e' a' c' room h
+    by-flex true f = ends-count t ps x e a c room h f r ps' e' a' c' p (eqb-false (t .points) 7 (sym (ap (λ (b : Bool). b && eqb (t .points) 7) f) ∙ w))
+    by-flex false f = ends-none t ps x e a c room h r ps' e' a' c' p f
 
 -- a group that `commit` made has its room
 pub flex-space : (t : St) (d : Ran) (u : St) (room : ℕ) → Path (flexOff t) d room → u .groups ≡ d .st .groups → Space t u room

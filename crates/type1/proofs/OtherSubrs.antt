@@ -1,25 +1,28 @@
 -- Laws: `callothersubr`: its operands, its number, and what each number does.
 use mathlib.Core.Path.{_≡_, refl, sym, ap, ap₂, _∙_, subst}
-use Prim.Native.Nat.{ℕ, zero, suc, _+_, _-_, _*_, _≤_, _<_}
+use Prim.Native.Nat.{ℕ, zero, suc, _+_, _-_, _≤_, _<_}
 use native.Mathlib.Nat.{pos-of-ne-zero}
 use native.Mathlib.Omega.{arith}
 use mathlib.Core.Bool.{Bool, true, false, _&&_}
-use mathlib.Core.List.{List, [], _∷_, _++_}
-use mathlib.Core.Option.{Option, none, some}
+use mathlib.Core.List.{List, [], _∷_}
+use mathlib.Core.Option.{some}
 use borrow.Author.Tests.{eq-eqb, ne-eqb, le-leb, lt-leb}
 use mir.Syntax.{w64}
 use mir.Val.{ofZ}
 use lib.Signed.{mag}
-use lib.Dec.{eqb, leb, lit≤}
+use lib.Dec.{leb, lit≤}
 use lib.IntN.{ℤ, pos, negsuc}
 use lib.ListN.{length, getD, take, drop}
 use lib.Seq.{take-take, slice-empty, slice-cons, drop-nil, take-nil, length-take-le}
 use lib.Ieee.{Float, nan, fin, le, toUnsigned, toSigned}
+use Rattle.othersubrs.specs.declared.Taken.{Taken}
+use Rattle.othersubrs.specs.OtherSubrs.{mayTake, taken}
+use Rattle.othersubrs.specs.Laws.{not-taken}
 use Rattle.type1.specs.declared.St.{St}
 use Rattle.type1.specs.declared.Ran.{Ran}
 use Rattle.type1.specs.State.{State, plusZero, withOperands, withFlex}
 use Rattle.type1.specs.State as State
-use Rattle.type1.specs.Run.{pick, Limits, within, Outcome, going, refused, check, top, without, is, backwards, handBack, heightOf, otherSubr0, otherSubr2, otherSubr, callOtherSubr}
+use Rattle.type1.specs.Run.{Limits, within, Outcome, going, refused, check, top, without, is, backwards, handBack, heightOf, otherSubr0, otherSubr2, otherSubr, callOtherSubr}
 use Rattle.type1.specs.Memory.{Mem, pointsAt, stemsAt, abs, Holds, Meets, kept, after, withOps, withPs, withCells, withPath}
 use Rattle.type1.specs.Reading.{withCount}
 use Rattle.type1.specs.Small.{ranOf}
@@ -83,13 +86,10 @@ module _ (t : St) (m : Mem) (s : State) (H : Holds t m s) (lim : Limits) (h : 2 
       ∙ ap₂ (λ (x y : Float). does x y (without 2 s .operands) (length (without 2 s .operands))) (top-is t m s H 2 (omega arith) h) (top-is t m s H 1 (omega arith) (omega arith) ∙ ap (λ (i : ℕ). getD (m .ops) i nan) (let z : t .operands - 1 ≡ t .operands - 2 + 1 = omega arith in z))
       ∙ ap₂ (does count number) w k
 
-  pub other-negative : le plusZero count ≡ false → callOtherSubr lim s ≡ refused 7
-  other-negative e = call-is ∙ ap (λ (b : Bool). check (b && leb (toUnsigned 64 count) left) 7 (otherSubr lim (toSigned 63 number) (drop (left - toUnsigned 64 count) (take left (m .ops))) (withOperands (take (left - toUnsigned 64 count) (take left (m .ops))) s))) e
+  other-not : mayTake (t .operands) count ≡ false → callOtherSubr lim s ≡ refused 7
+  other-not e = call-is ∙ ap (λ (b : Bool). check b 7 (otherSubr lim (toSigned 63 number) (drop (left - toUnsigned 64 count) (take left (m .ops))) (withOperands (take (left - toUnsigned 64 count) (take left (m .ops))) s))) (sym (ap (λ (b : Bool). b && (le plusZero count && leb (toUnsigned 64 count) left)) (le-leb 2 (t .operands) h)) ∙ e)
 
-  pub other-many : (k : ℕ) → le plusZero count ≡ true → k ≡ toUnsigned 64 count → left < k → callOtherSubr lim s ≡ refused 7
-  other-many k e q l = call-is ∙ ap₂ (λ (b d : Bool). check (b && d) 7 (otherSubr lim (toSigned 63 number) (drop (left - toUnsigned 64 count) (take left (m .ops))) (withOperands (take (left - toUnsigned 64 count) (take left (m .ops))) s))) e (lt-leb (toUnsigned 64 count) left (omega arith))
-
-  pub other-is : (k : ℕ) (z : ℤ) → le plusZero count ≡ true → k ≡ toUnsigned 64 count → k ≤ left → z ≡ toSigned 63 number → callOtherSubr lim s ≡ otherSubr lim z (drop (left - k) (take left (m .ops))) (withOperands (take (left - k) (m .ops)) s)
+  other-is : (k : ℕ) (z : ℤ) → le plusZero count ≡ true → k ≡ toUnsigned 64 count → k ≤ left → z ≡ toSigned 63 number → callOtherSubr lim s ≡ otherSubr lim z (drop (left - k) (take left (m .ops))) (withOperands (take (left - k) (m .ops)) s)
   other-is k z e q l p =
       call-is ∙ ap₂ (λ (b d : Bool). check (b && d) 7 (otherSubr lim (toSigned 63 number) (drop (left - toUnsigned 64 count) (take left (m .ops))) (withOperands (take (left - toUnsigned 64 count) (take left (m .ops))) s))) e (le-leb (toUnsigned 64 count) left (omega arith))
       ∙ ap₂ (λ (n : ℕ) (y : ℤ). otherSubr lim y (drop (left - n) (take left (m .ops))) (withOperands (take (left - n) (take left (m .ops))) s)) (sym q) (sym p)
@@ -148,13 +148,20 @@ module _ (t : St) (r : Ran) (o ps x e : List Float) (a : List Bool) (c : List �
   others-none ps' x' e' a' c' p l = others-few ps' x' e' a' c' p (needs-two l)
 
   module _ (h : 2 ≤ t .operands) where
-    pub others-negative : (ps' x' e' : List Float) (a' : List Bool) (c' : List ℕ) → r ≡ ranOf t 7 → le plusZero (getD o (t .operands - 2) nan) ≡ false → Others t r o ps x e a c ps' x' e' a' c' room
-    others-negative ps' x' e' a' c' p f = others-few ps' x' e' a' c' p (λ m s H. other-negative t (withOps o (withPs ps (withCells x (withPath e a c m)))) s H (within room (length c)) h f)
+    -- as `othersubrs::arguments` refuses
+    pub others-refused : (ps' x' e' : List Float) (a' : List Bool) (c' : List ℕ) (k : Taken) → k ≡ taken (t .operands) (getD o (t .operands - 2) nan) → (k .number ≡ 0 → ⊥) → r ≡ ranOf t (k .number) → Others t r o ps x e a c ps' x' e' a' c' room
+    others-refused ps' x' e' a' c' k is ne p = others-few ps' x' e' a' c' (p ∙ ap (ranOf t) seven) (λ m s H. other-not t (withOps o (withPs ps (withCells x (withPath e a c m)))) s H (within room (length c)) h refusal)
+      where
+        v : Float
+        v = getD o (t .operands - 2) nan
+
+        refusal : mayTake (t .operands) v ≡ false
+        refusal = not-taken (t .operands) v k is ne .0
+
+        seven : k .number ≡ 7
+        seven = not-taken (t .operands) v k is ne .1
 
     module _ (ge : le plusZero (getD o (t .operands - 2) nan) ≡ true) (k : ℕ) (is-k : k ≡ toUnsigned 64 (getD o (t .operands - 2) nan)) where
-      pub others-many : (ps' x' e' : List Float) (a' : List Bool) (c' : List ℕ) → r ≡ ranOf t 7 → t .operands - 2 < k → Others t r o ps x e a c ps' x' e' a' c' room
-      others-many ps' x' e' a' c' p l = others-few ps' x' e' a' c' p (λ m s H. other-many t (withOps o (withPs ps (withCells x (withPath e a c m)))) s H (within room (length c)) h k ge is-k l)
-
       module _ (l : k ≤ t .operands - 2) (z : ℤ) (is-z : z ≡ toSigned 63 (getD o (t .operands - 2 + 1) nan)) (fit-z : mag z < 9223372036854775808) where
         abbrev from : ℕ
         from = t .operands - 2 - k

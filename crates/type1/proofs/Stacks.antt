@@ -1,21 +1,23 @@
 -- Laws: operands, the PostScript stack, the side bearing and the points of a flex, as the arrays hold them.
 use mathlib.Core.Path.{_≡_, refl, sym, ap, ap₂, _∙_, subst}
 use Prim.Native.Nat.{ℕ, zero, suc, _+_, _-_, _*_, _≤_, _<_}
-use native.Mathlib.Nat.{add-zero, pos-of-ne-zero}
+use native.Mathlib.Nat.{pos-of-ne-zero}
 use native.Mathlib.Numerals.{add-one}
 use native.Mathlib.Omega.{arith}
-use mathlib.Core.Bool.{Bool, true, false, not}
-use mathlib.Core.List.{List, [], _∷_, _++_, append-nil, append-assoc}
+use mathlib.Core.Bool.{Bool, true, false, not, cond}
+use mathlib.Core.List.{List, [], _∷_, _++_, reverse, reverse-cons}
 use mathlib.Core.Option.{Option, none, some}
-use borrow.Author.Tests.{le-leb, lt-leb, lt-ltb, le-ltb}
+use borrow.Author.Tests.{le-leb, lt-leb, leb-true, leb-false, lt-ltb, le-ltb}
 use lib.Dec.{leb, ltb, lit≤}
 use lib.Arith.{lt-of-le-ne}
-use lib.ListN.{length, getD, take, drop, set, length-set, length-append}
-use lib.Seq.{getD-set-same, getD-set-other, getD-take, length-take-le, take-take, take-suc-set, drop-cons}
+use lib.ListN.{length, getD, take, drop, set, length-set, length-append, length-drop, length-reverse}
+use lib.Seq.{getD-set-same, getD-set-other, getD-take, length-take-le, take-take, take-suc-set, take-all, paste, length-paste, take-paste}
 use lib.Ieee.{Float, nan, binary64, eq, div}
 use lib.Ieee.Scale.{finite}
 use Rattle.charstring.specs.Cipher.{maxCharstringBytes}
 use Rattle.geometry.specs.declared.Point.{Point}
+use Rattle.othersubrs.specs.OtherSubrs.{handNumber, handedBack}
+use Rattle.othersubrs.specs.Laws.{handed-all}
 use Rattle.type1.specs.declared.St.{St}
 use Rattle.type1.specs.declared.Ran.{Ran}
 use Rattle.type1.specs.State.{State, plusZero, withOperands, withPostscript, withPoint, withBearing, withDivided, withFlex}
@@ -325,39 +327,10 @@ module _ (t : St) (m : Mem) (s : State) (H : Holds t m s) where
         )
 
 -- ---- numbers are handed back, the last operand first
-abbrev pub handed : List Float → ℕ → ℕ → List Float
-handed o to zero = []
-handed o to (suc i) = handed o to i ++ (getD o (to - 1 - i) nan ∷ [])
-
-handed-length : (o : List Float) (to i : ℕ) → length (handed o to i) ≡ i
-handed-length o to zero = refl
-handed-length o to (suc i) = length-append (handed o to i) (getD o (to - 1 - i) nan ∷ []) ∙ (let z = handed-length o to i in let y : length (handed o to i) + 1 ≡ suc i = omega arith in y)
-
-handed-backwards : (o : List Float) (to n : ℕ) → n ≤ to → to ≤ length o → handed o to n ≡ backwards (take n (drop (to - n) o))
+backwards-is : (l : List Float) → backwards l ≡ reverse l
 unfolding backwards
-handed-backwards o to zero h l = refl
-handed-backwards o to (suc n) h l =
-    ap₂ (λ (a : List Float) (i : ℕ). a ++ (getD o i nan ∷ [])) (handed-backwards o to n (omega arith) l ∙ ap (λ (i : ℕ). backwards (take n (drop i o))) (let z : to - n ≡ suc (to - suc n) = omega arith in z)) (let z : to - 1 - n ≡ to - suc n = omega arith in z)
-    ∙ sym (ap (λ (q : List Float). backwards (take (suc n) q)) (drop-cons o (to - suc n) nan (omega arith)))
-
--- after i turns
-pub record Handing (o ps₀ ps : List Float) (p to n i : ℕ) : Type 0 where
-  pub few : i ≤ n
-  pub same : length ps ≡ length ps₀
-  pub is : p + n ≤ length ps₀ → take (p + i) ps ≡ take p ps₀ ++ handed o to i
-
-pub hand-begun : (o ps : List Float) (p to n : ℕ) → Handing o ps ps p to n 0
-hand-begun o ps p to n = record { few = omega arith; same = refl; is = λ h. ap (λ (j : ℕ). take j ps) (add-zero p) ∙ sym (append-nil (take p ps)) }
-
-pub hand-turn : (o ps₀ ps : List Float) (p to n i : ℕ) → Handing o ps₀ ps p to n i → i < n → Handing o ps₀ (set ps (p + i) (getD o (to - 1 - i) nan)) p to n (i + 1)
-hand-turn o ps₀ ps p to n i I h = record {
-  few = omega arith;
-  same = length-set ps (p + i) v ∙ I .same;
-  is = λ l. ap (λ (j : ℕ). take j (set ps (p + i) v)) (let z : p + (i + 1) ≡ suc (p + i) = omega arith in z) ∙ take-suc-set ps (p + i) v (let s = I .same in omega arith) ∙ ap (λ (q : List Float). q ++ (v ∷ [])) (I .is l) ∙ append-assoc (take p ps₀) (handed o to i) (v ∷ []) ∙ ap (λ (j : ℕ). take p ps₀ ++ handed o to j) (sym (add-one i));
-}
-  where
-    v : Float
-    v = getD o (to - 1 - i) nan
+backwards-is [] = refl
+backwards-is (x ∷ l) = ap (λ (q : List Float). q ++ (x ∷ [])) (backwards-is l) ∙ sym (reverse-cons x l)
 
 abbrev pub withPostscripts : ℕ → St → St
 withPostscripts p t = small (t .operands) p (t .x) (t .y) (t .opened) (t .flexing) (t .points) (t .hints) (t .changed) (t .divided) (t .ran) t
@@ -383,23 +356,45 @@ module _ (t : St) (m : Mem) (s : State) (H : Holds t m s) (room words : ℕ) (v 
       )
 
 module _ (o : List Float) (from to : ℕ) (h : from ≤ to) (k : to ≤ 256) (l : length o ≡ 256) where
-  handed-is : handed o to (to - from) ≡ backwards (take (to - from) (drop from o))
-  handed-is = handed-backwards o to (to - from) (omega arith) (omega arith) ∙ ap (λ (i : ℕ). backwards (take (to - from) (drop i o))) (let z : to - (to - from) ≡ from = omega arith in z)
+  abbrev args : List Float
+  args = take (to - from) (drop from o)
 
-  handed-count : length (backwards (take (to - from) (drop from o))) ≡ to - from
-  handed-count = ap length (sym handed-is) ∙ handed-length o to (to - from)
+  args-count : length args ≡ to - from
+  args-count = length-take-le (to - from) (drop from o) (let n = length-drop from o in omega arith)
 
-  module _ (t : St) (m : Mem) (s : State) (H : Holds t m s) (room words : ℕ) (r : Ran) where
-    pub hand-full : r ≡ ranOf t 15 → 256 - t .postscript < to - from → Meets r m (handBack (within room words) (backwards (take (to - from) (drop from o))) s)
-    hand-full e g = back-full t m s H room words (backwards (take (to - from) (drop from o))) r (ap (λ (q : Ran). q .flow) e) (let c = handed-count in let b = H .fit .bounds .postscript in omega arith)
+  back-count : length (backwards args) ≡ to - from
+  back-count = ap length (backwards-is args) ∙ length-reverse args ∙ args-count
 
-    pub hand-done : (ps : List Float) (i : ℕ) → r ≡ ranOf (withPostscripts (t .postscript + (to - from)) t) 0 → to - from ≤ 256 - t .postscript → Handing o (m .ps) ps (t .postscript) to (to - from) i → to - from ≤ i → Meets r (withPs ps m) (handBack (within room words) (backwards (take (to - from) (drop from o))) s)
-    hand-done ps i e g I d =
-        let b = H .fit .bounds .postscript in
-        let c = H .fit .ps in
-        let n : i ≡ to - from = (let f = I .few in omega arith) in
-        back-done t m s H room words (backwards (take (to - from) (drop from o))) ps (to - from) r e (sym handed-count) (omega arith) (I .same)
-        (ap (λ (j : ℕ). take (t .postscript + j) ps) (sym n) ∙ I .is (omega arith) ∙ ap (λ (j : ℕ). take (t .postscript) (m .ps) ++ handed o to j) n ∙ ap (λ (q : List Float). take (t .postscript) (m .ps) ++ q) handed-is)
+  -- what `othersubrs::hand_back` answers
+  module _ (t : St) (m : Mem) (s : State) (H : Holds t m s) (room words : ℕ) (r : Ran) (f : ℕ) (is : f ≡ handNumber (t .postscript) (length args)) where
+    pub hand-refused : (M : Mem) → (f ≡ 0 → ⊥) → r ≡ ranOf t f → Meets r M (handBack (within room words) (backwards args) s)
+    hand-refused M ne e = by-test (leb (t .postscript + length args) 256) refl
+      where
+        by-test : (b : Bool) → leb (t .postscript + length args) 256 ≡ b → Meets r M (handBack (within room words) (backwards args) s)
+        by-test true q = absurd (ne (is ∙ ap (λ (b : Bool). cond b 0 15) q))
+        by-test false q =
+            let g = leb-false (t .postscript + length args) 256 q in
+            let a = args-count in
+            let b = back-count in
+            subst (Meets r M) (sym (back-is t m s H room words (backwards args) false (lt-leb (t .postscript + length (backwards args)) 256 (omega arith)))) (ap (λ (x : Ran). x .flow) e ∙ is ∙ ap (λ (b : Bool). cond b 0 15) q, lit≤ tt)
+
+    pub hand-done : f ≡ 0 → (ps : List Float) → (length (m .ps) ≡ 256 → ps ≡ handedBack args (t .postscript) (m .ps)) → r ≡ ranOf (withPostscripts (t .postscript + (to - from)) t) 0 → Meets r (withPs ps m) (handBack (within room words) (backwards args) s)
+    hand-done z ps p e = by-test (leb (t .postscript + length args) 256) refl
+      where
+        by-test : (b : Bool) → leb (t .postscript + length args) 256 ≡ b → Meets r (withPs ps m) (handBack (within room words) (backwards args) s)
+        by-test true q =
+            let g = leb-true (t .postscript + length args) 256 q in
+            let a = args-count in
+            let b = length-reverse args in
+            let c = H .fit .ps in
+            let v : ps ≡ paste (m .ps) (t .postscript) (reverse args) (length args) = p c ∙ handed-all args (m .ps) (t .postscript) g in
+            let u : take (t .postscript + (to - from)) ps ≡ take (t .postscript) (m .ps) ++ backwards args =
+            ap₂ (λ (n : ℕ) (x : List Float). take (t .postscript + n) x) (sym a) v
+            ∙ take-paste (m .ps) (t .postscript) (reverse args) (length args) (omega arith) (omega arith)
+            ∙ ap (λ (x : List Float). take (t .postscript) (m .ps) ++ x) (take-all (length args) (reverse args) (omega arith) ∙ sym (backwards-is args)) in
+            back-done t m s H room words (backwards args) ps (to - from) r e (sym back-count) (omega arith)
+            (ap length v ∙ length-paste (m .ps) (t .postscript) (reverse args) (length args) (omega arith) (omega arith)) u
+        by-test false q = absurd (let y : 15 ≡ 0 = sym (ap (λ (b : Bool). cond b 0 15) q) ∙ sym is ∙ z in let x : ⊥ = omega arith in x)
 
 -- ---- a subpath is open where the step before goes on
 

@@ -1053,10 +1053,8 @@ fn set_point(
         }
     }
     let s = at_point(x, y, st);
-    if s.opened {
-        if !s.flexing {
-            return list_point(MOVE, x, y, room, s, edges, across, cmds);
-        }
+    if othersubrs::is_move(s.opened, s.flexing) {
+        return list_point(MOVE, x, y, room, s, edges, across, cmds);
     }
     made(s, 0)
 }
@@ -1470,17 +1468,13 @@ fn hand_back(from: usize, to: usize, st: St, ops: &[f64; 256], ps: &mut [f64; 25
     ensures { λ r. ⌜ r .st .groups ≡ st .groups ⌝ }
 {
     let p = st.postscript;
-    let n = to - from;
-    if 256 - p < n {
-        return made(st, 15);
-    }
-    let mut i = 0;
-    while i < n {
-        ps[p + i] = ops[to - 1 - i];
-        i += 1;
+    let held = &ops[..];
+    let f = othersubrs::hand_back(&held[from..to], p, ps);
+    if f != 0 {
+        return made(st, f);
     }
     let mut s = st;
-    s.postscript = p + n;
+    s.postscript = p + (to - from);
     made(s, 0)
 }
 
@@ -1502,10 +1496,7 @@ fn end_flex(
         Meets r (withPs (now (ps .exit)) (withCells (now (cells .entry)) (after st r (now (edges .exit)) (now (across .exit)) (now (cmds .exit)) m))) (Run.otherSubr0 (within room (length (now (cmds .entry)))) args s)) ⌝ }
     ensures { λ r. ⌜ Small.Space st (r .st) room ⌝ }
 {
-    if !st.flexing {
-        return made(st, 9);
-    }
-    if st.points != 7 {
+    if !othersubrs::is_whole_flex(st.flexing, st.points) {
         return made(st, 9);
     }
     let mut s = st;
@@ -1575,38 +1566,35 @@ fn callothersubr(
         return made(st, 7);
     }
     let left = n - 2;
-    let count = ops[left];
-    if count >= 0.0 {
-        let m = binary64::to_usize(count);
-        if left < m {
-            return made(st, 7);
+    let a = othersubrs::arguments(n, ops[left]);
+    if a.number != 0 {
+        return made(st, a.number);
+    }
+    let m = a.count;
+    let from = left - m;
+    let mut s = st;
+    s.operands = from;
+    let number = binary64::to_i64(ops[left + 1]);
+    if number == 0 {
+        if m == 0 {
+            return end_flex(50.0, room, s, ps, cells, edges, across, cmds);
         }
-        let from = left - m;
-        let mut s = st;
-        s.operands = from;
-        let number = binary64::to_i64(ops[left + 1]);
-        if number == 0 {
-            if m == 0 {
-                return end_flex(50.0, room, s, ps, cells, edges, across, cmds);
-            }
-            return end_flex(ops[from], room, s, ps, cells, edges, across, cmds);
-        }
-        if number == 1 {
-            s.flexing = true;
-            s.points = 0;
-            return made(s, 0);
-        }
-        if number == 2 {
-            return collect(s, cells);
-        }
-        if number == 3 {
-            s.hints = 0;
-            s.changed = true;
-            return hand_back(from, left, s, ops, ps);
-        }
+        return end_flex(ops[from], room, s, ps, cells, edges, across, cmds);
+    }
+    if number == 1 {
+        s.flexing = true;
+        s.points = 0;
+        return made(s, 0);
+    }
+    if number == 2 {
+        return collect(s, cells);
+    }
+    if number == 3 {
+        s.hints = 0;
+        s.changed = true;
         return hand_back(from, left, s, ops, ps);
     }
-    made(st, 7)
+    hand_back(from, left, s, ops, ps)
 }
 
 // ---- other operators

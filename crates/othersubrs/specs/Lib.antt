@@ -1,0 +1,2 @@
+pub mod OtherSubrs
+pub mod Laws
