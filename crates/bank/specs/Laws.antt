@@ -24,7 +24,7 @@ use Rattle.bank.specs.declared.Found.the-variants.{At, Nothing}
 use Rattle.bank.specs.Call.{refusedWith, counted, called}
 use Rattle.bank.specs.Bank.{be32, count, offset, Valid, rises, valid, part, bodyStart, bodyEnd, body, Within, within, found, bodyAt}
 
-both : (a b : Bool) → a && b ≡ true → (a ≡ true) × (b ≡ true)
+pub both : (a b : Bool) → a && b ≡ true → (a ≡ true) × (b ≡ true)
 both true b e = (refl, e)
 both false b e = (e, cc)
 
