@@ -25,7 +25,7 @@ use Rattle.type2.specs.Machine.{Kind, moves, lines, curves, flexes, Entry, Mask
 use Rattle.type2.specs.Operators.{Ready, settledWith, acted}
 use Rattle.type1_to_type2.specs.Stems.{Declared, stemsOf, maskOf}
 use Rattle.type1_to_type2.specs.Emission.{program, commands, pack, delta, deltas, arrives, pointsOf, Cmd, hints, shape, Item, mask, go, Waiting, idle, held, flush}
-use Rattle.type1_to_type2.specs.Folding.{foldedList, foldedGroups, foldedWidth, foldsFinite}
+use Rattle.folding.specs.Folding.{foldedList, foldedGroups, foldedWidth, foldsFinite}
 use Rattle.type1_to_type2.specs.Writing as Writing
 use Rattle.type1_to_type2.specs.Writing.{write}
 use Rattle.type1_to_type2.specs.Convert.{instructions}

@@ -17,7 +17,7 @@ use Rattle.type1.specs.Memory.{word, commandIn, drawnIn}
 use Rattle.type1_to_type2.specs.declared.Checked.{Checked}
 use Rattle.type1_to_type2.specs.declared.Collected.{Collected}
 use Rattle.type1_to_type2.specs.declared.Plan.{Plan}
-use Rattle.type1_to_type2.specs.Folding.{finiteMatrix, foldedList, foldedWidth, finiteCommand, finiteList}
+use Rattle.folding.specs.Folding.{finiteMatrix, foldedList, foldedWidth, finiteCommand, finiteList}
 use Rattle.type1_to_type2.specs.Stems.{Declared, declared, allStems, stemsOf}
 use Rattle.type1_to_type2.specs.Table.{tableStems}
 use Rattle.type1_to_type2.specs.Collecting.{Collects, Counted, droppedCounts, needsMasks}

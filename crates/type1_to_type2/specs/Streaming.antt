@@ -17,7 +17,7 @@ use Rattle.type2.specs.Machine.{Kind, moves, lines, curves, flexes}
 use Rattle.type2.specs.Instruction.{Instr, instr, maskBytes}
 use Rattle.type1_to_type2.specs.declared.Writer.{Writer}
 use Rattle.type1_to_type2.specs.declared.StemWriter.{StemWriter}
-use Rattle.type1_to_type2.specs.Folding.{foldedCommand}
+use Rattle.folding.specs.Folding.{foldedCommand}
 use Rattle.type1_to_type2.specs.Stems.{maskOf}
 use Rattle.type1_to_type2.specs.Emission.{Cmd, hints, shape, Item, mask, go, items, codeOf, most, moveOf, pair, secondEdge, deltas, arrives}
 use Rattle.type1_to_type2.specs.Writing.{Written, refused, wrote, thenWrite, put, putNumbers}

@@ -1,6 +1,6 @@
 use native.Mathlib.Omega.{arith}
 use borrow.Author.Tests.{not-true, not-false}
-use Rattle.type1_to_type2.proofs.Folds.{six-1, six-2, six-3, six-4, six-5, six-6}
+use Rattle.folding.proofs.Folds.{six-1, six-2, six-3, six-4, six-5, six-6}
 use Rattle.type1_to_type2.proofs.Coordinates.{three-1, three-2, three-3, good-move, good-line, good-curve, good-flex, fine, fine-move, fine-line, fine-curve, fine-flex, fine-none}
 use mathlib.Core.Path.{sym, _∙_}
 use borrow.Author.Needs.{needs}

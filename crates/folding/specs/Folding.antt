@@ -21,8 +21,12 @@ one = fin false 1 (pos 0)
 unfoldable pub isIdentity : Matrix → Bool
 isIdentity m = eq (m .a) one && (eq (m .b) plusZero && (eq (m .c) plusZero && (eq (m .d) one && (eq (m .tx) plusZero && eq (m .ty) plusZero))))
 
+-- left alone, or not
+abbrev pub pointWith : Bool → Matrix → Point → Point
+pointWith identity m p = cond identity p (Transform.point m (p .x) (p .y))
+
 unfoldable pub foldedPoint : Matrix → Point → Point
-foldedPoint m p = cond (isIdentity m) p (Transform.point m (p .x) (p .y))
+foldedPoint m p = pointWith (isIdentity m) m p
 
 -- each point of an entry; a flex height is no coordinate
 abbrev pub foldedCommand : Matrix → Command → Command
@@ -71,6 +75,13 @@ foldedStem m s =
     cond (eq (s .width) minus21) (record { horizontal = h; pos = add binary64 (edge m h (sub binary64 (s .pos) twentyOne)) twentyOne; width = minus21 })
     (cond (eq (s .width) minus20) (record { horizontal = h; pos = edge m h (s .pos); width = minus20 })
     (record { horizontal = h; pos = edge m h (s .pos); width = scaled m h (s .width) }))
+
+-- one stem, where the entries are those of the identity, or not: it is then left alone, and stays
+abbrev pub stemWith : Bool → Matrix → Stem → Stem
+stemWith identity m s = cond identity s (foldedStem m s)
+
+abbrev pub staysWith : Bool → Matrix → Stem → Bool
+staysWith identity m s = identity || stays m (s .horizontal)
 
 unfoldable pub keptStems : Matrix → List Stem → List Stem
 keptStems m [] = []

@@ -1,13 +1,12 @@
-use Rattle.type1_to_type2.specs.Folding.{isIdentity, one}
+-- `folding::is_identity` meets its contract.
+use Rattle.folding.specs.Folding.{isIdentity, one}
 use Rattle.type1.specs.State.{plusZero}
 use lib.Ieee.{ofBits, ne, eq}
-use Rattle.type1_to_type2.proofs.Folds.{six-1, six-2, six-3, six-4, six-5, six-6}
-use Rattle.type1_to_type2.specs.Folding.{isIdentity}
-use lib.Ieee.{ofBits, ne}
+use Rattle.folding.proofs.Folds.{six-1, six-2, six-3, six-4, six-5, six-6}
 use mathlib.Core.Path.{refl}
 use borrow.Author.Tests.{not-true, not-false}
-use Rattle.type1_to_type2.proofs.is_identity.Statement.{statement}
-use Rattle.type1_to_type2.proofs.is_identity.Tie as tie
+use Rattle.folding.proofs.is_identity.Statement.{statement}
+use Rattle.folding.proofs.is_identity.Tie as tie
 
 returns : tie.Need-returns
 unfolding isIdentity ofBits ne

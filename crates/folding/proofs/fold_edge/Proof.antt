@@ -1,6 +1,7 @@
-use Rattle.type1_to_type2.proofs.Folds.{edge-across, edge-upright}
-use Rattle.type1_to_type2.proofs.fold_edge.Statement.{statement}
-use Rattle.type1_to_type2.proofs.fold_edge.Tie as tie
+-- `folding::fold_edge` meets its contract.
+use Rattle.folding.proofs.Folds.{edge-across, edge-upright}
+use Rattle.folding.proofs.fold_edge.Statement.{statement}
+use Rattle.folding.proofs.fold_edge.Tie as tie
 
 returns : tie.Need-returns
 returns c =

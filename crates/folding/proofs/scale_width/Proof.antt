@@ -1,6 +1,7 @@
-use Rattle.type1_to_type2.proofs.Folds.{scale-across, scale-upright}
-use Rattle.type1_to_type2.proofs.scale_width.Statement.{statement}
-use Rattle.type1_to_type2.proofs.scale_width.Tie as tie
+-- `folding::scale_width` meets its contract.
+use Rattle.folding.proofs.Folds.{scale-across, scale-upright}
+use Rattle.folding.proofs.scale_width.Statement.{statement}
+use Rattle.folding.proofs.scale_width.Tie as tie
 
 returns : tie.Need-returns
 returns c =

@@ -1,8 +1,9 @@
-use Rattle.type1_to_type2.proofs.Folds.{stem-21, stem-20, stem-other}
+-- `folding::fold_stem` meets its contract.
+use Rattle.folding.proofs.Folds.{stem-21, stem-20, stem-other}
 use lib.Ieee.{ofBits, neg}
 use borrow.Author.Needs.{needs}
-use Rattle.type1_to_type2.proofs.fold_stem.Statement.{statement}
-use Rattle.type1_to_type2.proofs.fold_stem.Tie as tie
+use Rattle.folding.proofs.fold_stem.Statement.{statement}
+use Rattle.folding.proofs.fold_stem.Tie as tie
 
 fold-edge-requires : tie.Need-fold-edge-requires
 fold-edge-requires c κs = search needs

@@ -1,11 +1,12 @@
+-- `folding::finite_matrix` meets its contract.
 use lib.Ieee.Scale.{finite}
-use Rattle.type1_to_type2.proofs.Folds.{six-1, six-2, six-3, six-4, six-5, six-6}
-use Rattle.type1_to_type2.specs.Folding.{finiteMatrix}
+use Rattle.folding.proofs.Folds.{six-1, six-2, six-3, six-4, six-5, six-6}
+use Rattle.folding.specs.Folding.{finiteMatrix}
 use mathlib.Core.Path.{sym, _∙_}
 use borrow.Author.Tests.{not-true, not-false}
 use borrow.Author.Needs.{needs}
-use Rattle.type1_to_type2.proofs.finite_matrix.Statement.{statement}
-use Rattle.type1_to_type2.proofs.finite_matrix.Tie as tie
+use Rattle.folding.proofs.finite_matrix.Statement.{statement}
+use Rattle.folding.proofs.finite_matrix.Tie as tie
 
 is-finite-requires : tie.Need-is-finite-requires
 is-finite-requires c κs = search needs

@@ -1,10 +1,11 @@
-use Rattle.type1_to_type2.specs.Folding.{foldedWidth}
+-- `folding::fold_width` meets its contract.
+use Rattle.folding.specs.Folding.{foldedWidth}
 use Rattle.geometry.specs.declared.Point.{Point}
 use lib.Ieee.{ofBits}
 use mathlib.Core.Path.{ap}
 use borrow.Author.Needs.{needs}
-use Rattle.type1_to_type2.proofs.fold_width.Statement.{statement}
-use Rattle.type1_to_type2.proofs.fold_width.Tie as tie
+use Rattle.folding.proofs.fold_width.Statement.{statement}
+use Rattle.folding.proofs.fold_width.Tie as tie
 
 transform-delta-requires : tie.Need-transform-delta-requires
 transform-delta-requires c κs = search needs
