@@ -14,29 +14,18 @@ use lib.Ieee.{Float, binary64, sub, eq, fits}
 use lib.Ieee.Fits.{sub-fits}
 use Rattle.type2.specs.Number as Number
 use Rattle.type2.specs.Number.{quantized, units, inRange, numberBytes, Push, gave, pushNumber}
+use Rattle.type2.specs.Width.{pushWidth}
 use Rattle.type2.specs.Fixed.{units-quantized}
 use Rattle.type2.specs.Bools.{is-le, not-le}
 use Rattle.type1_to_type2.specs.declared.Finished.{Finished}
 use Rattle.type1_to_type2.specs.Writing.{Written, refused, wrote, thenWrite, put, putNumbers}
 use Rattle.type1_to_type2.specs.Emission.{written}
 use Rattle.type1_to_type2.specs.Finish.{widthFor, first, finish}
-use Rattle.type1_to_type2.specs.FinishAnswer.{finishedAnswer, finishedOutput, Front, pushWidth}
+use Rattle.type1_to_type2.specs.FinishAnswer.{finishedAnswer, finishedOutput, Front}
 
 -- a turn of a loop that stores: one more is as in s
 pub stored-one : {A : Type 0} (ys : List A) (d : A) (at : ℕ) (s : List A) (i : ℕ) (zs : List A) → at + i < length ys → i < length s → zs ≡ paste ys at s i → set zs (at + i) (getD s i d) ≡ paste ys at s (i + 1)
 stored-one {A} ys d at s i zs h l e = ap (λ (z : List A). set z (at + i) (getD s i d)) e ∙ paste-suc ys at s i d h l ∙ ap (paste ys at s) (sym (add-one i))
-
--- ---- the width
-
-pub the-default : (out : List ℕ) (width default nominal w : Float) → w ≡ quantized width → eq w default ≡ true → gave 0 0 out ≡ pushWidth out width default nominal
-unfolding pushWidth
-the-default out width default nominal w e h = ap (λ (c : Bool). cond c (gave 0 0 out) (pushNumber out 0 (sub binary64 (quantized width) nominal))) (sym h ∙ ap (λ (x : Float). eq x default) e)
-
-pub not-the-default : (out : List ℕ) (width default nominal w : Float) → w ≡ quantized width → eq w default ≡ false → pushNumber out 0 (sub binary64 w nominal) ≡ pushWidth out width default nominal
-unfolding pushWidth
-not-the-default out width default nominal w e h =
-    ap (λ (x : Float). pushNumber out 0 (sub binary64 x nominal)) e
-    ∙ ap (λ (c : Bool). cond c (gave 0 0 out) (pushNumber out 0 (sub binary64 (quantized width) nominal))) (sym h ∙ ap (λ (x : Float). eq x default) e)
 
 -- ---- after the width
 
