@@ -27,7 +27,7 @@ use Rattle.type2.specs.Fixed.{units-quantized}
 use Rattle.type2.specs.Pushes.{rounded-is}
 use Rattle.type2.specs.Instruction.{Instr, instr, isZero, moveInstr}
 use Rattle.type2.specs.Machine.{Kind, lines, curves}
-use Rattle.type1_to_type2.proofs.Writes.{not-before, put-cons, pair-refused, pair-pushed}
+use Rattle.type1_to_type2.proofs.Writes.{refused-stays, not-before, put-cons, pair-refused, pair-pushed}
 use Rattle.type1_to_type2.specs.declared.Writer.{Writer}
 use Rattle.type2.specs.Path.{reaches, most, takes}
 use Rattle.type1_to_type2.specs.Emission.{Cmd, shape, Item, go, items, codeOf, deltas, arrives, pointsOf, heightOf, kindOf, written}
@@ -47,6 +47,32 @@ two-numbers c d k p q o = let x = in-turn p (in-turn q o) in record { then = x .
 -- what was put, said otherwise
 pub as-put : {g : (ℕ → Written) → ℕ → Written} {w r : Writer} {b a : List ℕ} (h : (ℕ → Written) → ℕ → Written) → Puts g w b r a → ((f : ℕ → Written) (left : ℕ) → g f left ≡ h f left) → Puts h w b r a
 as-put {w = w} {b = b} h p e = record { then = λ f. p .then f ∙ ap (resumed (w .number) (w .next) b) (fun-ext (e f)); same = p .same }
+
+-- ---- refusals: from there on the point does not count, and what is not refused was not refused before
+at-either : (n k : ℕ) (a : List ℕ) (p q : Point) (f : Point → ℕ → Written) → (n ≡ 0 → p ≡ q) → resumed n k a (f p) ≡ resumed n k a (f q)
+unfolding resumed
+at-either zero k a p q f h = ap (λ (x : Point). resumed zero k a (f x)) (h refl)
+at-either (suc n) k a p q f h = refused-stays (suc n) k k a a (f p) (f q) (λ e. let z : ⊥ = omega arith in z)
+
+abbrev is-written : Written → Bool
+is-written (refused n) = false
+is-written (wrote b) = true
+
+fine-written : (k : ℕ) (a : List ℕ) → is-written (resumed 0 k a (λ left. wrote [])) ≡ true
+unfolding resumed
+fine-written k a = rw (eq-eqb 0 0 refl)
+
+refused-unwritten : (m j : ℕ) (b : List ℕ) (f : ℕ → Written) → is-written (resumed (suc m) j b f) ≡ false
+unfolding resumed
+refused-unwritten m j b f = rw (ne-eqb (suc m) 0 (λ e. let z : ⊥ = omega arith in z))
+
+not-refused : (n k m j : ℕ) (a b : List ℕ) (g : (ℕ → Written) → ℕ → Written) → ((f : ℕ → Written) → resumed n k a f ≡ resumed m j b (g f)) → n ≡ 0 → m ≡ 0
+not-refused n k zero j a b g h e = refl
+not-refused n k (suc m) j a b g h e =
+    absurd (subst T (sym (fine-written k a) ∙ ap is-written (ap (λ (x : ℕ). resumed x k a (λ left. wrote [])) (sym e) ∙ h (λ left. wrote [])) ∙ refused-unwritten m j b (g (λ left. wrote []))) tt)
+
+was-fine : {g : (ℕ → Written) → ℕ → Written} {w r : Writer} {b a : List ℕ} → Puts g w b r a → r .number ≡ 0 → w .number ≡ 0
+was-fine {g} {w} {r} {b} {a} p = not-refused (r .number) (r .next) (w .number) (w .next) a b g (p .then)
 
 -- ---- an operator that waits
 pub no-waiting : (k : ℕ) → k ≡ 0 → (left : ℕ) (f : ℕ → Written) → f left ≡ closed k left f
@@ -107,8 +133,14 @@ delta-at w px py x y e d = ap₂ pointAt e d
 pub goes-one : {w r s : Writer} {b a z : List ℕ} {p : Point} {ps : List Point} → Goes (p ∷ []) w b r a → Goes ps r a s z → Goes (p ∷ ps) w b s z
 unfolding deltas arrives putNumbers
 goes-one {w} {r} {s} {b} {a} {z} {p} {ps} x y = record {
-  puts = as-put (λ f left. putNumbers (deltas (pointOf w) (p ∷ ps)) left f) (in-turn (x .puts) (y .puts)) (λ f left. ap (λ (q : Point). putNumbers (deltas (pointOf w) (p ∷ [])) left (λ l. putNumbers (deltas q ps) l f)) (x .at));
-  at = y .at ∙ ap (λ (q : Point). arrives q ps) (x .at);
+  puts = record {
+    then = λ f.
+        y .puts .then f
+        ∙ at-either (r .number) (r .next) a (pointOf r) (arrives (pointOf w) (p ∷ [])) (λ q l. putNumbers (deltas q ps) l f) (x .at)
+        ∙ x .puts .then (λ l. putNumbers (deltas (arrives (pointOf w) (p ∷ [])) ps) l f);
+    same = y .puts .same ∙ x .puts .same;
+  };
+  at = λ e. y .at e ∙ ap (λ (q : Point). arrives q ps) (x .at (was-fine (y .puts) e));
   waits = y .waits ∙ x .waits;
   held = y .held ∙ x .held;
 }
@@ -119,12 +151,12 @@ unfolding items
 items-shape true ss at e cs = refl
 items-shape false ss at e cs = refl
 
-pub draws : {g : (ℕ → Written) → ℕ → Written} {w r : Writer} {b a : List ℕ} (e : Command) → Puts g w b r a → pointOf r ≡ arrives (pointOf w) (pointsOf e) →
+pub draws : {g : (ℕ → Written) → ℕ → Written} {w r : Writer} {b a : List ℕ} (e : Command) → Puts g w b r a → (r .number ≡ 0 → pointOf r ≡ arrives (pointOf w) (pointsOf e)) →
     ((is : List Item) (left : ℕ) → g (streamed is (r .waits) (r .held)) left ≡ streamed (go (kindOf e) (deltas (pointOf w) (pointsOf e) ++ heightOf e) ∷ is) (w .waits) (w .held) left) →
     (masked : Bool) (ss : List Stem) → Draws masked ss (shape e ∷ []) w b r a
 draws {g} {w} {r} {b} {a} e p q h masked ss = record {
   then = λ ds.
-      ap (λ (x : Point). resumedItems r a (items masked ss x ds)) q
+      at-either (r .number) (r .next) a (pointOf r) (arrives (pointOf w) (pointsOf e)) (λ x. streamed (items masked ss x ds) (r .waits) (r .held)) q
       ∙ p .then (streamed (items masked ss (arrives (pointOf w) (pointsOf e)) ds) (r .waits) (r .held))
       ∙ ap (resumed (w .number) (w .next) b) (fun-ext (h (items masked ss (arrives (pointOf w) (pointsOf e)) ds)))
       ∙ ap (resumedItems w b) (sym (items-shape masked ss (pointOf w) e ds));
@@ -146,7 +178,7 @@ pub batch-draws : (e : Command) (j : Kind) (op count : ℕ) → heightOf e ≡ [
     ((l : List ℤ) (is : List Item) (k n left : ℕ) → joined j l k n left (streamed is) ≡ streamed (go (kindOf e) l ∷ is) k n left) →
     {w r s : Writer} {b a z : List ℕ} (more : Bool) → more ≡ takes j (w .held) count → Batched op count more w b r a → Goes (pointsOf e) r a s z → (masked : Bool) (ss : List Stem) → Draws masked ss (shape e ∷ []) w b s z
 batch-draws e j op count flat c len st {w} {r} {s} {b} {a} {z} more m x y =
-    draws e (in-turn (x .puts) (y .puts)) (y .at ∙ ap (λ (q : Point). arrives q (pointsOf e)) (x .at))
+    draws e (in-turn (x .puts) (y .puts)) (λ z. y .at z ∙ ap (λ (q : Point). arrives q (pointsOf e)) (x .at))
     (λ is left.
     ap (λ (q : Point). part is left q (s .waits) (s .held)) (x .at)
     ∙ ap₂ (λ (k n : ℕ). part is left (pointOf w) k n) (y .waits ∙ x .waits) (y .held ∙ x .held)
@@ -170,7 +202,7 @@ pub puts-to : {g : (ℕ → Written) → ℕ → Written} {w r s : Writer} {b a 
 puts-to {a = a} p e d = record { then = λ f. ap₂ (λ (n k : ℕ). resumed n k a f) e d ∙ p .then f; same = p .same }
 
 closed-draws : {g : (ℕ → Written) → ℕ → Written} {w r s : Writer} {b a z : List ℕ} (e : Command) → Puts (λ f left. closed (w .waits) left f) w b r a → r .waits ≡ 0 → r .held ≡ 0 → Puts g r a s z →
-    pointOf s ≡ arrives (pointOf w) (pointsOf e) → s .waits ≡ r .waits → s .held ≡ r .held →
+    (s .number ≡ 0 → pointOf s ≡ arrives (pointOf w) (pointsOf e)) → s .waits ≡ r .waits → s .held ≡ r .held →
     ((is : List Item) (k n left : ℕ) → closed k left (g (streamed is 0 0)) ≡ streamed (go (kindOf e) (deltas (pointOf w) (pointsOf e) ++ heightOf e) ∷ is) k n left) →
     (masked : Bool) (ss : List Stem) → Draws masked ss (shape e ∷ []) w b s z
 closed-draws {g} {w} {r} {s} e p k0 n0 q at ks ns h =
@@ -230,7 +262,7 @@ pub move-drawn : {w r s : Writer} {b a z : List ℕ} (px py dx dy : Float) (i : 
 unfolding arrives deltas streamed
 move-drawn {w} px py dx dy i e d m p k0 n0 q sx sy ks ns =
     closed-draws (move (pointAt px py)) p k0 n0 q
-    (ap₂ pointAt (sx ∙ ap (add binary64 (w .x)) e) (sy ∙ ap (add binary64 (w .y)) d)) ks ns
+    (λ z. ap₂ pointAt (sx ∙ ap (add binary64 (w .x)) e) (sy ∙ ap (add binary64 (w .y)) d)) ks ns
     (λ is k n left. ap (λ (j : Instr). closed k left (λ l. putInstr j l (streamed is 0 0))) (sym m ∙ ap₂ (λ (x y : Float). moveInstr (units x) (units y)) e d))
 
 pub flex-drawn : {w r s t u v : Writer} {b a z y x o : List ℕ} (p1 p2 p3 p4 p5 p6 : Point) (h : Float) → Flushed w b r a → Goes (p1 ∷ p2 ∷ p3 ∷ p4 ∷ p5 ∷ p6 ∷ []) r a s z →
@@ -239,7 +271,7 @@ pub flex-drawn : {w r s t u v : Writer} {b a z y x o : List ℕ} (p1 p2 p3 p4 p5
 unfolding deltas streamed putNumbers
 flex-drawn {w} {r} {s} {t} {u} {v} p1 p2 p3 p4 p5 p6 h fl ds num esc op =
     closed-draws (flex p1 p2 p3 p4 p5 p6 h) (fl .puts) (fl .waits) (fl .held) (in-turn (ds .puts) (in-turn (num .0) (in-turn (esc .0) (op .0))))
-    (ap₂ pointAt (op .1 .x ∙ esc .1 .x ∙ num .1 .0 .x) (op .1 .y ∙ esc .1 .y ∙ num .1 .0 .y) ∙ ds .at ∙ ap (λ (q : Point). arrives q (p1 ∷ p2 ∷ p3 ∷ p4 ∷ p5 ∷ p6 ∷ [])) (fl .at))
+    (λ z. ap₂ pointAt (op .1 .x ∙ esc .1 .x ∙ num .1 .0 .x) (op .1 .y ∙ esc .1 .y ∙ num .1 .0 .y) ∙ ds .at (was-fine (num .0) (was-fine (esc .0) (was-fine (op .0) z))) ∙ ap (λ (q : Point). arrives q (p1 ∷ p2 ∷ p3 ∷ p4 ∷ p5 ∷ p6 ∷ [])) (fl .at))
     (op .1 .waits ∙ esc .1 .waits ∙ num .1 .0 .waits ∙ ds .waits)
     (op .1 .held ∙ esc .1 .held ∙ num .1 .0 .held ∙ ds .held)
     (λ is k n left.

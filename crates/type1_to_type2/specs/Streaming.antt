@@ -115,10 +115,10 @@ pub record Batched (op count : ℕ) (more : Bool) (w : Writer) (before : List �
   pub waits : r .waits ≡ op
   pub held : r .held ≡ pick (shares op more w) (w .held + count) count
 
--- the deltas to the points ps are written
+-- the deltas to the points ps are written; the point counts no more once a number is refused
 pub record Goes (ps : List Point) (w : Writer) (before : List ℕ) (r : Writer) (after : List ℕ) : Type 0 where
   pub puts : Puts (λ f left. putNumbers (deltas (pointOf w) ps) left f) w before r after
-  pub at : pointOf r ≡ arrives (pointOf w) ps
+  pub at : r .number ≡ 0 → pointOf r ≡ arrives (pointOf w) ps
   pub waits : r .waits ≡ w .waits
   pub held : r .held ≡ w .held
 

@@ -224,13 +224,6 @@ pub fn push_step(out: &mut [u8], at: usize, from: f64, to: f64) -> Step
     }
 }
 
-// The coordinate reached by that delta, with nothing pushed.
-pub fn reached(from: f64, to: f64) -> f64
-    ensures { λ r. ⌜ r ≡ reaches from to ⌝ }
-{
-    from + quantize(to - from)
-}
-
 // Whether an rlineto with so many operands takes one line more.
 pub fn takes_line(held: usize) -> bool
     ensures { λ r. ⌜ r ≡ takes lines held 2 ⌝ }
