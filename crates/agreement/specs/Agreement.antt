@@ -22,7 +22,7 @@ use Rattle.type2.specs.Instruction.{numbers, bytes, allFine}
 use Rattle.type2.specs.Machine as Machine
 use Rattle.type2.specs.Machine.{machine}
 use Rattle.type2.specs.Bools.{and-both}
-use Rattle.type1_to_type2.specs.Folding.{foldedList, foldedGroups, foldedWidth, foldsFinite, finiteList, finiteGroups}
+use Rattle.folding.specs.Folding.{foldedList, foldedGroups, foldedWidth, foldsFinite, finiteList, finiteGroups}
 use Rattle.type1_to_type2.specs.Stems.{stemsOf}
 use Rattle.type1_to_type2.specs.Emission.{pointsOf, program}
 use Rattle.type1_to_type2.specs.Writing.{wrote}

@@ -16,7 +16,7 @@ use Rattle.type1.specs.Sound.{Ends}
 use Rattle.type1.specs.Outcomes.{ends-going, ends-ending}
 use Rattle.type1.specs.Invariants.{run-not-returning}
 use Rattle.type1.specs.Limited.{run-limited, limited-going, limited-ending}
-use Rattle.type1_to_type2.specs.Folding.{finiteMatrix, foldedWidth, foldsFinite}
+use Rattle.folding.specs.Folding.{finiteMatrix, foldedWidth, foldsFinite}
 use Rattle.type1_to_type2.specs.Writing as Writing
 use Rattle.type1_to_type2.specs.Writing.{Written, wrote, write}
 use Rattle.type1_to_type2.specs.Convert.{refused, converted, instructions, writes, folded, ended, convert}

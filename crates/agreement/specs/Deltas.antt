@@ -23,7 +23,7 @@ use Rattle.type2.specs.Signed.{add-bal, one-sided}
 use Rattle.type2.specs.Bools.{and-both}
 use Rattle.type2.specs.Fixed.{is-multiple}
 use Rattle.type2.specs.Pushes.{quantized-written}
-use Rattle.type1_to_type2.specs.Emission.{delta}
+use Rattle.type2.specs.Path.{delta}
 use Rattle.agreement.specs.Simulation.{Meets, Fixed, OneDelta}
 
 abbrev F : Format

@@ -18,7 +18,7 @@ use Rattle.type1.specs.Sound.{All}
 use Rattle.type2.specs.Number.{zp, zm, Is}
 use Rattle.type2.specs.Machine as Machine
 use Rattle.type2.specs.Machine.{Entry, Mask, Step, fault, stop, on, step, ended, machine}
-use Rattle.type1_to_type2.specs.Folding.{isIdentity, foldedList, foldedStems, foldedGroups, foldedWidth}
+use Rattle.folding.specs.Folding.{isIdentity, foldedList, foldedStems, foldedGroups, foldedWidth}
 use Rattle.type1_to_type2.specs.Stems.{Declared, declared, stemsOf, maskOf}
 use Rattle.type1_to_type2.specs.Emission.{kindOf, pointsOf}
 use Rattle.type1_to_type2.specs.Finish.{widthFor}

@@ -20,7 +20,7 @@ use Rattle.type1.specs.Memory.{Good}
 use Rattle.type1.specs.Sound as Sound
 use Rattle.type1.specs.Sound.{All, OfPoint, OfCommand, Rising, points}
 use Rattle.type2.specs.Bools.{choose, and-both}
-use Rattle.type1_to_type2.specs.Folding.{isIdentity, foldedPoint, foldedCommand, foldedList, foldedGroups, finitePoint, finiteCommand, finiteList}
+use Rattle.folding.specs.Folding.{isIdentity, foldedPoint, foldedCommand, foldedList, foldedGroups, finitePoint, finiteCommand, finiteList}
 use Rattle.type1_to_type2.specs.Stems.{declared, stemsOf, inOrder}
 use Rattle.type1_to_type2.specs.Emission.{pointsOf}
 use Rattle.agreement.specs.Demand3.{masksFor}

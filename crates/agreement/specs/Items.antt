@@ -14,7 +14,8 @@ use Rattle.type2.specs.Number.{inRange}
 use Rattle.type2.specs.Instruction.{Instr, instr, numbers, bytes, fine, maskBytes}
 use Rattle.type2.specs.Bools.{choose, and-both}
 use Rattle.type2.specs.Operators.{Ready, settledWith, operands-run, end-run, mask-run, acted, draws-snoc, move-run, flex-run, lines-run, curves-run}
-use Rattle.type1_to_type2.specs.Emission.{moveOf, Item, mask, go, Waiting, idle, held, codeOf, sameKind, most, flush, join, pack}
+use Rattle.type2.specs.Path.{most}
+use Rattle.type1_to_type2.specs.Emission.{moveOf, Item, mask, go, Waiting, idle, held, codeOf, sameKind, flush, join, pack}
 use Rattle.agreement.specs.Simulation.{effect, effects, size, Drawable, Accepted, AllAccepted, waits, Held, Waits, Flushed, ItemsRun}
 
 held-run : (k : Kind) (l : List ℤ) (r : List ℕ) (s t : State) → Ready s → Held k l s t → run (numbers l ++ (codeOf k ∷ r)) 0 s ≡ run r 0 t

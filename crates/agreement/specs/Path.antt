@@ -20,7 +20,8 @@ use Rattle.type2.specs.Machine as Machine
 use Rattle.type1.specs.declared.Stem.{Stem}
 use Rattle.type1.specs.State.{Command, move, line, curve, flex}
 use Rattle.type1_to_type2.specs.Stems.{maskOf}
-use Rattle.type1_to_type2.specs.Emission.{kindOf, pointsOf, heightOf, delta, follow, deltas, arrives, go, Cmd, hints, shape, items}
+use Rattle.type2.specs.Path.{delta}
+use Rattle.type1_to_type2.specs.Emission.{kindOf, pointsOf, heightOf, follow, deltas, arrives, go, Cmd, hints, shape, items}
 use Rattle.agreement.specs.Demand3.{SamePoint}
 use Rattle.agreement.specs.Simulation.{ListCoordinates, Bounded, PointsRun, effects, size, AllAccepted, itemsFine, entriesOf, pointCount, CommandCoordinates, masksFrom, masksOf, CommandsRun}
 use Rattle.agreement.specs.Deltas.{one-delta, delta-meets}

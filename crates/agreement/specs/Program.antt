@@ -20,7 +20,8 @@ use Rattle.type2.specs.Machine as Machine
 use Rattle.type1.specs.declared.Stem.{Stem}
 use Rattle.type1.specs.State.{plusZero, origin}
 use Rattle.type1_to_type2.specs.Stems.{Declared, stemsOf}
-use Rattle.type1_to_type2.specs.Emission.{moveOf, Item, mask, go, Waiting, idle, held, codeOf, sameKind, most, flush, join, pack, pair, secondEdge, stemsFrom, items, Cmd, program}
+use Rattle.type2.specs.Path.{most}
+use Rattle.type1_to_type2.specs.Emission.{moveOf, Item, mask, go, Waiting, idle, held, codeOf, sameKind, flush, join, pack, pair, secondEdge, stemsFrom, items, Cmd, program}
 use Rattle.type1_to_type2.specs.Finish.{first}
 use Rattle.agreement.specs.Demand3.{SamePoint, SameDrawing}
 use Rattle.agreement.specs.Simulation.{Meets, effects, itemsFine, waitFine, PackFine, StemsRun, entriesOf, pointCount, CommandCoordinates, Ran}

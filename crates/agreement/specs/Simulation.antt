@@ -24,8 +24,9 @@ use Rattle.type2.specs.Machine as Machine
 use Rattle.type2.specs.Machine.{Kind, moves, lines, curves, flexes, Entry, Mask, State, Step, fault, stop, on, withMask, withStems, reach, lastOf, allSmall, draws, run, machine, ended}
 use Rattle.type2.specs.Operators.{Ready, settledWith, acted}
 use Rattle.type1_to_type2.specs.Stems.{Declared, stemsOf, maskOf}
-use Rattle.type1_to_type2.specs.Emission.{program, commands, pack, delta, deltas, arrives, pointsOf, Cmd, hints, shape, Item, mask, go, Waiting, idle, held, flush}
-use Rattle.type1_to_type2.specs.Folding.{foldedList, foldedGroups, foldedWidth, foldsFinite}
+use Rattle.type2.specs.Path.{delta}
+use Rattle.type1_to_type2.specs.Emission.{program, commands, pack, deltas, arrives, pointsOf, Cmd, hints, shape, Item, mask, go, Waiting, idle, held, flush}
+use Rattle.folding.specs.Folding.{foldedList, foldedGroups, foldedWidth, foldsFinite}
 use Rattle.type1_to_type2.specs.Writing as Writing
 use Rattle.type1_to_type2.specs.Writing.{write}
 use Rattle.type1_to_type2.specs.Convert.{instructions}

@@ -18,11 +18,7 @@ pub struct Widths {
 fn wipe_bytes(bytes: &mut [u8])
     ensures { λ _. ⌜ now (bytes .exit) ≡ replicate (length (now (bytes .entry))) 0 ⌝ }
 {
-    let mut i = 0;
-    while i < bytes.len() {
-        bytes[i] = 0;
-        i += 1;
-    }
+    stores::zero_from(bytes, 0);
 }
 
 // A refusal: all but the number are 0.

@@ -14,7 +14,7 @@ use Rattle.type1.specs.Run as Run
 use Rattle.type1.specs.Run.{Outcome, pick}
 use Rattle.type1.specs.Interpret.{outcome}
 use Rattle.type1_to_type2.specs.declared.Type2Glyph.{Type2Glyph}
-use Rattle.type1_to_type2.specs.Folding.{finiteMatrix, foldedList, foldedGroups, foldedWidth, finiteList, finiteGroups, foldsFinite}
+use Rattle.folding.specs.Folding.{finiteMatrix, foldedList, foldedGroups, foldedWidth, finiteList, finiteGroups, foldsFinite}
 use Rattle.type1_to_type2.specs.Writing as Writing
 use Rattle.type1_to_type2.specs.Writing.{Written, write}
 use Rattle.type1_to_type2.specs.Convert.{Conversion, refused, converted, convert, ended, folded, instructions, writes, answer}

@@ -1,8 +1,7 @@
 // The Type 1 charstring cipher: its key step, a cursor that decrypts as it reads, and a whole charstring decrypted.
 ghost use mathlib.Core.Path.{_≡_};
-ghost use mathlib.Core.List.{_++_};
-ghost use Prim.Native.Nat.{_-_, _*_, _%_, _^_, _≤_};
-ghost use lib.ListN.{length, take, replicate};
+ghost use Prim.Native.Nat.{_*_, _%_, _^_, _≤_};
+ghost use lib.ListN.{length, take};
 ghost use mathlib.Core.Bool.{true};
 ghost use Rattle.charstring.specs.Cipher.{startKey, step, plainByte, keyAfter};
 ghost use Rattle.charstring.specs.Cursor.{start, rest, read};
@@ -144,18 +143,6 @@ fn copy_rest(code: &[u8], cursor: Cursor, out: &mut [u8]) -> usize
     }
 }
 
-// Writes zeros from a place to the end of out.
-fn zero_from(out: &mut [u8], from: usize)
-    requires { ⌜ from ≤ length (now out) ⌝ }
-    ensures { λ r. ⌜ now (out .exit) ≡ take from (now (out .entry)) ++ replicate (length (now (out .entry)) - from) 0 ⌝ }
-{
-    let mut i = from;
-    while i < out.len() {
-        out[i] = 0;
-        i += 1;
-    }
-}
-
 pub struct Decrypted {
     pub number: u64,
     pub length: usize,
@@ -169,14 +156,14 @@ pub fn decrypt_charstring(data: &[u8], len_iv: usize, out: &mut [u8]) -> Decrypt
     let cursor = Cursor::new(data, len_iv);
     let length = data.len() - cursor.at;
     if out.len() < length {
-        zero_from(out, 0);
+        stores::zero_from(out, 0);
         return Decrypted {
             number: OUTPUT_SHORT,
             length: 0,
         };
     }
     let end = copy_rest(data, cursor, out);
-    zero_from(out, end);
+    stores::zero_from(out, end);
     Decrypted {
         number: 0,
         length: end,

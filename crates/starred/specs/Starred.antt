@@ -16,7 +16,7 @@ use Rattle.type1.specs.State.{plusZero}
 use Rattle.type1.specs.Run.{push, commit, enter, list, moveBy, openSubpath, lineTo, lineBy, divD, operate, charge, execute, runBytes, runBody, run}
 use Rattle.type1.specs.Interpret.{outcome}
 use Rattle.type2.specs.Number.{units, numberBytes, wholeBytes, fixedBytes, quantized}
-use Rattle.type1_to_type2.specs.Folding.{finiteMatrix, isIdentity, foldedPoint, foldedList, foldedGroups, foldedWidth, finiteList, finiteGroups, foldsFinite}
+use Rattle.folding.specs.Folding.{finiteMatrix, isIdentity, foldedPoint, foldedList, foldedGroups, foldedWidth, finiteList, finiteGroups, foldsFinite}
 use Rattle.type1_to_type2.specs.Stems.{allStems, distinct, ofDirection, sorted, inOrder, declared}
 use Rattle.type1_to_type2.specs.Emission.{stemsFrom, deltas, arrives, startsAt, commands, items, pack, program}
 use Rattle.type1_to_type2.specs.Writing as Writing

@@ -2100,11 +2100,7 @@ fn number_of(flow: u8) -> u8
 fn wipe_words(commands: &mut [u64])
     ensures { λ _. ⌜ now (commands .exit) ≡ replicate (length (now (commands .entry))) 0 ⌝ }
 {
-    let mut i = 0;
-    while i < commands.len() {
-        commands[i] = 0;
-        i += 1;
-    }
+    stores::wipe_words(commands);
 }
 
 fn refused(number: u8) -> Interpreted

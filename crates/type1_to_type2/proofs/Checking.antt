@@ -10,14 +10,17 @@ use lib.Dec.{eqb}
 use borrow.Author.Tests.{eq-eqb, ne-eqb}
 use lib.Ieee.{Float}
 use lib.Ieee.Scale.{finite}
+use Rattle.geometry.specs.declared.Point.{Point}
 use Rattle.geometry.specs.declared.Matrix.{Matrix}
-use Rattle.type1.specs.State.{Command, Group}
+use Rattle.type1.specs.State.{Command, move, line, curve, flex, Group}
 use Rattle.type1.specs.Run.{pick}
-use Rattle.type1.specs.Memory.{word, commandIn, drawnIn}
+use Rattle.type1.specs.Memory.{Good, word, commandIn, drawnIn}
+use Rattle.type1.specs.Sound.{All, OfPoint, OfCommand}
 use Rattle.type1_to_type2.specs.declared.Checked.{Checked}
 use Rattle.type1_to_type2.specs.declared.Collected.{Collected}
 use Rattle.type1_to_type2.specs.declared.Plan.{Plan}
-use Rattle.type1_to_type2.specs.Folding.{finiteMatrix, foldedList, foldedWidth, finiteCommand, finiteList}
+use Rattle.type2.specs.Bools.{yes}
+use Rattle.folding.specs.Folding.{finiteMatrix, isIdentity, foldedPoint, foldedCommand, foldedList, foldedWidth, finitePoint, finiteCommand, finiteList}
 use Rattle.type1_to_type2.specs.Stems.{Declared, declared, allStems, stemsOf}
 use Rattle.type1_to_type2.specs.Table.{tableStems}
 use Rattle.type1_to_type2.specs.Collecting.{Collects, Counted, droppedCounts, needsMasks}
@@ -42,6 +45,23 @@ finite-end : (l k : List Command) → finiteList (l ++ k) ≡ (finiteList l && f
 unfolding finiteList
 finite-end [] k = refl
 finite-end (x ∷ l) k = ap (λ (b : Bool). finiteCommand x && b) (finite-end l k) ∙ and-assoc (finiteCommand x) (finiteList l) (finiteList k)
+
+-- under the identity a point is itself
+alone : (m : Matrix) (p : Point) → isIdentity m ≡ true → OfPoint Good p → finitePoint (foldedPoint m p) ≡ true
+unfolding foldedPoint
+alone m p i g = rw i (ap₂ _&&_ (yes (finite (p .x)) (g .0 .fine)) (yes (finite (p .y)) (g .1 .fine)))
+
+all-alone : (m : Matrix) (k : Command) → isIdentity m ≡ true → OfCommand Good k → finiteCommand (foldedCommand m k) ≡ true
+all-alone m (move p) i g = alone m p i g
+all-alone m (line p) i g = alone m p i g
+all-alone m (curve p q r) i g = ap₂ _&&_ (alone m p i (g .0)) (ap₂ _&&_ (alone m q i (g .1 .0)) (alone m r i (g .1 .1)))
+all-alone m (flex p q r s t u h) i g =
+    ap₂ _&&_ (alone m p i (g .0)) (ap₂ _&&_ (alone m q i (g .1 .0)) (ap₂ _&&_ (alone m r i (g .1 .1 .0)) (ap₂ _&&_ (alone m s i (g .1 .1 .1 .0)) (ap₂ _&&_ (alone m t i (g .1 .1 .1 .1 .0)) (alone m u i (g .1 .1 .1 .1 .1 .0))))))
+
+pub identity-finite : (m : Matrix) (l : List Command) → isIdentity m ≡ true → All (OfCommand Good) l → true ≡ finiteList (foldedList m l)
+unfolding All foldedList finiteList
+identity-finite m [] i g = refl
+identity-finite m (k ∷ l) i g = ap₂ _&&_ (sym (all-alone m k i (g .0))) (identity-finite m l i (g .1))
 
 module _ (m : Matrix) (c : List ℕ) where
   pub points-none : true ≡ finiteList (foldedList m (drawnIn 0 c))

@@ -15,7 +15,7 @@ use Rattle.geometry.specs.declared.Matrix.{Matrix}
 use Rattle.type1.specs.State.{Command, move, line, curve, flex}
 use Rattle.type1.specs.Memory.{Good, word, coordinate, pointIn, commandIn}
 use Rattle.type1.specs.Sound.{All, OfPoint, OfCommand}
-use Rattle.type1_to_type2.specs.Folding.{foldedPoint, foldedList, finitePoint, finiteList}
+use Rattle.folding.specs.Folding.{foldedPoint, foldedList, finitePoint, finiteList}
 use Rattle.type1_to_type2.specs.Collecting.{firstOf, countOf}
 
 -- a finite double's pattern is no NaN's

@@ -4,15 +4,15 @@ use mathlib.Core.Logic.{_⊎_, inl, inr}
 use Prim.Native.Nat.{ℕ, zero, suc, _+_, _-_, _*_, _%_, _^_, _≤_, _<_}
 use native.Mathlib.Nat.{sub-zero, pos-of-ne-zero}
 use native.Mathlib.Omega.{arith}
-use mathlib.Core.Bool.{Bool, true, false, _&&_}
+use mathlib.Core.Bool.{Bool, true, false, _&&_, and-false}
 use mathlib.Core.List.{List, [], _∷_, _++_, append-nil}
 use lib.ListN.{length, take, replicate, length-take}
-use lib.Dec.{T, eqb, leb, leb→le, le→leb, eqb→eq}
+use lib.Dec.{T, eqb, leb, leb→le, eqb→eq}
 use lib.IntN.{ℤ}
 use lib.Pow.{pow-pos}
 use lib.Ieee.{Float, nan, inf, fin, binary64, sub, add, neg, mul, div, lt, fits, eq}
 use lib.Ieee.Fits.{eq→eqb, sub-fits}
-use borrow.Author.Tests.{eq-eqb, ne-eqb, le-leb, lt-leb}
+use borrow.Author.Tests.{eq-eqb, ne-eqb}
 use Rattle.binary64.specs.Units.{bool-iff}
 use Rattle.binary64.specs.Value.{mag, pl, mi}
 use Rattle.binary64.specs.Rounding.{away, abs}
@@ -27,9 +27,10 @@ use Rattle.type2.specs.Fixed.{units-quantized}
 use Rattle.type2.specs.Pushes.{rounded-is}
 use Rattle.type2.specs.Instruction.{Instr, instr, isZero, moveInstr}
 use Rattle.type2.specs.Machine.{Kind, lines, curves}
-use Rattle.type1_to_type2.proofs.Writes.{not-before, put-cons, pair-refused, pair-pushed}
+use Rattle.type1_to_type2.proofs.Writes.{refused-stays, not-before, put-cons, pair-refused, pair-pushed}
 use Rattle.type1_to_type2.specs.declared.Writer.{Writer}
-use Rattle.type1_to_type2.specs.Emission.{Cmd, shape, Item, go, items, codeOf, most, deltas, arrives, pointsOf, heightOf, kindOf, written}
+use Rattle.type2.specs.Path.{reaches, most, takes}
+use Rattle.type1_to_type2.specs.Emission.{Cmd, shape, Item, go, items, codeOf, deltas, arrives, pointsOf, heightOf, kindOf, written}
 use Rattle.type1_to_type2.specs.Writing.{Written, refused, wrote, put, putNumbers}
 use Rattle.type1_to_type2.specs.Streaming.{resumed, resumedItems, resumedAll, pointOf, closed, joined, streamed, putInstr, shares, Puts, Still, Flushed, Batched, Goes, Draws, Ends}
 
@@ -47,6 +48,32 @@ two-numbers c d k p q o = let x = in-turn p (in-turn q o) in record { then = x .
 pub as-put : {g : (ℕ → Written) → ℕ → Written} {w r : Writer} {b a : List ℕ} (h : (ℕ → Written) → ℕ → Written) → Puts g w b r a → ((f : ℕ → Written) (left : ℕ) → g f left ≡ h f left) → Puts h w b r a
 as-put {w = w} {b = b} h p e = record { then = λ f. p .then f ∙ ap (resumed (w .number) (w .next) b) (fun-ext (e f)); same = p .same }
 
+-- ---- refusals: from there on the point does not count, and what is not refused was not refused before
+at-either : (n k : ℕ) (a : List ℕ) (p q : Point) (f : Point → ℕ → Written) → (n ≡ 0 → p ≡ q) → resumed n k a (f p) ≡ resumed n k a (f q)
+unfolding resumed
+at-either zero k a p q f h = ap (λ (x : Point). resumed zero k a (f x)) (h refl)
+at-either (suc n) k a p q f h = refused-stays (suc n) k k a a (f p) (f q) (λ e. let z : ⊥ = omega arith in z)
+
+abbrev is-written : Written → Bool
+is-written (refused n) = false
+is-written (wrote b) = true
+
+fine-written : (k : ℕ) (a : List ℕ) → is-written (resumed 0 k a (λ left. wrote [])) ≡ true
+unfolding resumed
+fine-written k a = rw (eq-eqb 0 0 refl)
+
+refused-unwritten : (m j : ℕ) (b : List ℕ) (f : ℕ → Written) → is-written (resumed (suc m) j b f) ≡ false
+unfolding resumed
+refused-unwritten m j b f = rw (ne-eqb (suc m) 0 (λ e. let z : ⊥ = omega arith in z))
+
+not-refused : (n k m j : ℕ) (a b : List ℕ) (g : (ℕ → Written) → ℕ → Written) → ((f : ℕ → Written) → resumed n k a f ≡ resumed m j b (g f)) → n ≡ 0 → m ≡ 0
+not-refused n k zero j a b g h e = refl
+not-refused n k (suc m) j a b g h e =
+    absurd (subst T (sym (fine-written k a) ∙ ap is-written (ap (λ (x : ℕ). resumed x k a (λ left. wrote [])) (sym e) ∙ h (λ left. wrote [])) ∙ refused-unwritten m j b (g (λ left. wrote []))) tt)
+
+was-fine : {g : (ℕ → Written) → ℕ → Written} {w r : Writer} {b a : List ℕ} → Puts g w b r a → r .number ≡ 0 → w .number ≡ 0
+was-fine {g} {w} {r} {b} {a} p = not-refused (r .number) (r .next) (w .number) (w .next) a b g (p .then)
+
 -- ---- an operator that waits
 pub no-waiting : (k : ℕ) → k ≡ 0 → (left : ℕ) (f : ℕ → Written) → f left ≡ closed k left f
 unfolding closed
@@ -60,22 +87,22 @@ pub flushed-none : (w : Writer) (b : List ℕ) → w .waits ≡ 0 → (f : ℕ �
 flushed-none w b e f = ap (resumed (w .number) (w .next) b) (fun-ext (λ left. no-waiting (w .waits) e left f))
 
 -- ---- operands that share it, or not
-pub is-shared : (w : Writer) (op limit : ℕ) → w .waits ≡ op → w .held ≤ limit → shares op limit w ≡ true
-is-shared w op limit e h = ap₂ _&&_ (eq-eqb (w .waits) op e) (le-leb (w .held) limit h)
+pub is-shared : (w : Writer) (op : ℕ) (more : Bool) → w .waits ≡ op → more ≡ true → shares op more w ≡ true
+is-shared w op more e h = ap₂ _&&_ (eq-eqb (w .waits) op e) h
 
-pub not-shared : (w : Writer) (op limit : ℕ) → (w .waits ≡ op → ⊥) ⊎ (limit < w .held) → shares op limit w ≡ false
-not-shared w op limit (inl e) = ap (λ (t : Bool). t && leb (w .held) limit) (ne-eqb (w .waits) op e)
-not-shared w op limit (inr h) = ap (λ (t : Bool). eqb (w .waits) op && t) (lt-leb (w .held) limit h) ∙ and-false (eqb (w .waits) op)
-  where
-    and-false : (t : Bool) → (t && false) ≡ false
-    and-false true = refl
-    and-false false = refl
+pub not-shared : (w : Writer) (op : ℕ) (more : Bool) → (w .waits ≡ op → ⊥) ⊎ (more ≡ false) → shares op more w ≡ false
+not-shared w op more (inl e) = ap (λ (t : Bool). t && more) (ne-eqb (w .waits) op e)
+not-shared w op more (inr h) = ap (λ (t : Bool). eqb (w .waits) op && t) h ∙ and-false (eqb (w .waits) op)
 
-pub shared-none : (w : Writer) (b : List ℕ) (op limit : ℕ) → shares op limit w ≡ true → (f : ℕ → Written) → resumed (w .number) (w .next) b f ≡ resumed (w .number) (w .next) b (λ left. pick (shares op limit w) (f left) (closed (w .waits) left f))
-shared-none w b op limit t f = ap (λ (x : Bool). resumed (w .number) (w .next) b (λ left. pick x (f left) (closed (w .waits) left f))) (sym t)
+-- an operator that takes them has few operands
+pub takes-few : (n m : ℕ) (more : Bool) → m < 256 → more ≡ leb n m → more ≡ true → n < 256
+takes-few n m more h e t = let le : n ≤ m = leb→le n m (subst T (sym t ∙ e) tt) in omega (arith, le, h)
 
-pub first-closed : (w : Writer) (op limit : ℕ) → shares op limit w ≡ false → (f : ℕ → Written) (left : ℕ) → closed (w .waits) left f ≡ pick (shares op limit w) (f left) (closed (w .waits) left f)
-first-closed w op limit t f left = ap (λ (x : Bool). pick x (f left) (closed (w .waits) left f)) (sym t)
+pub shared-none : (w : Writer) (b : List ℕ) (op : ℕ) (more : Bool) → shares op more w ≡ true → (f : ℕ → Written) → resumed (w .number) (w .next) b f ≡ resumed (w .number) (w .next) b (λ left. pick (shares op more w) (f left) (closed (w .waits) left f))
+shared-none w b op more t f = ap (λ (x : Bool). resumed (w .number) (w .next) b (λ left. pick x (f left) (closed (w .waits) left f))) (sym t)
+
+pub first-closed : (w : Writer) (op : ℕ) (more : Bool) → shares op more w ≡ false → (f : ℕ → Written) (left : ℕ) → closed (w .waits) left f ≡ pick (shares op more w) (f left) (closed (w .waits) left f)
+first-closed w op more t f left = ap (λ (x : Bool). pick x (f left) (closed (w .waits) left f)) (sym t)
 
 -- ---- the two deltas of a point: the first is refused, or neither is
 module _ (w : Writer) (b : List ℕ) (px py : Float) (n k : ℕ) (a : List ℕ) (z : w .number ≡ 0) (e : gave n k a ≡ pushNumber b (w .next) (sub binary64 px (w .x))) where
@@ -98,16 +125,22 @@ module _ (w : Writer) (b : List ℕ) (px py : Float) (n k : ℕ) (a : List ℕ) 
   delta-pushed m j c h d f =
       not-before _ _ _ _ _ z (pair-pushed b (w .next) dx dy n k a m j c f e h d ∙ ap₂ (λ (u v : ℤ). resumed 0 (w .next) b (λ left. putNumbers (u ∷ v ∷ []) left f)) (sym (rounded px (w .x))) (sym (rounded py (w .y))))
 
-pub delta-at : (w : Writer) (px py dx dy : Float) → dx ≡ quantized (sub binary64 px (w .x)) → dy ≡ quantized (sub binary64 py (w .y)) → pointAt (add binary64 (w .x) dx) (add binary64 (w .y) dy) ≡ arrives (pointOf w) (pointAt px py ∷ [])
+pub delta-at : (w : Writer) (px py x y : Float) → x ≡ reaches (w .x) px → y ≡ reaches (w .y) py → pointAt x y ≡ arrives (pointOf w) (pointAt px py ∷ [])
 unfolding arrives
-delta-at w px py dx dy e d = ap₂ (λ (x y : Float). pointAt (add binary64 (w .x) x) (add binary64 (w .y) y)) e d
+delta-at w px py x y e d = ap₂ pointAt e d
 
 -- ---- points in turn
 pub goes-one : {w r s : Writer} {b a z : List ℕ} {p : Point} {ps : List Point} → Goes (p ∷ []) w b r a → Goes ps r a s z → Goes (p ∷ ps) w b s z
 unfolding deltas arrives putNumbers
 goes-one {w} {r} {s} {b} {a} {z} {p} {ps} x y = record {
-  puts = as-put (λ f left. putNumbers (deltas (pointOf w) (p ∷ ps)) left f) (in-turn (x .puts) (y .puts)) (λ f left. ap (λ (q : Point). putNumbers (deltas (pointOf w) (p ∷ [])) left (λ l. putNumbers (deltas q ps) l f)) (x .at));
-  at = y .at ∙ ap (λ (q : Point). arrives q ps) (x .at);
+  puts = record {
+    then = λ f.
+        y .puts .then f
+        ∙ at-either (r .number) (r .next) a (pointOf r) (arrives (pointOf w) (p ∷ [])) (λ q l. putNumbers (deltas q ps) l f) (x .at)
+        ∙ x .puts .then (λ l. putNumbers (deltas (arrives (pointOf w) (p ∷ [])) ps) l f);
+    same = y .puts .same ∙ x .puts .same;
+  };
+  at = λ e. y .at e ∙ ap (λ (q : Point). arrives q ps) (x .at (was-fine (y .puts) e));
   waits = y .waits ∙ x .waits;
   held = y .held ∙ x .held;
 }
@@ -118,12 +151,12 @@ unfolding items
 items-shape true ss at e cs = refl
 items-shape false ss at e cs = refl
 
-pub draws : {g : (ℕ → Written) → ℕ → Written} {w r : Writer} {b a : List ℕ} (e : Command) → Puts g w b r a → pointOf r ≡ arrives (pointOf w) (pointsOf e) →
+pub draws : {g : (ℕ → Written) → ℕ → Written} {w r : Writer} {b a : List ℕ} (e : Command) → Puts g w b r a → (r .number ≡ 0 → pointOf r ≡ arrives (pointOf w) (pointsOf e)) →
     ((is : List Item) (left : ℕ) → g (streamed is (r .waits) (r .held)) left ≡ streamed (go (kindOf e) (deltas (pointOf w) (pointsOf e) ++ heightOf e) ∷ is) (w .waits) (w .held) left) →
     (masked : Bool) (ss : List Stem) → Draws masked ss (shape e ∷ []) w b r a
 draws {g} {w} {r} {b} {a} e p q h masked ss = record {
   then = λ ds.
-      ap (λ (x : Point). resumedItems r a (items masked ss x ds)) q
+      at-either (r .number) (r .next) a (pointOf r) (arrives (pointOf w) (pointsOf e)) (λ x. streamed (items masked ss x ds) (r .waits) (r .held)) q
       ∙ p .then (streamed (items masked ss (arrives (pointOf w) (pointsOf e)) ds) (r .waits) (r .held))
       ∙ ap (resumed (w .number) (w .next) b) (fun-ext (h (items masked ss (arrives (pointOf w) (pointsOf e)) ds)))
       ∙ ap (resumedItems w b) (sym (items-shape masked ss (pointOf w) e ds));
@@ -131,50 +164,45 @@ draws {g} {w} {r} {b} {a} e p q h masked ss = record {
 }
 
 -- ---- lines and curves
-leb-add : (n k c : ℕ) → leb (n + c) (k + c) ≡ leb n k
-leb-add n k c = bool-iff (leb (n + c) (k + c)) (leb n k)
-    (λ t. le→leb n k (let h : n + c ≤ k + c = leb→le (n + c) (k + c) t in let z : n ≤ k = omega arith in z))
-    (λ t. le→leb (n + c) (k + c) (let h : n ≤ k = leb→le n k t in let z : n + c ≤ k + c = omega arith in z))
-
-joins : (j : Kind) (op count limit : ℕ) → codeOf j ≡ op → most j ≡ limit + count → (l : List ℤ) → length l ≡ count → (k n room : ℕ) (f : ℕ → ℕ → ℕ → Written) (t : Bool) → (eqb k op && leb n limit) ≡ t →
+joins : (j : Kind) (op count : ℕ) → codeOf j ≡ op → (l : List ℤ) → length l ≡ count → (k n room : ℕ) (f : ℕ → ℕ → ℕ → Written) (more t : Bool) → leb (n + count) (most j) ≡ more → (eqb k op && more) ≡ t →
     pick t (putNumbers l room (f op (pick t (n + count) count))) (closed k room (λ left. putNumbers l left (f op (pick t (n + count) count)))) ≡ joined j l k n room f
 unfolding joined
-joins j op count limit c m l e k n room f t h = rw (c, m, e, leb-add n limit count, h) (both t)
+joins j op count c l e k n room f more t m h = rw (c, e, m, h) (both t)
   where
     both : (t : Bool) → pick t (putNumbers l room (f op (pick t (n + count) count))) (closed k room (λ left. putNumbers l left (f op (pick t (n + count) count)))) ≡ pick t (putNumbers l room (f op (n + count))) (closed k room (λ left. putNumbers l left (f op count)))
     both true = refl
     both false = refl
 
--- one law for both: op is the kind's operator, with the operands of limit + count at the most
-pub batch-draws : (e : Command) (j : Kind) (op count limit : ℕ) → heightOf e ≡ [] → codeOf j ≡ op → most j ≡ limit + count → ((at : Point) → length (deltas at (pointsOf e)) ≡ count) →
+-- one law for both: op is the kind's operator
+pub batch-draws : (e : Command) (j : Kind) (op count : ℕ) → heightOf e ≡ [] → codeOf j ≡ op → ((at : Point) → length (deltas at (pointsOf e)) ≡ count) →
     ((l : List ℤ) (is : List Item) (k n left : ℕ) → joined j l k n left (streamed is) ≡ streamed (go (kindOf e) l ∷ is) k n left) →
-    {w r s : Writer} {b a z : List ℕ} → Batched op count limit w b r a → Goes (pointsOf e) r a s z → (masked : Bool) (ss : List Stem) → Draws masked ss (shape e ∷ []) w b s z
-batch-draws e j op count limit flat c m len st {w} {r} {s} {b} {a} {z} x y =
-    draws e (in-turn (x .puts) (y .puts)) (y .at ∙ ap (λ (q : Point). arrives q (pointsOf e)) (x .at))
+    {w r s : Writer} {b a z : List ℕ} (more : Bool) → more ≡ takes j (w .held) count → Batched op count more w b r a → Goes (pointsOf e) r a s z → (masked : Bool) (ss : List Stem) → Draws masked ss (shape e ∷ []) w b s z
+batch-draws e j op count flat c len st {w} {r} {s} {b} {a} {z} more m x y =
+    draws e (in-turn (x .puts) (y .puts)) (λ z. y .at z ∙ ap (λ (q : Point). arrives q (pointsOf e)) (x .at))
     (λ is left.
     ap (λ (q : Point). part is left q (s .waits) (s .held)) (x .at)
     ∙ ap₂ (λ (k n : ℕ). part is left (pointOf w) k n) (y .waits ∙ x .waits) (y .held ∙ x .held)
-    ∙ joins j op count limit c m (deltas (pointOf w) (pointsOf e)) (len (pointOf w)) (w .waits) (w .held) left (streamed is) (shares op limit w) refl
+    ∙ joins j op count c (deltas (pointOf w) (pointsOf e)) (len (pointOf w)) (w .waits) (w .held) left (streamed is) more (shares op more w) (sym m) refl
     ∙ st (deltas (pointOf w) (pointsOf e)) is (w .waits) (w .held) left
     ∙ ap (λ (l : List ℤ). streamed (go (kindOf e) l ∷ is) (w .waits) (w .held) left) (sym (ap (λ (l : List ℤ). deltas (pointOf w) (pointsOf e) ++ l) flat ∙ append-nil (deltas (pointOf w) (pointsOf e)))))
   where
     part : List Item → ℕ → Point → ℕ → ℕ → Written
-    part is left q k n = pick (shares op limit w) (putNumbers (deltas q (pointsOf e)) left (streamed is k n)) (closed (w .waits) left (λ l. putNumbers (deltas q (pointsOf e)) l (streamed is k n)))
+    part is left q k n = pick (shares op more w) (putNumbers (deltas q (pointsOf e)) left (streamed is k n)) (closed (w .waits) left (λ l. putNumbers (deltas q (pointsOf e)) l (streamed is k n)))
 
-pub line-drawn : {w r s : Writer} {b a z : List ℕ} (p : Point) → Batched 5 2 44 w b r a → Goes (p ∷ []) r a s z → (masked : Bool) (ss : List Stem) → Draws masked ss (shape (line p) ∷ []) w b s z
+pub line-drawn : {w r s : Writer} {b a z : List ℕ} (p : Point) (more : Bool) → more ≡ takes lines (w .held) 2 → Batched 5 2 more w b r a → Goes (p ∷ []) r a s z → (masked : Bool) (ss : List Stem) → Draws masked ss (shape (line p) ∷ []) w b s z
 unfolding deltas streamed
-line-drawn p x y = batch-draws (line p) lines 5 2 44 refl refl refl (λ at. refl) (λ l is k n left. refl) x y
+line-drawn p more m x y = batch-draws (line p) lines 5 2 refl refl (λ at. refl) (λ l is k n left. refl) more m x y
 
-pub curve-drawn : {w r s : Writer} {b a z : List ℕ} (p q t : Point) → Batched 8 6 36 w b r a → Goes (p ∷ q ∷ t ∷ []) r a s z → (masked : Bool) (ss : List Stem) → Draws masked ss (shape (curve p q t) ∷ []) w b s z
+pub curve-drawn : {w r s : Writer} {b a z : List ℕ} (p q t : Point) (more : Bool) → more ≡ takes curves (w .held) 6 → Batched 8 6 more w b r a → Goes (p ∷ q ∷ t ∷ []) r a s z → (masked : Bool) (ss : List Stem) → Draws masked ss (shape (curve p q t) ∷ []) w b s z
 unfolding deltas streamed
-curve-drawn p q t x y = batch-draws (curve p q t) curves 8 6 36 refl refl refl (λ at. refl) (λ l is k n left. refl) x y
+curve-drawn p q t more m x y = batch-draws (curve p q t) curves 8 6 refl refl (λ at. refl) (λ l is k n left. refl) more m x y
 
 -- ---- moves and flexes: the waiting operator first
 pub puts-to : {g : (ℕ → Written) → ℕ → Written} {w r s : Writer} {b a : List ℕ} → Puts g w b r a → s .number ≡ r .number → s .next ≡ r .next → Puts g w b s a
 puts-to {a = a} p e d = record { then = λ f. ap₂ (λ (n k : ℕ). resumed n k a f) e d ∙ p .then f; same = p .same }
 
 closed-draws : {g : (ℕ → Written) → ℕ → Written} {w r s : Writer} {b a z : List ℕ} (e : Command) → Puts (λ f left. closed (w .waits) left f) w b r a → r .waits ≡ 0 → r .held ≡ 0 → Puts g r a s z →
-    pointOf s ≡ arrives (pointOf w) (pointsOf e) → s .waits ≡ r .waits → s .held ≡ r .held →
+    (s .number ≡ 0 → pointOf s ≡ arrives (pointOf w) (pointsOf e)) → s .waits ≡ r .waits → s .held ≡ r .held →
     ((is : List Item) (k n left : ℕ) → closed k left (g (streamed is 0 0)) ≡ streamed (go (kindOf e) (deltas (pointOf w) (pointsOf e) ++ heightOf e) ∷ is) k n left) →
     (masked : Bool) (ss : List Stem) → Draws masked ss (shape e ∷ []) w b s z
 closed-draws {g} {w} {r} {s} e p k0 n0 q at ks ns h =
@@ -234,7 +262,7 @@ pub move-drawn : {w r s : Writer} {b a z : List ℕ} (px py dx dy : Float) (i : 
 unfolding arrives deltas streamed
 move-drawn {w} px py dx dy i e d m p k0 n0 q sx sy ks ns =
     closed-draws (move (pointAt px py)) p k0 n0 q
-    (ap₂ pointAt (sx ∙ ap (add binary64 (w .x)) e) (sy ∙ ap (add binary64 (w .y)) d)) ks ns
+    (λ z. ap₂ pointAt (sx ∙ ap (add binary64 (w .x)) e) (sy ∙ ap (add binary64 (w .y)) d)) ks ns
     (λ is k n left. ap (λ (j : Instr). closed k left (λ l. putInstr j l (streamed is 0 0))) (sym m ∙ ap₂ (λ (x y : Float). moveInstr (units x) (units y)) e d))
 
 pub flex-drawn : {w r s t u v : Writer} {b a z y x o : List ℕ} (p1 p2 p3 p4 p5 p6 : Point) (h : Float) → Flushed w b r a → Goes (p1 ∷ p2 ∷ p3 ∷ p4 ∷ p5 ∷ p6 ∷ []) r a s z →
@@ -243,7 +271,7 @@ pub flex-drawn : {w r s t u v : Writer} {b a z y x o : List ℕ} (p1 p2 p3 p4 p5
 unfolding deltas streamed putNumbers
 flex-drawn {w} {r} {s} {t} {u} {v} p1 p2 p3 p4 p5 p6 h fl ds num esc op =
     closed-draws (flex p1 p2 p3 p4 p5 p6 h) (fl .puts) (fl .waits) (fl .held) (in-turn (ds .puts) (in-turn (num .0) (in-turn (esc .0) (op .0))))
-    (ap₂ pointAt (op .1 .x ∙ esc .1 .x ∙ num .1 .0 .x) (op .1 .y ∙ esc .1 .y ∙ num .1 .0 .y) ∙ ds .at ∙ ap (λ (q : Point). arrives q (p1 ∷ p2 ∷ p3 ∷ p4 ∷ p5 ∷ p6 ∷ [])) (fl .at))
+    (λ z. ap₂ pointAt (op .1 .x ∙ esc .1 .x ∙ num .1 .0 .x) (op .1 .y ∙ esc .1 .y ∙ num .1 .0 .y) ∙ ds .at (was-fine (num .0) (was-fine (esc .0) (was-fine (op .0) z))) ∙ ap (λ (q : Point). arrives q (p1 ∷ p2 ∷ p3 ∷ p4 ∷ p5 ∷ p6 ∷ [])) (fl .at))
     (op .1 .waits ∙ esc .1 .waits ∙ num .1 .0 .waits ∙ ds .waits)
     (op .1 .held ∙ esc .1 .held ∙ num .1 .0 .held ∙ ds .held)
     (λ is k n left.

@@ -15,7 +15,7 @@ use Rattle.type1.specs.State.{Command, move, line, curve, flex}
 use Rattle.type1.specs.Memory.{Good, word, pointIn, commandIn}
 use Rattle.type1.specs.Sound.{All, OfCommand}
 use Rattle.type1_to_type2.specs.declared.Writer.{Writer}
-use Rattle.type1_to_type2.specs.Folding.{foldedCommand}
+use Rattle.folding.specs.Folding.{foldedCommand}
 use Rattle.type1_to_type2.specs.Stems.{maskOf}
 use Rattle.type1_to_type2.specs.Emission.{Cmd, shape, items}
 use Rattle.type1_to_type2.specs.Emission as Emission

@@ -56,7 +56,7 @@ use Prim.Native.Nat.{_*_}
 use Rattle.type1.specs.Small.{zeroStem}
 use Rattle.type1.specs.Sound.{All, OfCommand}
 use Rattle.type1.specs.Memory.{Good, commandIn}
-use Rattle.type1_to_type2.specs.Folding.{isIdentity}
+use Rattle.folding.specs.Folding.{isIdentity}
 use Rattle.type1_to_type2.specs.Streaming.{resumedAll}
 use Rattle.type1_to_type2.specs.Collecting.{Counted}
 use Rattle.type1_to_type2.specs.Passes.{Gathers, both, stemsTo, cmdsFrom, Stored}
@@ -64,8 +64,8 @@ use Rattle.geometry.specs.Transform.{identity}
 use Rattle.type1.specs.Interpret.{outcome, Leaves}
 use Rattle.type1_to_type2.specs.Convert.{writes, convert}
 use Rattle.type1_to_type2.specs.Entry.{Blank, Checks, noneOf, Planned, Opens, firstNumber, fromRun, Answers, Converts}
-use Rattle.type1_to_type2.proofs.is_identity as is-identity-f
-use Rattle.type1_to_type2.proofs.is_identity.Symbol.{name as #type1-to-type2·is-identity}
+use Rattle.folding.proofs.is_identity as is-identity-f
+use Rattle.folding.proofs.is_identity.Symbol.{name as #folding·is-identity}
 use Rattle.type1_to_type2.proofs.check_entries as check-entries-f
 use Rattle.type1_to_type2.proofs.check_entries.Symbol.{name as #type1-to-type2·check-entries}
 use Rattle.type1_to_type2.proofs.none_collected as none-collected-f
@@ -142,8 +142,8 @@ module _ {M : Type 1} (𝓤 : URA M) (H : Heap 𝓤) (A : Atoms 𝓤) (mem : Mem
   ConvertCharstringTransformedC = tripleOf 𝓤 H A convert-charstring-transformed-f.signature (convert-charstring-transformed-f.spec 𝓤 H A mem run′)
 
 module _ {M : Type 1} (𝓤 : URA M) (H : Heap 𝓤) (A : Atoms 𝓤) (mem : Memory → SProp 𝓤) (run′ : Routine → Fun 𝓤) (W : Given 𝓤 H A) (C : Calls 𝓤 H) where
-  pub is-identity-as : Triple 𝓤 (C #type1-to-type2·is-identity) (IsIdentityC 𝓤 H A mem run′) → (m : Matrix) → Is Z.the-row m (machZ m ∷ [])
-      → ent 𝓤 (mean 𝓤 H A (‵ ftrue)) (C #type1-to-type2·is-identity (machZ m ∷ []) (λ w. mean 𝓤 H A (GotAll 𝓤 bool (Unit {0} × Unit {0}) (λ (r : bool .Denot) (lasts : (Unit {0} × Unit {0})). r ≡ isIdentity m) (λ (lasts : (Unit {0} × Unit {0})). (fsep ftrue ftrue)) (‵ ftrue) w)))
+  pub is-identity-as : Triple 𝓤 (C #folding·is-identity) (IsIdentityC 𝓤 H A mem run′) → (m : Matrix) → Is Z.the-row m (machZ m ∷ [])
+      → ent 𝓤 (mean 𝓤 H A (‵ ftrue)) (C #folding·is-identity (machZ m ∷ []) (λ w. mean 𝓤 H A (GotAll 𝓤 bool (Unit {0} × Unit {0}) (λ (r : bool .Denot) (lasts : (Unit {0} × Unit {0})). r ≡ isIdentity m) (λ (lasts : (Unit {0} × Unit {0})). (fsep ftrue ftrue)) (‵ ftrue) w)))
   is-identity-as known m m-fits =
       let y : IsIdentityC 𝓤 H A mem run′ .Ghost = ((tt, tt, tt, (m, tt), (machZ m ∷ [], tt)), tt) in
       via 𝓤 (IsIdentityC 𝓤 H A mem run′ .pre y) (qed W ((‵ ftrue) ∷ []) ∵ nothing ! $ owned ! Z.the-row (Is Z.the-row) (LL.makes Z.the-type Z′.the-plain 𝓤 H A) m _ m-fits $ fjoin ! $ nothing ! $ join ! $ frame ! $ done !) (known y)

@@ -12,7 +12,7 @@ use Rattle.type1.specs.State.{Command, Group}
 use Rattle.type1.specs.Run.{pick}
 use Rattle.type1.specs.Sound.{All}
 use Rattle.type1.specs.Memory.{word, commandIn, drawnIn, groupIn, groupsIn}
-use Rattle.type1_to_type2.specs.Folding.{foldedCommand, foldedList, foldedStems, foldedGroup, foldedGroups}
+use Rattle.folding.specs.Folding.{foldedCommand, foldedList, foldedStems, foldedGroup, foldedGroups}
 use Rattle.type1_to_type2.specs.Stems.{allStems}
 use Rattle.type1_to_type2.specs.Emission.{Cmd, hints, shape, startsAt, commands}
 use Rattle.type1_to_type2.specs.Streaming.{cmdsIn, shapes}

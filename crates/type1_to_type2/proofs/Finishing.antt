@@ -7,62 +7,25 @@ use native.Mathlib.Omega.{arith}
 use mathlib.Core.Bool.{Bool, true, false, cond}
 use mathlib.Core.List.{List, [], _∷_, _++_, append-nil}
 use mathlib.Core.Option.{none, some}
-use lib.ListN.{length, take, drop, set, getD, replicate, length-append, length-drop, length-replicate, getD-replicate, drop-of-length-le}
-use lib.Seq.{paste, paste-suc, length-paste, take-paste, take-all, take-append-seam, take-at, drop-at, length-take-le}
+use lib.ListN.{length, take, drop, set, getD, replicate, length-append, length-drop}
+use lib.Seq.{paste, paste-suc, length-paste, take-paste, take-append-seam, take-at, drop-at, length-take-le}
 use lib.Dec.{T, leb, leb→le}
 use lib.Ieee.{Float, binary64, sub, eq, fits}
 use lib.Ieee.Fits.{sub-fits}
 use Rattle.type2.specs.Number as Number
 use Rattle.type2.specs.Number.{quantized, units, inRange, numberBytes, Push, gave, pushNumber}
+use Rattle.type2.specs.Width.{pushWidth}
 use Rattle.type2.specs.Fixed.{units-quantized}
 use Rattle.type2.specs.Bools.{is-le, not-le}
 use Rattle.type1_to_type2.specs.declared.Finished.{Finished}
 use Rattle.type1_to_type2.specs.Writing.{Written, refused, wrote, thenWrite, put, putNumbers}
 use Rattle.type1_to_type2.specs.Emission.{written}
 use Rattle.type1_to_type2.specs.Finish.{widthFor, first, finish}
-use Rattle.type1_to_type2.specs.FinishAnswer.{finishedAnswer, finishedOutput, Front, pushWidth}
+use Rattle.type1_to_type2.specs.FinishAnswer.{finishedAnswer, finishedOutput, Front}
 
 -- a turn of a loop that stores: one more is as in s
 pub stored-one : {A : Type 0} (ys : List A) (d : A) (at : ℕ) (s : List A) (i : ℕ) (zs : List A) → at + i < length ys → i < length s → zs ≡ paste ys at s i → set zs (at + i) (getD s i d) ≡ paste ys at s (i + 1)
 stored-one {A} ys d at s i zs h l e = ap (λ (z : List A). set z (at + i) (getD s i d)) e ∙ paste-suc ys at s i d h l ∙ ap (paste ys at s) (sym (add-one i))
-
--- ---- the bytes from a place on become 0
-
-abbrev pub zeros : List ℕ → ℕ → List ℕ
-zeros ys from = replicate (length ys - from) 0
-
-zero-next : (ys : List ℕ) (from j : ℕ) (zs : List ℕ) → from + j < length ys → zs ≡ paste ys from (zeros ys from) j → set zs (from + j) 0 ≡ paste ys from (zeros ys from) (j + 1)
-zero-next ys from j zs h e =
-    let inside : j < length ys - from = omega arith in
-    ap (set zs (from + j)) (sym (getD-replicate (length ys - from) j 0 0 inside))
-    ∙ stored-one ys 0 from (zeros ys from) j zs h (subst (λ (k : ℕ). j < k) (sym (length-replicate (length ys - from) 0)) inside) e
-
-pub zero-one : (ys : List ℕ) (from i : ℕ) (zs : List ℕ) → from ≤ i → i < length ys → zs ≡ paste ys from (zeros ys from) (i - from) → set zs i 0 ≡ paste ys from (zeros ys from) (i + 1 - from)
-zero-one ys from i zs f h e =
-    let at : from + (i - from) ≡ i = omega arith in
-    let next : i - from + 1 ≡ i + 1 - from = omega arith in
-    subst (λ (k : ℕ). set zs k 0 ≡ paste ys from (zeros ys from) (i + 1 - from)) at
-    (zero-next ys from (i - from) zs (omega arith) e ∙ ap (paste ys from (zeros ys from)) next)
-
-pub zero-all : (ys : List ℕ) (from i : ℕ) (zs : List ℕ) → from ≤ length ys → i ≡ length ys → zs ≡ paste ys from (zeros ys from) (i - from) → zs ≡ take from ys ++ zeros ys from
-zero-all ys from i zs f r e =
-    let n = i - from in
-    let s = zeros ys from in
-    let all : take n s ≡ s = take-all n s (omega (arith, length-replicate {A = ℕ} (length ys - from) 0)) in
-    let none : drop (from + n) ys ≡ [] = drop-of-length-le ys {i = from + n} (omega arith) in
-    e ∙ ap (λ (l : List ℕ). take from ys ++ take n s ++ l) none ∙ append-nil (take from ys ++ take n s) ∙ ap (λ (l : List ℕ). take from ys ++ l) all
-
--- ---- the width
-
-pub the-default : (out : List ℕ) (width default nominal w : Float) → w ≡ quantized width → eq w default ≡ true → gave 0 0 out ≡ pushWidth out width default nominal
-unfolding pushWidth
-the-default out width default nominal w e h = ap (λ (c : Bool). cond c (gave 0 0 out) (pushNumber out 0 (sub binary64 (quantized width) nominal))) (sym h ∙ ap (λ (x : Float). eq x default) e)
-
-pub not-the-default : (out : List ℕ) (width default nominal w : Float) → w ≡ quantized width → eq w default ≡ false → pushNumber out 0 (sub binary64 w nominal) ≡ pushWidth out width default nominal
-unfolding pushWidth
-not-the-default out width default nominal w e h =
-    ap (λ (x : Float). pushNumber out 0 (sub binary64 x nominal)) e
-    ∙ ap (λ (c : Bool). cond c (gave 0 0 out) (pushNumber out 0 (sub binary64 (quantized width) nominal))) (sym h ∙ ap (λ (x : Float). eq x default) e)
 
 -- ---- after the width
 

@@ -9,7 +9,7 @@ use lib.Ieee.Bits.{nanBits-is}
 use Rattle.geometry.specs.declared.Point.{Point}
 use Rattle.geometry.specs.declared.Matrix.{Matrix}
 use Rattle.geometry.specs.Transform as Transform
-use Rattle.type1_to_type2.specs.Folding.{isIdentity, foldedPoint}
+use Rattle.folding.specs.Folding.{isIdentity, foldedPoint}
 
 pub left-alone : (m : Matrix) (t : Bool) (p : Point) → t ≡ isIdentity m → t ≡ true → p ≡ foldedPoint m p
 unfolding foldedPoint

@@ -23,7 +23,7 @@ use Rattle.type1_to_type2.specs.declared.Collected.{Collected}
 use Rattle.type1_to_type2.specs.declared.Plan.{Plan}
 use Rattle.type1_to_type2.specs.declared.Writer.{Writer}
 use Rattle.type1_to_type2.specs.declared.Type2Glyph.{Type2Glyph}
-use Rattle.type1_to_type2.specs.Folding.{finiteMatrix, foldedWidth, foldedList, foldedGroups, finiteList, finiteGroups, foldsFinite}
+use Rattle.folding.specs.Folding.{finiteMatrix, foldedWidth, foldedList, foldedGroups, finiteList, finiteGroups, foldsFinite}
 use Rattle.type1_to_type2.specs.Stems.{Declared, declared, allStems}
 use Rattle.type1_to_type2.specs.Emission.{Cmd, items, commands, program}
 use Rattle.type1_to_type2.specs.Writing as Writing

@@ -11,7 +11,7 @@ use Rattle.type1.specs.Run.{Outcome, pick}
 use Rattle.type1.specs.Interpret.{outcome}
 use Rattle.type2.specs.Instruction.{Instr}
 use Rattle.type1_to_type2.specs.declared.Type2Glyph.{Type2Glyph}
-use Rattle.type1_to_type2.specs.Folding.{finiteMatrix, foldedList, foldedGroups, foldedWidth, foldsFinite}
+use Rattle.folding.specs.Folding.{finiteMatrix, foldedList, foldedGroups, foldedWidth, foldsFinite}
 use Rattle.type1_to_type2.specs.Stems.{declared}
 use Rattle.type1_to_type2.specs.Emission.{commands, program}
 use Rattle.type1_to_type2.specs.Writing as Writing

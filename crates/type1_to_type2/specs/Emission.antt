@@ -1,6 +1,6 @@
 -- Definitions: the instructions of a program, from the declared stems, the folded drawn list and the folded groups.
 -- Document 01, "Stems and masks", "Path"; TN#5177, section 4.
-use Prim.Native.Nat.{ℕ, zero, suc, _+_, _*_}
+use Prim.Native.Nat.{ℕ, zero, suc, _+_}
 use mathlib.Core.Bool.{Bool, true, false, _&&_, cond}
 use mathlib.Core.List.{List, [], _∷_, _++_}
 use lib.ListN.{length}
@@ -12,6 +12,7 @@ use Rattle.type1.specs.declared.Stem.{Stem}
 use Rattle.type1.specs.State.{Command, move, line, curve, flex, Group, plusZero, origin}
 use Rattle.type2.specs.Number.{quantized, units}
 use Rattle.type2.specs.Machine.{Kind, moves, lines, curves, flexes}
+use Rattle.type2.specs.Path.{delta, reaches, most}
 use Rattle.type2.specs.Instruction.{Instr, instr, moveInstr, maskBytes}
 use Rattle.type1_to_type2.specs.Stems.{Declared, stemsOf, maskOf}
 
@@ -36,11 +37,8 @@ stemsFrom op (s ∷ ss) (suc k) from l is = stemsFrom op ss k (secondEdge s) (l 
 
 -- ---- deltas: "A delta runs from the point the renderer will have reached."
 
-abbrev pub delta : Float → Float → Float
-delta at p = quantized (sub binary64 p at)
-
 abbrev pub follow : Point → Point → Point
-follow at p = record { x = add binary64 (at .x) (delta (at .x) (p .x)); y = add binary64 (at .y) (delta (at .y) (p .y)) }
+follow at p = record { x = reaches (at .x) (p .x); y = reaches (at .y) (p .y) }
 
 unfoldable pub deltas : Point → List Point → List ℤ
 deltas at [] = []
@@ -108,13 +106,6 @@ codeOf flexes = 12
 
 abbrev pub sameKind : Kind → Kind → Bool
 sameKind j k = eqb (codeOf j) (codeOf k)
-
--- operands that share an operator: those of 23 lines, of 7 curves
-abbrev pub most : Kind → ℕ
-most moves = 0
-most lines = 46
-most curves = 42
-most flexes = 0
 
 abbrev pub flush : Waiting → List Instr → List Instr
 flush idle is = is

@@ -19,7 +19,7 @@ use Rattle.type1_to_type2.specs.declared.Collected.{Collected}
 use Rattle.type1_to_type2.specs.declared.Plan.{Plan}
 use Rattle.type1_to_type2.specs.declared.Writer.{Writer}
 use Rattle.type1_to_type2.specs.declared.Type2Glyph.{Type2Glyph}
-use Rattle.type1_to_type2.specs.Folding.{finiteMatrix, foldedList, foldedWidth, finiteList}
+use Rattle.folding.specs.Folding.{finiteMatrix, foldedList, foldedWidth, finiteList}
 use Rattle.type1_to_type2.specs.Stems.{Declared, declared, allStems}
 use Rattle.type1_to_type2.specs.Emission.{Cmd, program}
 use Rattle.type1_to_type2.specs.Writing.{Written, refused, write}

@@ -1,11 +1,8 @@
 -- Definitions: what finishing answers and leaves in the output. Document 01, "Numbers the board logs", "What each entry is held to", a.
 use Prim.Native.Nat.{ℕ, _-_}
 use mathlib.Core.Path.{_≡_}
-use mathlib.Core.Bool.{cond}
 use mathlib.Core.List.{List, [], _++_}
 use lib.ListN.{length, drop, replicate}
-use lib.Ieee.{Float, binary64, sub, eq}
-use Rattle.type2.specs.Number.{quantized, Push, gave, pushNumber}
 use Rattle.type1_to_type2.specs.declared.Finished.{Finished}
 use Rattle.type1_to_type2.specs.Writing.{Written, refused, wrote}
 use Rattle.type1_to_type2.specs.Convert as Convert
@@ -29,10 +26,6 @@ bytesOf (wrote b) = b
 pub record Front (x : Written) (len : ℕ) (out part : List ℕ) : Type 0 where
   pub bytes : part ≡ bytesOf x
   pub zeros : drop len out ≡ replicate (length out - len) 0
-
--- the width, where one is put, at the output's start
-unfoldable pub pushWidth : List ℕ → Float → Float → Float → Push
-pushWidth out width default nominal = let w = quantized width in cond (eq w default) (gave 0 0 out) (pushNumber out 0 (sub binary64 w nominal))
 
 -- ---- what converting wrote
 abbrev pub writtenBy : Conversion → Written

@@ -1,4 +1,3 @@
-pub mod Folding
 pub mod Stems
 pub mod Emission
 pub mod Writing

@@ -13,7 +13,7 @@ use Rattle.type1.specs.Sound.{All, OfCommand}
 use Rattle.type1.specs.Memory.{Good, word, commandIn}
 use Rattle.type1_to_type2.specs.declared.Collected.{Collected}
 use Rattle.type1_to_type2.specs.declared.Writer.{Writer}
-use Rattle.type1_to_type2.specs.Folding.{isIdentity, foldedStems}
+use Rattle.folding.specs.Folding.{isIdentity, foldedStems}
 use Rattle.type1_to_type2.specs.Stems.{maskOf}
 use Rattle.type1_to_type2.specs.Emission.{Cmd}
 use Rattle.type1_to_type2.specs.Table.{tableStems}

@@ -17,9 +17,10 @@ use Rattle.type2.specs.Machine.{Kind, moves, lines, curves, flexes}
 use Rattle.type2.specs.Instruction.{Instr, instr, maskBytes}
 use Rattle.type1_to_type2.specs.declared.Writer.{Writer}
 use Rattle.type1_to_type2.specs.declared.StemWriter.{StemWriter}
-use Rattle.type1_to_type2.specs.Folding.{foldedCommand}
+use Rattle.folding.specs.Folding.{foldedCommand}
 use Rattle.type1_to_type2.specs.Stems.{maskOf}
-use Rattle.type1_to_type2.specs.Emission.{Cmd, hints, shape, Item, mask, go, items, codeOf, most, moveOf, pair, secondEdge, deltas, arrives}
+use Rattle.type2.specs.Path.{most}
+use Rattle.type1_to_type2.specs.Emission.{Cmd, hints, shape, Item, mask, go, items, codeOf, moveOf, pair, secondEdge, deltas, arrives}
 use Rattle.type1_to_type2.specs.Writing.{Written, refused, wrote, thenWrite, put, putNumbers}
 
 -- ---- the bytes p are written, of an output of so many bytes; f says what follows, by the room left
@@ -104,20 +105,20 @@ pub record Flushed (w : Writer) (before : List ℕ) (r : Writer) (after : List �
   pub waits : r .waits ≡ 0
   pub held : r .held ≡ 0
 
--- operands more share the operator op: it waits, with so many operands at the most
-abbrev pub shares : ℕ → ℕ → Writer → Bool
-shares op limit w = eqb (w .waits) op && leb (w .held) limit
+-- operands more share the operator op: it waits, and takes them
+abbrev pub shares : ℕ → Bool → Writer → Bool
+shares op more w = eqb (w .waits) op && more
 
-pub record Batched (op count limit : ℕ) (w : Writer) (before : List ℕ) (r : Writer) (after : List ℕ) : Type 0 where
-  pub puts : Puts (λ f left. pick (shares op limit w) (f left) (closed (w .waits) left f)) w before r after
+pub record Batched (op count : ℕ) (more : Bool) (w : Writer) (before : List ℕ) (r : Writer) (after : List ℕ) : Type 0 where
+  pub puts : Puts (λ f left. pick (shares op more w) (f left) (closed (w .waits) left f)) w before r after
   pub at : pointOf r ≡ pointOf w
   pub waits : r .waits ≡ op
-  pub held : r .held ≡ pick (shares op limit w) (w .held + count) count
+  pub held : r .held ≡ pick (shares op more w) (w .held + count) count
 
--- the deltas to the points ps are written
+-- the deltas to the points ps are written; the point counts no more once a number is refused
 pub record Goes (ps : List Point) (w : Writer) (before : List ℕ) (r : Writer) (after : List ℕ) : Type 0 where
   pub puts : Puts (λ f left. putNumbers (deltas (pointOf w) ps) left f) w before r after
-  pub at : pointOf r ≡ arrives (pointOf w) ps
+  pub at : r .number ≡ 0 → pointOf r ≡ arrives (pointOf w) ps
   pub waits : r .waits ≡ w .waits
   pub held : r .held ≡ w .held
 

@@ -1,9 +1,10 @@
 -- Laws: tests on numbers, and choices by a test.
 use mathlib.Core.Path.{_≡_, refl, subst}
-use Prim.Native.Nat.{ℕ, _≤_, _<_}
+use Prim.Native.Nat.{ℕ, _+_, _≤_, _<_}
 use native.Mathlib.Omega.{arith}
 use mathlib.Core.Bool.{Bool, true, false, not, _&&_, cond}
 use lib.Dec.{T, leb, ltb, eqb, leb→le, ltb→lt, eqb→eq, eqb-refl, le→leb, lt→ltb}
+use Rattle.binary64.specs.Units.{bool-iff}
 
 pub yes : (b : Bool) → T b → b ≡ true
 yes true t = refl
@@ -24,6 +25,11 @@ is-le a b h = yes (leb a b) (le→leb a b h)
 
 pub not-le : (a b : ℕ) → b < a → leb a b ≡ false
 not-le a b h = never (leb a b) (λ t. let l : a ≤ b = leb→le a b t in let z : ⊥ = omega arith in z)
+
+pub leb-add : (n k c : ℕ) → leb (n + c) (k + c) ≡ leb n k
+leb-add n k c = bool-iff (leb (n + c) (k + c)) (leb n k)
+    (λ t. le→leb n k (let h : n + c ≤ k + c = leb→le (n + c) (k + c) t in let z : n ≤ k = omega arith in z))
+    (λ t. le→leb (n + c) (k + c) (let h : n ≤ k = leb→le n k t in let z : n + c ≤ k + c = omega arith in z))
 
 pub not-eq : (a b : ℕ) → (a ≡ b → ⊥) → eqb a b ≡ false
 not-eq a b h = never (eqb a b) (λ t. h (eqb→eq a b t))

@@ -1,6 +1,8 @@
 pub mod Number
 pub mod Machine
 pub mod Instruction
+pub mod Path
+pub mod Width
 pub mod Examples
 pub mod Bools
 pub mod Signed

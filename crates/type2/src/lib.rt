@@ -1,10 +1,15 @@
-// Type 2 numbers (TN#5177, section 3.2): doubles rounded to the 16.16 grid, and their bytes.
+// Type 2 numbers (TN#5177, section 3.2): doubles rounded to the 16.16 grid, and their bytes; the deltas of a path, how many
+// share an operator, and a charstring's width.
 ghost use mathlib.Core.Path.{_≡_};
 ghost use Prim.Native.Nat.{_-_, _≤_, _<_};
 ghost use mathlib.Core.List.{[], _∷_};
 ghost use lib.IntN.{subℕ};
+ghost use lib.Ieee.{binary64, sub};
 ghost use Rattle.binary64.specs.Rounding.{roundAway};
 ghost use Rattle.type2.specs.Number.{quantized, numberBytes, gave, put, pushNumber};
+ghost use Rattle.type2.specs.Machine.{lines, curves};
+ghost use Rattle.type2.specs.Path.{reaches, takes};
+ghost use Rattle.type2.specs.Width.{pushWidth};
 
 // `binary64::round`, at once for a whole number. Below 2 ^ 51 the sum with 1.5 * 2 ^ 52 is rounded to a
 // whole number, so that only a whole number comes back from it as it was.
@@ -153,17 +158,17 @@ fn push_units(out: &mut [u8], at: usize, n: u64) -> Pushed
 }
 
 // What a pushed delta gave: a push's number and place, and the delta that the bytes stand for.
-pub struct Delta {
-    pub number: u64,
-    pub next: usize,
-    pub value: f64,
+struct Delta {
+    number: u64,
+    next: usize,
+    value: f64,
 }
 
 // v to the nearest 1/65536, a tie away from zero, into `out` at `at`: the shortest form of a whole
 // number, else 16.16. Refused with 13 where the rounded number is not -32768 to below 32768, which the
 // two tests decide half of 1/65536 further out, and with 18 where `out` has no room; `out` is then as it was.
 // `value` is `quantize(v)`: by `Quantize.rounded-once`, one rounding gives both.
-pub fn push_delta(out: &mut [u8], at: usize, v: f64) -> Delta
+fn push_delta(out: &mut [u8], at: usize, v: f64) -> Delta
     ensures { λ r. ⌜ gave (r .number) (r .next) (now (out .exit)) ≡ pushNumber (now (out .entry)) at v ⌝ }
     ensures { λ r. ⌜ r .value ≡ quantized v ⌝ }
 {
@@ -194,4 +199,54 @@ pub fn push_number(out: &mut [u8], at: usize, v: f64) -> Pushed
         number: d.number as u32,
         next: d.next,
     }
+}
+
+// ---- the path
+
+// What a pushed step gave: a push's number and place, and the coordinate that the renderer will have reached.
+pub struct Step {
+    pub number: u64,
+    pub next: usize,
+    pub reached: f64,
+}
+
+// The delta from the coordinate that the renderer will have reached to another, into `out` at `at`. The coordinate
+// reached moves by the delta that the bytes stand for, even on a refusal.
+pub fn push_step(out: &mut [u8], at: usize, from: f64, to: f64) -> Step
+    ensures { λ r. ⌜ gave (r .number) (r .next) (now (out .exit)) ≡ pushNumber (now (out .entry)) at (sub binary64 to from) ⌝ }
+    ensures { λ r. ⌜ r .reached ≡ reaches from to ⌝ }
+{
+    let d = push_delta(out, at, to - from);
+    Step {
+        number: d.number,
+        next: d.next,
+        reached: from + d.value,
+    }
+}
+
+// Whether an rlineto with so many operands takes one line more.
+pub fn takes_line(held: usize) -> bool
+    ensures { λ r. ⌜ r ≡ takes lines held 2 ⌝ }
+{
+    held <= 44
+}
+
+// Whether an rrcurveto with so many operands takes one curve more.
+pub fn takes_curve(held: usize) -> bool
+    ensures { λ r. ⌜ r ≡ takes curves held 6 ⌝ }
+{
+    held <= 36
+}
+
+// ---- the width
+
+// The width into an empty output: none if the rounded width equals the default, else the rounded width less the nominal.
+pub fn push_width(out: &mut [u8], width: f64, default_width_x: f64, nominal_width_x: f64) -> Pushed
+    ensures { λ r. ⌜ gave (r .number) (r .next) (now (out .exit)) ≡ pushWidth (now (out .entry)) width «default_width_x» «nominal_width_x» ⌝ }
+{
+    let rounded = quantize(width);
+    if rounded == default_width_x {
+        return Pushed { number: 0, next: 0 };
+    }
+    push_number(out, 0, rounded - nominal_width_x)
 }

@@ -59,8 +59,7 @@ copy-rest-requires c κs =
     omega (arith, rest-length (c .before .before .before .new .result) (c .before .before .before .before .before .before .args .«data» .now), c .before .if1 .left)
 
 zero-from-requires-2 : tie.Need-zero-from-requires-2
-zero-from-requires-2 c κs =
-    omega (arith, c .before .before .before .copy-rest .ensures .all, c .before .before .before .copy-rest .kept, rest-length (c .before .before .before .before .before .before .before .new .result) (c .before .before .before .before .before .before .before .before .before .before .args .«data» .now), c .before .before .before .before .before .if1 .left)
+zero-from-requires-2 c κs = search needs
 
 same-length-2 : tie.Need-same-length-2
 same-length-2 c = search needs

@@ -1,65 +1,16 @@
-use mathlib.Core.Path.{_≡_, refl, sym, _∙_, ap, subst}
-use Prim.Native.Nat.{ℕ, _-_, _<_, _≤_}
-use native.Mathlib.Omega.{arith}
-use native.Mathlib.Nat.{zero-add}
-use native.Mathlib.Numerals.{add-one-le}
-use mathlib.Core.List.{List}
-use lib.ListN.{length, replicate, getD-replicate, length-replicate, length-set}
-use lib.Seq.{paste, paste-zero}
-use denote.Ref.{now}
-use borrow.Author.Needs.{needs, scaled-fits}
-use borrow.Author.Count.{falls}
-use Rattle.type1.proofs.Stored.{stored-one, paste-all}
+-- `type1::wipe_words` meets its contract: that of `stores::wipe_words`.
+use borrow.Author.Needs.{needs}
 use Rattle.type1.proofs.wipe_words.Statement.{statement}
 use Rattle.type1.proofs.wipe_words.Tie as tie
 
-abbrev Inv-loop : tie.InvT-loop
-Inv-loop commands₀ i₀ commands i = (length commands ≡ length commands₀) × ((i ≤ length commands₀) × (commands ≡ paste commands₀ 0 (replicate (length commands₀) 0) i))
+wipe-words-requires : tie.Need-wipe-words-requires
+wipe-words-requires c κs = search needs
 
-abbrev μ-loop : tie.MeasureT-loop
-μ-loop commands₀ i₀ commands i = length commands₀ - i
+same-length : tie.Need-same-length
+same-length c = search needs
 
-loop-holds : tie.Need-loop-holds Inv-loop μ-loop
-loop-holds c = (refl, (omega arith, paste-zero (now (c .args .commands)) 0 (replicate (length (now (c .args .commands))) 0)))
-
--- i is below the length
-below : (c : tie.In-loop Inv-loop μ-loop) → c .before .loop .i < length (now (c .before .before .args .commands))
-below c = subst (λ (k : ℕ). c .before .loop .i < k) (c .before .loop .inv .0) (c .loop-test .taken)
-
-mul-commands : tie.Need-mul-commands Inv-loop μ-loop
-mul-commands c = scaled-fits (c .before .loop .i) (length (now (c .before .before .args .commands))) 8 (below c) (c .before .before .good .0 .1)
-
-slice-write-commands : tie.Need-slice-write-commands Inv-loop μ-loop
-slice-write-commands c = c .loop-test .taken
-
-add-i : tie.Need-add-i Inv-loop μ-loop
-add-i c = search needs
-
-loop-less : tie.Need-loop-less Inv-loop μ-loop
-loop-less c = falls (length (now (c .before .before .args .commands))) (c .before .loop .i) (below c)
-
-loop-again : tie.Need-loop-again Inv-loop μ-loop
-loop-again c =
-    let l = now (c .before .before .args .commands) in
-    let z : List ℕ = replicate (length l) 0 in
-    let i = c .before .loop .i in
-    let inside : i < length z = subst (λ (k : ℕ). i < k) (sym (length-replicate (length l) 0)) (below c) in (
-      length-set (c .before .loop .commands) i 0 ∙ c .before .loop .inv .0,
-      (
-        add-one-le (below c),
-        stored-one l 0 0 z i i (c .before .loop .commands) _ 0 (subst (λ (k : ℕ). k < length l) (sym (zero-add i)) (below c)) inside (sym (zero-add i)) (c .before .loop .inv .1 .1) (sym (getD-replicate (length l) i 0 0 (below c))) refl,
-      ),
-    )
-
-same-length : tie.Need-same-length Inv-loop μ-loop
-same-length c = c .before .loop .inv .0
-
-returns : tie.Need-returns Inv-loop μ-loop
-returns c =
-    let l = now (c .before .before .args .commands) in
-    let z : List ℕ = replicate (length l) 0 in
-    let reached : c .before .loop .i ≡ length l = omega (arith, c .loop-test .left, c .before .loop .inv .0, c .before .loop .inv .1 .0) in
-    c .before .loop .inv .1 .1 ∙ ap (paste l 0 z) reached ∙ paste-all l z (length l) refl (length-replicate (length l) 0)
+returns : tie.Need-returns
+returns c = c .before .before .wipe-words .ensures
 
 pub wipe-words-spec : {M : Type 1} → statement M
-wipe-words-spec = tie.close (tie.spec Inv-loop μ-loop loop-holds mul-commands slice-write-commands add-i loop-less loop-again same-length returns)
+wipe-words-spec = tie.close (tie.spec wipe-words-requires same-length returns)

@@ -1,5 +1,5 @@
 use Rattle.type1_to_type2.proofs.Checking.{points-none, points-more, groups-none, groups-more, checked-all}
-use Rattle.type1_to_type2.specs.Folding.{foldedList, finiteList}
+use Rattle.folding.specs.Folding.{foldedList, finiteList}
 use Rattle.type1.specs.Memory.{drawnIn}
 use Rattle.type1_to_type2.specs.Entry.{groupCount}
 use native.Mathlib.Omega.{arith}

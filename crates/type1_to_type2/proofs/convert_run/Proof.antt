@@ -72,14 +72,14 @@ use Rattle.type1_to_type2.proofs.LentShared.{lend-shared, returned-shar
 use Rattle.type1.proofs.Many.{at-one, OwnR, lend-ref, returned-ref, lend-shr, returned-shr, asks-all}
 use Rattle.type1.proofs.Locals.{machT, machI}
 use Rattle.type1_to_type2.proofs.Locals.{machZ, machK, machR, machG, machY, machQ}
-use Rattle.type1_to_type2.specs.Folding.{isIdentity}
+use Rattle.folding.specs.Folding.{isIdentity}
 use Rattle.type1_to_type2.specs.Streaming.{resumedAll}
 use Rattle.type1_to_type2.specs.Passes.{Gathers, both, stemsTo, cmdsFrom, Stored}
 use Rattle.type1_to_type2.specs.Convert.{writes}
 use Rattle.type1_to_type2.specs.Entry.{Blank, Checks, noneOf, Planned, Opens, fromRun, Answers}
-use Rattle.type1_to_type2.proofs.is_identity.Symbol as is-identity-def
-use Rattle.type1_to_type2.proofs.is_identity.Symbol.{name as #type1-to-type2·is-identity}
-use Rattle.type1_to_type2.proofs.is_identity.Met as is-identity-thm
+use Rattle.folding.proofs.is_identity.Symbol as is-identity-def
+use Rattle.folding.proofs.is_identity.Symbol.{name as #folding·is-identity}
+use Rattle.folding.proofs.is_identity.Met as is-identity-thm
 use Rattle.type1_to_type2.proofs.check_entries.Symbol as check-entries-def
 use Rattle.type1_to_type2.proofs.check_entries.Symbol.{name as #type1-to-type2·check-entries}
 use Rattle.type1_to_type2.proofs.check_entries.Met as check-entries-thm
@@ -225,7 +225,7 @@ module _ {M : Type 1} (𝓤 : URA M) (H : Heap 𝓤) (A : Atoms 𝓤) (W : Given
       qed W (‵ (G.the-row .own r (w ∷ [])) ∷ ‵ (Own T.the-row mstems bstems ostems κstems γstems usstems) ∷ ‵ (flft κstems qstems) ∷ ‵ (Own u64 mcommands bcommands ocommands κcommands γcommands uscommands) ∷ ‵ (flft κcommands qcommands) ∷ ‵ (OwnR (Array f64 192) bacross oacross κacross γacross usacross) ∷ ‵ (flft κacross qacross) ∷ ‵ (OwnR (Array f64 192) bupright oupright κupright γupright usupright) ∷ ‵ (flft κupright qupright) ∷ ‵ (OwnR (Array bool 96) bmask omask κmask γmask usmask) ∷ ‵ (flft κmask qmask) ∷ ‵ (Own u8 mout bout oout κout γout usout) ∷ ‵ (flft κout qout) ∷ []) ∵ suffices ! _ (ends-at 𝓤 H A f.ended stayed (f.clauses 𝓤 H A mem run′) W bound w r (tt, (tt, (tt, (usstems, (uscommands, (usacross, (usupright, (usmask, (usout, tt))))))))) (tt, (tt, (tt, (lstems, (lcommands, (tt, (tt, (tt, (lout, tt)))))))))) $ says ! e $
       nothing ! $ move ! (13 ∷ 0 ∷ []) $ join ! $ move ! (11 ∷ 0 ∷ []) $ join ! $ move ! (9 ∷ 0 ∷ []) $ join ! $ move ! (7 ∷ 0 ∷ []) $ join ! $ move ! (5 ∷ 0 ∷ []) $ join ! $ move ! (3 ∷ 0 ∷ []) $ join ! $ frame ! $ nothing ! $ move ! (7 ∷ 0 ∷ []) $ fjoin ! $ move ! (6 ∷ 0 ∷ []) $ fjoin ! $ move ! (5 ∷ 0 ∷ []) $ fjoin ! $ move ! (4 ∷ 0 ∷ []) $ fjoin ! $ move ! (3 ∷ 0 ∷ []) $ fjoin ! $ move ! (2 ∷ 0 ∷ []) $ fjoin ! $ owned ! Z.the-row (Is Z.the-row) (LL.makes Z.the-type Z′.the-plain 𝓤 H A) m _ m-fits $ fjoin ! $ owned ! u64 (Is u64) (uint-makes 𝓤 H A W w64) number _ (refl, number-fits) $ fjoin ! $ owned ! I.the-row (Is I.the-row) (LL.makes I.the-type I′.the-plain 𝓤 H A) ri _ ri-fits $ fjoin ! $ done !
 
-  module _ (known-is-identity : Triple 𝓤 (C #type1-to-type2·is-identity) (IsIdentityC 𝓤 H A mem run′)) (known-check-entries : Triple 𝓤 (C #type1-to-type2·check-entries) (CheckEntriesC 𝓤 H A mem run′)) (known-none-collected : Triple 𝓤 (C #type1-to-type2·none-collected) (NoneCollectedC 𝓤 H A mem run′)) (known-collect-all : Triple 𝓤 (C #type1-to-type2·collect-all) (CollectAllC 𝓤 H A mem run′)) (known-make-plan : Triple 𝓤 (C #type1-to-type2·make-plan) (MakePlanC 𝓤 H A mem run′)) (known-begin-program : Triple 𝓤 (C #type1-to-type2·begin-program) (BeginProgramC 𝓤 H A mem run′)) (known-write-all : Triple 𝓤 (C #type1-to-type2·write-all) (WriteAllC 𝓤 H A mem run′)) (known-end-program : Triple 𝓤 (C #type1-to-type2·end-program) (EndProgramC 𝓤 H A mem run′)) (need : Stored (ri .entries) yscommands ysstems × Blank ysacross ysupright ysmask) where
+  module _ (known-is-identity : Triple 𝓤 (C #folding·is-identity) (IsIdentityC 𝓤 H A mem run′)) (known-check-entries : Triple 𝓤 (C #type1-to-type2·check-entries) (CheckEntriesC 𝓤 H A mem run′)) (known-none-collected : Triple 𝓤 (C #type1-to-type2·none-collected) (NoneCollectedC 𝓤 H A mem run′)) (known-collect-all : Triple 𝓤 (C #type1-to-type2·collect-all) (CollectAllC 𝓤 H A mem run′)) (known-make-plan : Triple 𝓤 (C #type1-to-type2·make-plan) (MakePlanC 𝓤 H A mem run′)) (known-begin-program : Triple 𝓤 (C #type1-to-type2·begin-program) (BeginProgramC 𝓤 H A mem run′)) (known-write-all : Triple 𝓤 (C #type1-to-type2·write-all) (WriteAllC 𝓤 H A mem run′)) (known-end-program : Triple 𝓤 (C #type1-to-type2·end-program) (EndProgramC 𝓤 H A mem run′)) (need : Stored (ri .entries) yscommands ysstems × Blank ysacross ysupright ysmask) where
     pub walk : ent 𝓤 (onEntry 𝓤 H A f.signature (κstems, (κcommands, (κacross, (κupright, (κmask, (κout, tt)))))) (qstems, (qcommands, (qacross, (qupright, (qmask, (qout, tt)))))) a vals) (WpFn 𝓤 H C Λ code.function args Post)
     walk =
         qed W ((‵ (flft κstems qstems) ⊛ (‵ (flft κcommands qcommands) ⊛ (‵ (flft κacross qacross) ⊛ (‵ (flft κupright qupright) ⊛ (‵ (flft κmask qmask) ⊛ (‵ (flft κout qout) ⊛ ‵ ftrue)))))) ∷ ‵ (owns (I.the-row ∷ u64 ∷ Z.the-row ∷ MutSlice (named 0) κstems T.the-row ∷ MutSlice (named 1) κcommands u64 ∷ MutRef (named 2) κacross (Array f64 192) ∷ MutRef (named 3) κupright (Array f64 192) ∷ MutRef (named 4) κmask (Array bool 96) ∷ MutSlice (named 5) κout u8 ∷ []) a vals) ∷ []) ∵ enter ! C Λ code.function args _ $
@@ -278,7 +278,7 @@ module _ {M : Type 1} (𝓤 : URA M) (H : Heap 𝓤) (A : Atoms 𝓤) (W : Given
         returns ! (look ! 91 refl) $ move ! (0 ∷ 11 ∷ 12 ∷ 9 ∷ 10 ∷ 7 ∷ 8 ∷ 5 ∷ 6 ∷ 3 ∷ 4 ∷ 1 ∷ 2 ∷ 13 ∷ 14 ∷ 15 ∷ 16 ∷ 17 ∷ 18 ∷ 19 ∷ 20 ∷ 21 ∷ 22 ∷ 23 ∷ 24 ∷ 25 ∷ 26 ∷ 27 ∷ 28 ∷ 29 ∷ 30 ∷ 31 ∷ 32 ∷ 33 ∷ 34 ∷ 35 ∷ 36 ∷ 37 ∷ 38 ∷ 39 ∷ 40 ∷ 41 ∷ 42 ∷ 43 ∷ 44 ∷ 45 ∷ 46 ∷ 47 ∷ 48 ∷ 49 ∷ 50 ∷ 51 ∷ 52 ∷ 53 ∷ 54 ∷ 55 ∷ 56 ∷ 57 ∷ 58 ∷ 59 ∷ 60 ∷ 61 ∷ 62 ∷ 63 ∷ 64 ∷ 65 ∷ 66 ∷ 67 ∷ 68 ∷ 69 ∷ 70 ∷ 71 ∷ 72 ∷ 73 ∷ 74 ∷ 75 ∷ 76 ∷ 77 ∷ 78 ∷ 79 ∷ 80 ∷ 81 ∷ 82 ∷ 83 ∷ 84 ∷ 85 ∷ 86 ∷ 87 ∷ 88 ∷ 89 ∷ 90 ∷ 91 ∷ 92 ∷ []) $ leave ! (_ ∷ _ ∷ _ ∷ _ ∷ _ ∷ _ ∷ _ ∷ _ ∷ _ ∷ _ ∷ _ ∷ _ ∷ _ ∷ []) (filled _ _ _ ∷ filled _ _ _ ∷ filled _ _ _ ∷ filled _ _ _ ∷ filled _ _ _ ∷ filled _ _ _ ∷ filled _ _ _ ∷ filled _ _ _ ∷ filled _ _ _ ∷ filled _ _ _ ∷ filled _ _ _ ∷ filled _ _ _ ∷ filled _ _ _ ∷ filled _ _ _ ∷ filled _ _ _ ∷ filled _ _ _ ∷ filled _ _ _ ∷ filled _ _ _ ∷ filled _ _ _ ∷ filled _ _ _ ∷ filled _ _ _ ∷ filled _ _ _ ∷ filled _ _ _ ∷ filled _ _ _ ∷ filled _ _ _ ∷ filled _ _ _ ∷ filled _ _ _ ∷ filled _ _ _ ∷ filled _ _ _ ∷ filled _ _ _ ∷ filled _ _ _ ∷ filled _ _ _ ∷ filled _ _ _ ∷ filled _ _ _ ∷ filled _ _ _ ∷ filled _ _ _ ∷ filled _ _ _ ∷ filled _ _ _ ∷ filled _ _ _ ∷ filled _ _ _ ∷ []) $ keep ! (0 ∷ 1 ∷ 2 ∷ 3 ∷ 4 ∷ 5 ∷ 6 ∷ 7 ∷ 8 ∷ 9 ∷ 10 ∷ 11 ∷ 12 ∷ []) $ by ! (exits r8 (machG r8) (zs7 .0) yscommands (zs4 .1 .1 .1 .1 .1 .1 .0) (zs4 .1 .1 .1 .1 .1 .1 .1 .0) (zs7 .1 .1 .1 .1 .1 .1 .1 .1 .1 .1 .0) (zs8 .1 .1 .1 .0) ((e7 .0 ∙ e4 .0, (refl, run-answers number m ri yscommands ysstems (length ysout) r2 r3 r4 ysacross ysupright (zs4 .1 .1 .1 .1 .1 .1 .0) (zs4 .1 .1 .1 .1 .1 .1 .1 .0) r5 r6 r7 (zs6 .1 .1 .1 .0) (zs7 .1 .1 .1 .1 .1 .1 .1 .1 .1 .1 .1 .1 .0) (zs8 .1 .1 .1 .0) r8 (zs4 .0) (need .1 .across-len) (need .1 .upright-len) e2 e3 (e4 .1) e5 e6 (e4 .0) (e7 .1) (lout7 ∙ lout6) e8))) (lstems7 ∙ lstems4) (refl) (lout8 ∙ lout7 ∙ lout6)))))))))))))))))))))))))))))))))))))))))))))))))))))))))))))))))))))))))))))))))))))
 
 module _ {M : Type 1} (𝓤 : URA M) (H : Heap 𝓤) (A : Atoms 𝓤) (W : Given 𝓤 H A) (mem : Memory → SProp 𝓤) (run′ : Routine → Fun 𝓤) where
-  meets : (𝓣 : Tables 𝓤 H) → (let C : Calls 𝓤 H = 𝓣 .C in Triple 𝓤 (C #type1-to-type2·is-identity) (IsIdentityC 𝓤 H A mem run′) → Triple 𝓤 (C #type1-to-type2·check-entries) (CheckEntriesC 𝓤 H A mem run′) → Triple 𝓤 (C #type1-to-type2·none-collected) (NoneCollectedC 𝓤 H A mem run′) → Triple 𝓤 (C #type1-to-type2·collect-all) (CollectAllC 𝓤 H A mem run′) → Triple 𝓤 (C #type1-to-type2·make-plan) (MakePlanC 𝓤 H A mem run′) → Triple 𝓤 (C #type1-to-type2·begin-program) (BeginProgramC 𝓤 H A mem run′) → Triple 𝓤 (C #type1-to-type2·write-all) (WriteAllC 𝓤 H A mem run′) → Triple 𝓤 (C #type1-to-type2·end-program) (EndProgramC 𝓤 H A mem run′) → Meets 𝓤 H A f.signature (WpFn 𝓤 H (𝓣 .C) (𝓣 .Λ) code.function) (f.spec 𝓤 H A mem run′))
+  meets : (𝓣 : Tables 𝓤 H) → (let C : Calls 𝓤 H = 𝓣 .C in Triple 𝓤 (C #folding·is-identity) (IsIdentityC 𝓤 H A mem run′) → Triple 𝓤 (C #type1-to-type2·check-entries) (CheckEntriesC 𝓤 H A mem run′) → Triple 𝓤 (C #type1-to-type2·none-collected) (NoneCollectedC 𝓤 H A mem run′) → Triple 𝓤 (C #type1-to-type2·collect-all) (CollectAllC 𝓤 H A mem run′) → Triple 𝓤 (C #type1-to-type2·make-plan) (MakePlanC 𝓤 H A mem run′) → Triple 𝓤 (C #type1-to-type2·begin-program) (BeginProgramC 𝓤 H A mem run′) → Triple 𝓤 (C #type1-to-type2·write-all) (WriteAllC 𝓤 H A mem run′) → Triple 𝓤 (C #type1-to-type2·end-program) (EndProgramC 𝓤 H A mem run′) → Meets 𝓤 H A f.signature (WpFn 𝓤 H (𝓣 .C) (𝓣 .Λ) code.function) (f.spec 𝓤 H A mem run′))
   meets 𝓣 k0 k1 k2 k3 k4 k5 k6 k7 = walk-meets 𝓤 H A f.ended stayed W (goes-none 𝓤 H A W 6 (λ _. I.the-row) yes (λ κs x f. refl), (goes-none 𝓤 H A W 6 (λ _. u64) yes (λ κs x f. refl), (goes-none 𝓤 H A W 6 (λ _. Z.the-row) yes (λ κs x f. refl), (goes-slice 𝓤 H A W 6 0 tt (plain (λ _. T.the-row)), (goes-slice 𝓤 H A W 6 1 tt (plain (λ _. u64)), (goes-ref 𝓤 H A W 6 2 tt (ArrayOf (plain (λ _. f64)) (λ _. tt) 192), (goes-ref 𝓤 H A W 6 3 tt (ArrayOf (plain (λ _. f64)) (λ _. tt) 192), (goes-ref 𝓤 H A W 6 4 tt (ArrayOf (plain (λ _. bool)) (λ _. tt) 96), (goes-slice 𝓤 H A W 6 5 tt (plain (λ _. u8)), tt))))))))) (f.clauses 𝓤 H A mem run′)
       (WpFn 𝓤 H (𝓣 .C) (𝓣 .Λ) code.function) (WpFn-mono 𝓤 H (W .laws) 𝓣 code.function)
       (walked 𝓤 H A f.ended stayed (f.clauses 𝓤 H A mem run′) (WpFn 𝓤 H (𝓣 .C) (𝓣 .Λ) code.function) (λ κs. (LL.vals I.the-type I′.the-laws, (uint-vals w64, (LL.vals Z.the-type Z′.the-laws, (slice-vals, (slice-vals, (ptr-vals, (ptr-vals, (ptr-vals, (slice-vals, tt)))))))))) (λ κs. (LL.tells I.the-type I′.the-laws, (uint-tells w64, (LL.tells Z.the-type Z′.the-laws, (mut-slice-tells (named 0) (κs .0) T.the-row, (mut-slice-tells (named 1) (κs .1 .0) u64, (mut-tells (named 2) (κs .1 .1 .0) (Array f64 192), (mut-tells (named 3) (κs .1 .1 .1 .0) (Array f64 192), (mut-tells (named 4) (κs .1 .1 .1 .1 .0) (Array bool 96), (mut-slice-tells (named 5) (κs .1 .1 .1 .1 .1 .0) u8, tt))))))))))
@@ -290,7 +290,7 @@ convert-run-spec 𝓤 H 𝓜 𝓖 𝓡 =
     entered 𝓤 H (tripleOf 𝓤 H (𝓖 .A) f.signature (f.spec 𝓤 H (𝓖 .A) (𝓜 .mem) (𝓡 .run)))
     (tables 𝓤 H 𝓜 𝓡 code.env .C) (tables 𝓤 H 𝓜 𝓡 code.env .Λ) #type1-to-type2·convert-run code.function (code.unfolded 𝓤 H 𝓜 𝓡)
     (meets 𝓤 H (𝓖 .A) (givenOf 𝓤 H 𝓜 𝓖) (𝓜 .mem) (𝓡 .run) (tablesOf 𝓤 H 𝓜 (tables 𝓤 H 𝓜 𝓡 code.env))
-    (cited 𝓤 H (IsIdentityC 𝓤 H (𝓖 .A) (𝓜 .mem) (𝓡 .run)) 𝓜 𝓡 code.env #type1-to-type2·is-identity is-identity-def.routine code.calls-type1-to-type2·is-identity (is-identity-thm.met 𝓤 H 𝓜 𝓖 𝓡))
+    (cited 𝓤 H (IsIdentityC 𝓤 H (𝓖 .A) (𝓜 .mem) (𝓡 .run)) 𝓜 𝓡 code.env #folding·is-identity is-identity-def.routine code.calls-folding·is-identity (is-identity-thm.met 𝓤 H 𝓜 𝓖 𝓡))
     (cited 𝓤 H (CheckEntriesC 𝓤 H (𝓖 .A) (𝓜 .mem) (𝓡 .run)) 𝓜 𝓡 code.env #type1-to-type2·check-entries check-entries-def.routine code.calls-type1-to-type2·check-entries (check-entries-thm.met 𝓤 H 𝓜 𝓖 𝓡))
     (cited 𝓤 H (NoneCollectedC 𝓤 H (𝓖 .A) (𝓜 .mem) (𝓡 .run)) 𝓜 𝓡 code.env #type1-to-type2·none-collected none-collected-def.routine code.calls-type1-to-type2·none-collected (none-collected-thm.met 𝓤 H 𝓜 𝓖 𝓡))
     (cited 𝓤 H (CollectAllC 𝓤 H (𝓖 .A) (𝓜 .mem) (𝓡 .run)) 𝓜 𝓡 code.env #type1-to-type2·collect-all collect-all-def.routine code.calls-type1-to-type2·collect-all (collect-all-thm.met 𝓤 H 𝓜 𝓖 𝓡))

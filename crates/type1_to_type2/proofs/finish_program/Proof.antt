@@ -22,8 +22,7 @@ returns c =
     λ masked ss. finished-refused _ (c .before .before .before .before .before .before .before .before .put-byte .result) _ _ _ _ (ended (c .before .before .before .before .before .before .before .before .before .before .before .before .flush .ensures) (c .before .before .before .before .before .before .before .before .put-byte .ensures .0) masked ss) (c .before .before .before .before .if1 .taken) (c .before .before .before .before .before .before .before .before .put-byte .ensures .0 .same ∙ c .before .before .before .before .before .before .before .before .before .before .before .before .flush .ensures .puts .same) (c .before .before .zero-from .ensures) refl refl
 
 zero-from-requires-2 : tie.Need-zero-from-requires-2
-zero-from-requires-2 c κs =
-    c .before .before .before .before .before .put-byte .ensures .1 .1 (c .before .if1 .left)
+zero-from-requires-2 c κs = search needs
 
 same-length-2 : tie.Need-same-length-2
 same-length-2 c = search needs

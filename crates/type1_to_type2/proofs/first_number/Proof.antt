@@ -5,7 +5,6 @@ use Rattle.type1_to_type2.proofs.first_number.Statement.{statement}
 use Rattle.type1_to_type2.proofs.first_number.Tie as tie
 use Rattle.type1_to_type2.proofs.first_number.Reads as reads
 use Rattle.type1_to_type2.proofs.first_number.Lts as lts
-use Rattle.type1_to_type2.proofs.finite_matrix.Reads as finite-matrix-reads
 
 -- src/lib.rt:809:8
 finite-matrix-requires : tie.Need-finite-matrix-requires

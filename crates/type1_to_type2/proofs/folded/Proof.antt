@@ -1,19 +1,18 @@
-use Rattle.type1_to_type2.proofs.Folds.{one-left, one-moved}
-use mathlib.Core.Path.{sym, _∙_}
+-- `type1_to_type2::folded` meets its contract.
+use mathlib.Core.Path.{ap, _∙_}
+use mathlib.Core.Bool.{Bool}
+use Rattle.folding.specs.Folding.{stemWith}
 use borrow.Author.Needs.{needs}
 use Rattle.type1_to_type2.proofs.folded.Statement.{statement}
 use Rattle.type1_to_type2.proofs.folded.Tie as tie
 
+folded-requires : tie.Need-folded-requires
+folded-requires c κs = search needs
+
 returns : tie.Need-returns
 returns c =
-    one-left _ _ (sym (c .before .pre) ∙ c .if1 .taken)
-
-fold-stem-requires : tie.Need-fold-stem-requires
-fold-stem-requires c κs = search needs
-
-returns-2 : tie.Need-returns-2
-returns-2 c =
-    c .fold-stem .ensures ∙ one-moved _ _ (sym (c .before .before .pre) ∙ c .before .if1 .left)
+    let s = c .before .args in
+    c .folded .ensures ∙ ap (λ (b : Bool). stemWith b (s .m) (s .s)) (c .before .pre)
 
 pub folded-spec : {M : Type 1} → statement M
-folded-spec = tie.close (tie.spec returns fold-stem-requires returns-2)
+folded-spec = tie.close (tie.spec folded-requires returns)

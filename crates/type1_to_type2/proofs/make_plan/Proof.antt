@@ -5,7 +5,6 @@ use Rattle.type1_to_type2.proofs.make_plan.Tie as tie
 use Rattle.type1_to_type2.proofs.make_plan.Reads as reads
 use Rattle.type1_to_type2.proofs.make_plan.Lts as lts
 use Rattle.type1_to_type2.proofs.dropped.Reads as dropped-reads
-use Rattle.type1_to_type2.proofs.fold_width.Reads as fold-width-reads
 use Rattle.type1_to_type2.proofs.needs_masks.Reads as needs-masks-reads
 use Rattle.type1_to_type2.proofs.plan_number.Reads as plan-number-reads
 

@@ -6,56 +6,42 @@ use borrow.Author.Needs.{needs}
 use Rattle.type1_to_type2.proofs.put_delta.Statement.{statement}
 use Rattle.type1_to_type2.proofs.put_delta.Tie as tie
 
-quantize-requires : tie.Need-quantize-requires
-quantize-requires c κs = search needs
-
-quantize-requires-2 : tie.Need-quantize-requires-2
-quantize-requires-2 c κs = search needs
-
 returns : tie.Need-returns
 returns c =
-    let w = c .before .before .before .before .before .before .before .before .before .args .w in
-    record { puts = record { then = λ f. refused-stays _ _ _ _ _ _ _ (c .before .before .before .before .before .before .if1 .taken); same = refl }; at = delta-at w _ _ _ _ (c .before .before .before .before .quantize .ensures) (c .before .quantize2 .ensures); waits = refl; held = refl }
+    record { puts = record { then = λ f. refused-stays _ _ _ _ _ _ _ (c .if1 .taken); same = refl }; at = λ z. absurd (c .if1 .taken z); waits = refl; held = refl }
 
-push-delta-requires : tie.Need-push-delta-requires
-push-delta-requires c κs = search needs
-
-quantize-requires-3 : tie.Need-quantize-requires-3
-quantize-requires-3 c κs = search needs
+push-step-requires : tie.Need-push-step-requires
+push-step-requires c κs = search needs
 
 same-length : tie.Need-same-length
 same-length c = search needs
 
 returns-2 : tie.Need-returns-2
 returns-2 c =
-    let s = c .before .before .before .before .before .before .before .before .before .before .before .before .before .before .before in
-    let p = c .before .before .before .before .before .before .before .before .before .push-delta .ensures in
-    record { puts = record { then = delta-refused (s .args .w) _ _ (s .args .py) _ _ _ (c .before .before .before .before .before .before .before .before .before .before .before .before .if1 .left) (p .0) (c .before .before .before .if2 .taken); same = search needs }; at = delta-at (s .args .w) _ _ _ _ (p .1) (c .before .quantize3 .ensures); waits = refl; held = refl }
+    let p = c .before .before .before .before .push-step .ensures in
+    record { puts = record { then = delta-refused (c .before .before .before .before .before .before .before .before .before .args .w) _ _ (c .before .before .before .before .before .before .before .before .before .args .py) _ _ _ (c .before .before .before .before .before .before .if1 .left) (p .0) (c .if2 .taken); same = search needs }; at = λ z. absurd (c .if2 .taken z); waits = refl; held = refl }
 
-push-delta-requires-2 : tie.Need-push-delta-requires-2
-push-delta-requires-2 c κs = search needs
+push-step-requires-2 : tie.Need-push-step-requires-2
+push-step-requires-2 c κs = search needs
 
 same-length-2 : tie.Need-same-length-2
 same-length-2 c = search needs
 
 returns-3 : tie.Need-returns-3
 returns-3 c =
-    let w = c .before .before .before .before .before .before .before .before .before .before .before .before .before .before .before .before .before .before .before .args .w in
-    let p = c .before .before .before .before .before .before .before .before .before .before .before .before .before .push-delta .ensures in
-    let q = c .before .before .before .before .push-delta2 .ensures in
-    record { puts = record { then = delta-pushed w _ _ _ _ _ _ (c .before .before .before .before .before .before .before .before .before .before .before .before .before .before .before .before .if1 .left) (p .0) _ _ _ (c .before .before .before .before .before .before .before .if2 .left) (q .0); same = search needs }; at = delta-at w _ _ _ _ (p .1) (q .1); waits = refl; held = refl }
+    let w = c .before .before .before .before .before .before .before .before .before .before .before .before .before .args .w in
+    let p = c .before .before .before .before .before .before .before .before .push-step .ensures in
+    let q = c .before .before .push-step2 .ensures in
+    record { puts = record { then = delta-pushed w _ _ _ _ _ _ (c .before .before .before .before .before .before .before .before .before .before .if1 .left) (p .0) _ _ _ (c .before .before .before .before .if2 .left) (q .0); same = search needs }; at = λ z. delta-at w _ _ _ _ (p .1) (q .1); waits = refl; held = refl }
 
 pub put-delta-spec : {M : Type 1} → statement M
 put-delta-spec =
     tie.close
     (tie.spec
-    quantize-requires
-    quantize-requires-2
     returns
-    push-delta-requires
-    quantize-requires-3
+    push-step-requires
     same-length
     returns-2
-    push-delta-requires-2
+    push-step-requires-2
     same-length-2
     returns-3)

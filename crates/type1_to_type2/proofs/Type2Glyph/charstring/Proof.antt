@@ -63,9 +63,7 @@ add-zero-from : tie.Need-add-zero-from
 add-zero-from c = search needs
 
 zero-from-requires : tie.Need-zero-from-requires
-zero-from-requires c κs =
-    let w = put-width (c .before .before .before .before .before .before .before .before .before .before) .0 (c .before .before .before .before .before .before .if1 .left) in
-    omega (arith, w .room, w .same, c .before .before .before .before .before .if2 .left)
+zero-from-requires c κs = search needs
 
 add-t16 : tie.Need-add-t16
 add-t16 c = search needs

@@ -1,0 +1,124 @@
+-- Definitions: folding a matrix into a run's drawn list, groups and width. Document 01, "Folding". Each operation rounds once, in the Rust's order.
+use mathlib.Core.Bool.{Bool, true, false, _&&_, _||_, cond}
+use mathlib.Core.List.{List, [], _∷_}
+use lib.IntN.{pos}
+use lib.Ieee.{Float, fin, binary64, add, sub, mul, eq, lt}
+use lib.Ieee.Scale.{finite}
+use Rattle.geometry.specs.declared.Point.{Point}
+use Rattle.geometry.specs.declared.Matrix.{Matrix}
+use Rattle.geometry.specs.Transform as Transform
+use Rattle.type1.specs.declared.Stem.{Stem}
+use Rattle.type1.specs.State.{Command, move, line, curve, flex, Group, State, plusZero}
+
+-- number 1: an entry of the matrix is not finite
+unfoldable pub finiteMatrix : Matrix → Bool
+finiteMatrix m = finite (m .a) && (finite (m .b) && (finite (m .c) && (finite (m .d) && (finite (m .tx) && finite (m .ty)))))
+
+-- "Entries equal to 1 0 0 1 0 0 (-0 counts as 0) leave points alone; other matrices use `transform_point`."
+abbrev pub one : Float
+one = fin false 1 (pos 0)
+
+unfoldable pub isIdentity : Matrix → Bool
+isIdentity m = eq (m .a) one && (eq (m .b) plusZero && (eq (m .c) plusZero && (eq (m .d) one && (eq (m .tx) plusZero && eq (m .ty) plusZero))))
+
+-- left alone, or not
+abbrev pub pointWith : Bool → Matrix → Point → Point
+pointWith identity m p = cond identity p (Transform.point m (p .x) (p .y))
+
+unfoldable pub foldedPoint : Matrix → Point → Point
+foldedPoint m p = pointWith (isIdentity m) m p
+
+-- each point of an entry; a flex height is no coordinate
+abbrev pub foldedCommand : Matrix → Command → Command
+foldedCommand m (move p) = move (foldedPoint m p)
+foldedCommand m (line p) = line (foldedPoint m p)
+foldedCommand m (curve p q r) = curve (foldedPoint m p) (foldedPoint m q) (foldedPoint m r)
+foldedCommand m (flex p q r s t u h) = flex (foldedPoint m p) (foldedPoint m q) (foldedPoint m r) (foldedPoint m s) (foldedPoint m t) (foldedPoint m u) h
+
+unfoldable pub foldedList : Matrix → List Command → List Command
+foldedList m [] = []
+foldedList m (c ∷ l) = foldedCommand m c ∷ foldedList m l
+
+-- "The width passes `round10` always."
+unfoldable pub foldedWidth : Matrix → Float → Float
+foldedWidth m w = Transform.delta m w plusZero .x
+
+-- ---- stems
+
+-- "An hstem stays only if b = 0 and d > 0, a vstem if c = 0 and a > 0."
+abbrev pub stays : Matrix → Bool → Bool
+stays m true = eq (m .b) plusZero && lt plusZero (m .d)
+stays m false = eq (m .c) plusZero && lt plusZero (m .a)
+
+-- an edge, across or upright
+abbrev pub edge : Matrix → Bool → Float → Float
+edge m true e = add binary64 (mul binary64 (m .d) e) (m .ty)
+edge m false e = add binary64 (mul binary64 (m .a) e) (m .tx)
+
+abbrev pub scaled : Matrix → Bool → Float → Float
+scaled m true w = mul binary64 (m .d) w
+scaled m false w = mul binary64 (m .a) w
+
+-- "Width -21 moves the edge at pos - 21, -20 the one at pos." Both widths are markers and stay.
+abbrev pub twentyOne : Float
+twentyOne = fin false 21 (pos 0)
+
+abbrev pub minus21 : Float
+minus21 = fin true 21 (pos 0)
+
+abbrev pub minus20 : Float
+minus20 = fin true 5 (pos 2)
+
+unfoldable pub foldedStem : Matrix → Stem → Stem
+foldedStem m s =
+    let h = s .horizontal in
+    cond (eq (s .width) minus21) (record { horizontal = h; pos = add binary64 (edge m h (sub binary64 (s .pos) twentyOne)) twentyOne; width = minus21 })
+    (cond (eq (s .width) minus20) (record { horizontal = h; pos = edge m h (s .pos); width = minus20 })
+    (record { horizontal = h; pos = edge m h (s .pos); width = scaled m h (s .width) }))
+
+-- one stem, where the entries are those of the identity, or not: it is then left alone, and stays
+abbrev pub stemWith : Bool → Matrix → Stem → Stem
+stemWith identity m s = cond identity s (foldedStem m s)
+
+abbrev pub staysWith : Bool → Matrix → Stem → Bool
+staysWith identity m s = identity || stays m (s .horizontal)
+
+unfoldable pub keptStems : Matrix → List Stem → List Stem
+keptStems m [] = []
+keptStems m (s ∷ l) = cond (stays m (s .horizontal)) (foldedStem m s ∷ keptStems m l) (keptStems m l)
+
+unfoldable pub foldedStems : Matrix → List Stem → List Stem
+foldedStems m l = cond (isIdentity m) l (keptStems m l)
+
+abbrev pub foldedGroup : Matrix → Group → Group
+foldedGroup m g = record { stems = foldedStems m (g .stems); before = g .before }
+
+unfoldable pub foldedGroups : Matrix → List Group → List Group
+foldedGroups m [] = []
+foldedGroups m (g ∷ l) = foldedGroup m g ∷ foldedGroups m l
+
+-- ---- number 14: a folded value is not finite
+abbrev pub finitePoint : Point → Bool
+finitePoint p = finite (p .x) && finite (p .y)
+
+abbrev pub finiteCommand : Command → Bool
+finiteCommand (move p) = finitePoint p
+finiteCommand (line p) = finitePoint p
+finiteCommand (curve p q r) = finitePoint p && (finitePoint q && finitePoint r)
+finiteCommand (flex p q r s t u h) = finitePoint p && (finitePoint q && (finitePoint r && (finitePoint s && (finitePoint t && finitePoint u))))
+
+unfoldable pub finiteList : List Command → Bool
+finiteList [] = true
+finiteList (c ∷ l) = finiteCommand c && finiteList l
+
+unfoldable pub finiteStems : List Stem → Bool
+finiteStems [] = true
+finiteStems (s ∷ l) = finite (s .pos) && (finite (s .width) && finiteStems l)
+
+unfoldable pub finiteGroups : List Group → Bool
+finiteGroups [] = true
+finiteGroups (g ∷ l) = finiteStems (g .stems) && finiteGroups l
+
+-- of what a run has left
+unfoldable pub foldsFinite : Matrix → State → Bool
+foldsFinite m s = finite (foldedWidth m (s .width)) && (finiteList (foldedList m (s .drawn)) && finiteGroups (foldedGroups m (s .groups)))
