@@ -1,11 +1,10 @@
 -- `stores::wipe_words` meets its contract.
 use mathlib.Core.Path.{_≡_, refl, _∙_, ap}
-use mathlib.Core.List.{[], _++_}
+use mathlib.Core.List.{_++_}
 use Prim.Native.Nat.{ℕ, _-_, _≤_}
 use native.Mathlib.Omega.{arith}
 use native.Mathlib.Nat.{sub-zero}
 use lib.ListN.{length, take, replicate, length-set}
-use borrow.Author.Needs.{scaled-fits}
 use Rattle.stores.proofs.Zeroing.{zeros-none, zeros-more, zeros-all}
 use Rattle.stores.proofs.wipe_words.Statement.{statement}
 use Rattle.stores.proofs.wipe_words.Tie as tie
