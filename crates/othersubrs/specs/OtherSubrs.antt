@@ -1,4 +1,4 @@
--- Definitions: what callothersubr takes and hands back, when a flex is drawn, and when setcurrentpoint is a move. Document 01, "Reading" and "OtherSubrs"; Adobe Type 1 Font Format, 6.4 and 8.3.
+-- Definitions: what callothersubr takes and hands back, when a flex is drawn, and when setcurrentpoint is a move. Document 01, "Reading" and "OtherSubrs"; Adobe Type 1 Font Format, chapters 6 and 8.
 use Prim.Native.Nat.{ℕ, _+_, _-_}
 use mathlib.Core.Bool.{Bool, false, not, cond, _&&_}
 use mathlib.Core.List.{List, reverse}
