@@ -1,16 +1,15 @@
 // Compares our functions with vectors recorded from the Rust (tools/oracle/VECTORS.md has their layout).
 // Prints for each file of vectors the function's name, how many were compared and how many differ, then the sums.
 ghost use mathlib.Core.Path.{_≡_};
-ghost use mathlib.Core.List.{_++_};
-ghost use Prim.Native.Nat.{_-_};
-ghost use lib.Dec.{T};
-ghost use lib.ListN.{length, getD, replicate};
-ghost use lib.Ieee.{binary64, ofBits};
-ghost use Rattle.widths.specs.Widths.{zeroWidth};
+ghost use lib.ListN.{length, replicate};
 ghost use Rattle.type1.specs.Interpret.{outcome, Leaves};
 ghost use Rattle.type1_to_type2.specs.Convert as Convert;
 ghost use Rattle.type1_to_type2.specs.Entry.{Converts};
 ghost use Rattle.replay.specs.Stores.{usedStem, afterRun, afterConverting};
+use compare::from_pattern;
+use compare::holds;
+use compare::is_cleared;
+use compare::same;
 use libc::STDOUT_FILENO;
 
 // The most bytes of a payload.
@@ -95,30 +94,9 @@ fn after_string(v: &[u8], at: usize) -> usize {
     place(place(at, 8), size(v, at))
 }
 
-// The double of a bit pattern, every NaN's alike.
-fn from_pattern(bits: u64) -> f64
-    ensures { λ r. ⌜ r ≡ ofBits binary64 bits ⌝ }
-{
-    if bits % 0x8000_0000_0000_0000 > 0x7FF0_0000_0000_0000 {
-        0.0 / 0.0
-    } else {
-        f64::from_bits(bits)
-    }
-}
-
 // The double at a place.
 fn double(v: &[u8], at: usize) -> f64 {
     from_pattern(number(v, at))
-}
-
-// Both are a NaN, or they are equal and, where zero, of one sign.
-fn same(x: f64, y: f64) -> bool
-    ensures { λ r. ⌜ (T r → x ≡ y) ⌝ }
-{
-    if x == y {
-        return if x == 0.0 { 1.0 / x == 1.0 / y } else { true };
-    }
-    if x == x { false } else { y != y }
 }
 
 // The signed number at a place, in two's complement.
@@ -129,27 +107,6 @@ fn signed(v: &[u8], at: usize) -> i64 {
     } else {
         !((u64::MAX - bits) as i64)
     }
-}
-
-// The byte at a place; rest beyond the end.
-fn byte_or(front: &[u8], at: usize, rest: u8) -> u8
-    ensures { λ r. ⌜ r ≡ getD (now (front .entry)) at rest ⌝ }
-{
-    if at < front.len() { front[at] } else { rest }
-}
-
-// The bytes of out are those of front, then each is rest.
-fn holds(out: &[u8], front: &[u8], rest: u8) -> bool
-    ensures { λ r. ⌜ (T r → now (out .entry) ≡ now (front .entry) ++ replicate (length (now (out .entry)) - length (now (front .entry))) rest) ⌝ }
-{
-    let mut i: usize = 0;
-    while i < out.len() {
-        if out[i] != byte_or(front, i, rest) {
-            return false;
-        }
-        i += 1;
-    }
-    front.len() <= out.len()
 }
 
 // The payload of a vector with one argument and one result is 17 bytes.
@@ -323,27 +280,6 @@ fn read_doubles(v: &[u8], from: usize, to: &mut [f64]) -> usize {
         i += 1;
     }
     at
-}
-
-// 0.0 below n, rest from n on.
-fn zero_or(n: usize, at: usize, rest: f64) -> f64
-    ensures { λ r. ⌜ r ≡ getD (replicate n zeroWidth) at rest ⌝ }
-{
-    if at < n { 0.0 } else { rest }
-}
-
-// The first n of xs are 0.0, and each other is rest.
-fn is_cleared(xs: &[f64], n: usize, rest: f64) -> bool
-    ensures { λ r. ⌜ (T r → now (xs .entry) ≡ replicate n zeroWidth ++ replicate (length (now (xs .entry)) - n) rest) ⌝ }
-{
-    let mut i: usize = 0;
-    while i < xs.len() {
-        if !same(xs[i], zero_or(n, i, rest)) {
-            return false;
-        }
-        i += 1;
-    }
-    n <= xs.len()
 }
 
 // With a scratch of `room`: the results at a place, the scratch cleared, and nothing behind it changes.

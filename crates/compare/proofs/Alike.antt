@@ -106,6 +106,21 @@ zeros (fin s m e) (fin u k d) a b t n h =
     let q = empty y b tt (sym (sizes x y a b tt tt t) ∙ none) in
     p ∙ ap zero (reciprocals s u (subst T (ap₂ (λ (v w : Float). eq (inverse v) (inverse w)) p q) h)) ∙ sym q
 
+-- a zero's reciprocal is equal to that of the same zero
+reciprocal : (s : Bool) → T (eq (inverse (zero s)) (inverse (zero s)))
+unfolding eq div zero
+reciprocal true = tt
+reciprocal false = tt
+
+pub zero-alike : (x y : Float) → T (fits binary64 x) → eq x plusZero ≡ true → x ≡ y → T (eq (inverse x) (inverse y))
+unfolding eq fits mag
+zero-alike nan y a n p = absurd (true≢false (sym n))
+zero-alike (inf s) y a n p = absurd (true≢false (sym n))
+zero-alike (fin s m e) y a n p =
+    let x = fin s m e in
+    let q = empty x a tt (sizes x plusZero a tt tt tt n) in
+    subst (λ (w : Float). T (eq (inverse x) (inverse w))) p (subst (λ (v : Float). T (eq (inverse v) (inverse v))) (sym q) (reciprocal s))
+
 -- a pattern's double, where the pattern is a NaN's
 is-nan : (x : Float) → isNan x ≡ true → x ≡ nan
 unfolding isNan

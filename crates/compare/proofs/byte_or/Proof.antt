@@ -1,11 +1,11 @@
--- `replay::byte_or` meets its contract.
+-- `compare::byte_or` meets its contract.
 use mathlib.Core.Path.{sym}
 use native.Mathlib.Omega.{arith}
 use lib.ListN.{List·getD-eq-default}
-use Rattle.replay.proofs.Fronts.{getD-any}
+use Rattle.compare.proofs.Fronts.{getD-any}
 use borrow.Author.Needs.{needs}
-use Rattle.replay.proofs.byte_or.Statement.{statement}
-use Rattle.replay.proofs.byte_or.Tie as tie
+use Rattle.compare.proofs.byte_or.Statement.{statement}
+use Rattle.compare.proofs.byte_or.Tie as tie
 
 shared-slice-read-result : tie.Need-shared-slice-read-result
 shared-slice-read-result c =

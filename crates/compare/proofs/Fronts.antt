@@ -9,6 +9,7 @@ use lib.Dec.{eqb}
 use mathlib.Core.List.{List, [], _∷_, _++_}
 use lib.ListN.{length, getD, replicate, length-append, length-replicate, getD-replicate}
 use lib.Seq.{ext-getD}
+use Rattle.compare.specs.Comparisons.{padded}
 
 module _ {A : Type 0} where
   -- at each index, whatever stands past both ends
@@ -17,17 +18,20 @@ module _ {A : Type 0} where
   front-at (x ∷ xs) rest d n zero h = refl
   front-at (x ∷ xs) rest d n (suc k) h = front-at xs rest d n k (let z : k < length xs + n = omega arith in z)
 
-  pub front-then : (d : A) (out front : List A) (rest : A) → length front ≤ length out → ((k : ℕ) → k < length out → getD out k d ≡ getD front k rest) → out ≡ front ++ replicate (length out - length front) rest
+  pub front-then : (d : A) (out front : List A) (rest : A) → length front ≤ length out → ((k : ℕ) → k < length out → getD out k d ≡ getD front k rest) → out ≡ padded front rest (length out)
   front-then d out front rest l h =
-      ext-getD d out (front ++ replicate (length out - length front) rest)
+      ext-getD d out (padded front rest (length out))
       (let e = length-append front (replicate (length out - length front) rest) in let r = length-replicate (length out - length front) rest in omega arith)
       (λ k b. h k b ∙ sym (front-at front rest d (length out - length front) k (omega arith)))
 
-  -- the same with n times z for the front
-  pub copies-then : (d : A) (out : List A) (n : ℕ) (z rest : A) → n ≤ length out → ((k : ℕ) → k < length out → getD out k d ≡ getD (replicate n z) k rest) → out ≡ replicate n z ++ replicate (length out - n) rest
-  copies-then d out n z rest l h =
-      let e = length-replicate n z in
-      front-then d out (replicate n z) rest (omega arith) h ∙ ap (λ (k : ℕ). replicate n z ++ replicate (length out - k) rest) e
+  -- and the other way: such a list agrees so, and is no shorter than the front
+  pub then-front : (d : A) (out front : List A) (rest : A) → out ≡ padded front rest (length out) → (k : ℕ) → k < length out → getD out k d ≡ getD front k rest
+  then-front d out front rest e k h =
+      ap (λ (l : List A). getD l k d) e ∙ front-at front rest d (length out - length front) k (omega arith)
+
+  pub front-within : (out front : List A) (rest : A) → out ≡ padded front rest (length out) → length front ≤ length out
+  front-within out front rest e =
+      let l = ap (length {A = A}) e ∙ length-append front (replicate (length out - length front) rest) in omega arith
 
   -- at an index of the list, what stands past its end does not matter
   pub getD-any : (l : List A) (i : ℕ) (d e : A) → i < length l → getD l i d ≡ getD l i e
