@@ -15,6 +15,7 @@ use crate::bytes::same;
 use crate::bytes::skip_space;
 use crate::bytes::token_end;
 use crate::bytes::word;
+use crate::number::Whole;
 use crate::number::read_whole;
 
 // What can be wrong with a file.
@@ -99,34 +100,21 @@ struct Segments {
     done: bool,
 }
 
-// One segment: its bytes move down to the text's end.
-fn segment(v: &mut [u8], n: usize, from: usize, to: usize) -> Segments {
-    let kind = byte(v, place(from, 1));
-    if byte(v, from) != 128 || kind == 0 || kind > 3 {
-        return Segments {
-            what: NO_SEGMENT,
-            from,
-            to,
-            done: true,
-        };
+fn last_segment(what: usize, from: usize, to: usize) -> Segments {
+    Segments {
+        what,
+        from,
+        to,
+        done: true,
     }
-    if kind == 3 {
-        return Segments {
-            what: 0,
-            from,
-            to,
-            done: true,
-        };
-    }
+}
+
+// Copies the bytes of a segment down.
+fn move_segment(v: &mut [u8], n: usize, from: usize, to: usize) -> Segments {
     let size = segment_length(v, place(from, 2));
     let body = place(from, 6);
     if less(n, body) < size {
-        return Segments {
-            what: SEGMENT_CUT,
-            from,
-            to,
-            done: true,
-        };
+        return last_segment(SEGMENT_CUT, from, to);
     }
     copy_down(v, to, body, size);
     let next = place(body, size);
@@ -136,6 +124,18 @@ fn segment(v: &mut [u8], n: usize, from: usize, to: usize) -> Segments {
         to: place(to, size),
         done: next >= n,
     }
+}
+
+// One segment: its bytes move down to the text's end.
+fn segment(v: &mut [u8], n: usize, from: usize, to: usize) -> Segments {
+    let kind = byte(v, place(from, 1));
+    if byte(v, from) != 128 || kind == 0 || kind > 3 {
+        return last_segment(NO_SEGMENT, from, to);
+    }
+    if kind == 3 {
+        return last_segment(0, from, to);
+    }
+    move_segment(v, n, from, to)
 }
 
 // The segments of a file of n bytes, joined at its front.
@@ -253,9 +253,13 @@ fn binary_end(v: &mut [u8], from: usize, end: usize) -> usize {
     end
 }
 
+fn find_eexec(v: &[u8]) -> usize {
+    find(v, 0, b"eexec")
+}
+
 // Decrypts the private part of a text of n bytes, in place. Its first four bytes are no text.
 fn open_text(v: &mut [u8], n: usize) -> Opened {
-    let word_at = find(part(v, 0, n), 0, b"eexec");
+    let word_at = find_eexec(part(v, 0, n));
     if word_at >= n {
         return not_opened(NO_EEXEC, n);
     }
@@ -282,9 +286,13 @@ pub(crate) fn open_font(v: &mut [u8], n: usize) -> Opened {
     open_text(v, s.to)
 }
 
+fn find_len_iv(v: &[u8], private: usize) -> usize {
+    find(v, private, b"/lenIV")
+}
+
 // The bytes that a charstring drops; the largest number where charstrings are not encrypted.
 pub(crate) fn len_iv(v: &[u8], private: usize) -> usize {
-    let at = find(v, private, b"/lenIV");
+    let at = find_len_iv(v, private);
     if at == v.len() {
         return 4;
     }
@@ -342,82 +350,88 @@ fn is_end(v: &[u8], at: usize, end: usize) -> bool {
     is_word(v, at, end, b"end")
 }
 
-// A step through a text: the next place, and whether there is more.
+fn is_dup(v: &[u8], at: usize, end: usize) -> bool {
+    is_word(v, at, end, b"dup")
+}
+
+// A step through the subroutines: the next place, whether there is more, and the subroutine that was read:
+// its number, and the place and the length of its bytes.
 struct Step {
     what: usize,
     next: usize,
     done: bool,
+    number: usize,
+    code: usize,
+    len: usize,
 }
 
-// The place of a subroutine's bytes and their length go into the two lists.
-fn list_subroutine(
-    v: &[u8],
-    at: usize,
-    count: usize,
-    starts: &mut [u64],
-    lens: &mut [u64],
-) -> Step {
-    let from = skip_space(v, at);
-    let n = read_whole(v, from);
-    let number = n.value as usize;
-    if n.next == from {
-        return Step {
-            what: BAD_SUBROUTINE,
-            next: from,
-            done: true,
-        };
+// The number where no subroutine was read: beyond the end of every list.
+const NONE: usize = usize::MAX;
+
+fn stop(what: usize, next: usize) -> Step {
+    Step {
+        what,
+        next,
+        done: true,
+        number: NONE,
+        code: 0,
+        len: 0,
     }
-    if number >= count {
-        return Step {
-            what: NO_SUCH_PLACE,
-            next: from,
-            done: true,
-        };
+}
+
+fn pass(next: usize) -> Step {
+    Step {
+        what: 0,
+        next,
+        done: false,
+        number: NONE,
+        code: 0,
+        len: 0,
     }
-    let b = read_binary(v, n.next);
+}
+
+fn listed(number: usize, b: Binary) -> Step {
     if b.what != 0 {
-        return Step {
-            what: b.what,
-            next: b.code,
-            done: true,
-        };
+        return stop(b.what, b.code);
     }
-    put_word(starts, number, b.code as u64);
-    put_word(lens, number, b.len as u64);
     Step {
         what: 0,
         next: b.next,
         done: false,
+        number,
+        code: b.code,
+        len: b.len,
     }
+}
+
+// The subroutine at a place: its number and its bytes.
+fn read_subroutine(v: &[u8], at: usize, count: usize) -> Step {
+    let from = skip_space(v, at);
+    let n = read_whole(v, from);
+    if n.next == from {
+        return stop(BAD_SUBROUTINE, from);
+    }
+    let number = n.value as usize;
+    if number >= count {
+        return stop(NO_SUCH_PLACE, from);
+    }
+    listed(number, read_binary(v, n.next))
 }
 
 // The next word of the subroutines: `dup` begins one, and a name ends them.
-fn step_subroutines(
-    v: &[u8],
-    from: usize,
-    count: usize,
-    starts: &mut [u64],
-    lens: &mut [u64],
-) -> Step {
+fn step_subroutines(v: &[u8], from: usize, count: usize) -> Step {
     let at = skip_space(v, from);
     if at >= v.len() || byte(v, at) == b'/' {
-        return Step {
-            what: 0,
-            next: at,
-            done: true,
-        };
+        return stop(0, at);
     }
     let end = token_end(v, at);
-    if is_word(v, at, end, b"dup") {
-        return list_subroutine(v, end, count, starts, lens);
+    if is_dup(v, at, end) {
+        return read_subroutine(v, end, count);
     }
-    Step {
-        what: 0,
-        next: end,
-        done: false,
-    }
+    pass(end)
 }
 
+// The place of each subroutine's bytes and their length go into the two lists.
 fn list_subroutines(
     v: &[u8],
     from: usize,
@@ -429,7 +443,9 @@ fn list_subroutines(
     let mut turns = v.len();
     while turns > 0 {
         turns -= 1;
-        let s = step_subroutines(v, at, count, starts, lens);
+        let s = step_subroutines(v, at, count);
+        put_word(starts, s.number, s.code as u64);
+        put_word(lens, s.number, s.len as u64);
         at = s.next;
         if s.done {
             return Trouble { what: s.what, at };
@@ -445,14 +461,21 @@ pub(crate) struct Subroutines {
     pub count: usize,
 }
 
+fn find_subroutines(v: &[u8], private: usize) -> usize {
+    find(v, private, b"/Subrs")
+}
+
+fn read_count(v: &[u8], at: usize) -> Whole {
+    read_whole(v, skip_space(v, place(at, 6)))
+}
+
 pub(crate) fn read_subroutines(
     v: &[u8],
     private: usize,
     starts: &mut [u64],
     lens: &mut [u64],
 ) -> Subroutines {
-    let at = find(v, private, b"/Subrs");
-    let n = read_whole(v, skip_space(v, place(at, 6)));
+    let at = find_subroutines(v, private);
     if at == v.len() {
         return Subroutines {
             what: 0,
@@ -460,6 +483,7 @@ pub(crate) fn read_subroutines(
             count: 0,
         };
     }
+    let n = read_count(v, at);
     let count = n.value as usize;
     if count > starts.len() || count > 65535 {
         return Subroutines {
@@ -502,6 +526,17 @@ pub(crate) fn bank_length(lens: &[u64], count: usize) -> usize {
     n
 }
 
+// Offset i of a bank.
+fn put_offset(bank: &mut [u8], i: usize, offset: usize) {
+    put_u32(bank, place(2, four_times(i)), offset);
+}
+
+// Offset i of a bank, and the body that begins there.
+fn put_body(v: &[u8], start: usize, n: usize, i: usize, offset: usize, to: usize, bank: &mut [u8]) {
+    put_offset(bank, i, offset);
+    copy(v, start, n, bank, to);
+}
+
 // The bank: a count, the offsets, the bodies. Its length is bank_length's.
 pub(crate) fn build_bank(v: &[u8], starts: &[u64], lens: &[u64], count: usize, bank: &mut [u8]) {
     let table = place(6, four_times(count));
@@ -510,12 +545,12 @@ pub(crate) fn build_bank(v: &[u8], starts: &[u64], lens: &[u64], count: usize, b
     put_u16(bank, 0, count);
     while i < count {
         let n = word(lens, i) as usize;
-        put_u32(bank, place(2, four_times(i)), offset);
-        copy(v, word(starts, i) as usize, n, bank, place(table, offset));
+        let to = place(table, offset);
+        put_body(v, word(starts, i) as usize, n, i, offset, to, bank);
         offset = place(offset, n);
         i += 1;
     }
-    put_u32(bank, place(2, four_times(count)), offset);
+    put_offset(bank, count, offset);
 }
 
 // The place of the charstrings' first entry, or of the text's end.
@@ -612,18 +647,24 @@ fn closing(v: &[u8], from: usize) -> usize {
     from
 }
 
+fn find_matrix(v: &[u8]) -> usize {
+    find(v, 0, b"/FontMatrix")
+}
+
+fn opens(b: u8) -> bool {
+    b == b'[' || b == b'{'
+}
+
 // The six numbers of the font's matrix; none where it has no matrix.
 pub(crate) fn font_matrix(v: &[u8]) -> Span {
-    let at = find(v, 0, b"/FontMatrix");
-    let open = skip_space(v, place(at, 11));
-    let first = place(open, 1);
-    let end = closing(v, first);
-    if byte(v, open) != b'[' && byte(v, open) != b'{' {
+    let open = skip_space(v, place(find_matrix(v), 11));
+    if !opens(byte(v, open)) {
         return Span { at: 0, len: 0 };
     }
+    let first = place(open, 1);
     Span {
         at: first,
-        len: less(end, first),
+        len: less(closing(v, first), first),
     }
 }
 

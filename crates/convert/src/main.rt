@@ -752,6 +752,30 @@ fn setup_of(v: &[u8], private: usize, first: usize, o: Options) -> Setup {
     }
 }
 
+// Reads the subroutines of a decrypted text and builds their bank: its length, in `count`.
+fn load_bank(v: &[u8], private: usize, bank: &mut [u8]) -> font::Subroutines {
+    let mut starts = subroutine_list();
+    let mut lens = subroutine_list();
+    let s = font::read_subroutines(v, private, &mut starts, &mut lens);
+    if s.what != 0 {
+        return s;
+    }
+    let n = font::bank_length(&lens, s.count);
+    if n > BANK_BYTES {
+        return font::Subroutines {
+            what: font::TOO_LARGE_BANK,
+            at: s.at,
+            count: n,
+        };
+    }
+    font::build_bank(v, &starts, &lens, s.count, bank);
+    font::Subroutines {
+        what: 0,
+        at: s.at,
+        count: n,
+    }
+}
+
 // Builds the bank of a decrypted text, and converts its glyphs.
 fn convert_text(path: &[u8], v: &[u8], private: usize, o: Options) -> Trouble {
     let first = font::charstrings(v, private);
@@ -761,28 +785,18 @@ fn convert_text(path: &[u8], v: &[u8], private: usize, o: Options) -> Trouble {
             at: first,
         };
     }
-    let mut starts = subroutine_list();
-    let mut lens = subroutine_list();
     let mut bank = bank_store();
-    let s = font::read_subroutines(v, private, &mut starts, &mut lens);
-    if s.what != 0 {
+    let b = load_bank(v, private, &mut bank);
+    if b.what != 0 {
         return Trouble {
-            what: s.what,
-            at: s.at,
+            what: b.what,
+            at: b.at,
         };
     }
-    let n = font::bank_length(&lens, s.count);
-    if n > BANK_BYTES {
-        return Trouble {
-            what: font::TOO_LARGE_BANK,
-            at: s.at,
-        };
-    }
-    font::build_bank(v, &starts, &lens, s.count, &mut bank);
     convert_glyphs(
         path,
         v,
-        part(&bank, 0, n),
+        part(&bank, 0, b.count),
         setup_of(v, private, first, o),
         o,
     )

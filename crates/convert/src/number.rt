@@ -87,37 +87,45 @@ struct Exponent {
     next: usize,
 }
 
+fn is_e(b: u8) -> bool {
+    b == b'e' || b == b'E'
+}
+
+// The place after a sign, if one stands at a place.
+fn after_sign(v: &[u8], at: usize) -> usize {
+    let b = byte(v, at);
+    if b == b'-' || b == b'+' {
+        place(at, 1)
+    } else {
+        at
+    }
+}
+
+fn signed_exponent(n: Whole, minus: bool) -> Exponent {
+    let size = n.value as usize;
+    Exponent {
+        up: if minus { 0 } else { size },
+        down: if minus { size } else { 0 },
+        next: n.next,
+    }
+}
+
 fn read_exponent(v: &[u8], at: usize) -> Exponent {
     let none = Exponent {
         up: 0,
         down: 0,
         next: at,
     };
-    if byte(v, at) != b'e' && byte(v, at) != b'E' {
+    if !is_e(byte(v, at)) {
         return none;
     }
-    let sign = byte(v, place(at, 1));
-    let from = if sign == b'-' || sign == b'+' {
-        place(at, 2)
-    } else {
-        place(at, 1)
-    };
+    let sign = place(at, 1);
+    let from = after_sign(v, sign);
     let n = read_whole(v, from);
     if n.next == from {
         return none;
     }
-    if sign == b'-' {
-        return Exponent {
-            up: 0,
-            down: n.value as usize,
-            next: n.next,
-        };
-    }
-    Exponent {
-        up: n.value as usize,
-        down: 0,
-        next: n.next,
-    }
+    signed_exponent(n, byte(v, sign) == b'-')
 }
 
 // The unsigned decimal number at a place.

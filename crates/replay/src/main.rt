@@ -1,16 +1,15 @@
 // Compares our functions with vectors recorded from the Rust (tools/oracle/VECTORS.md has their layout).
 // Prints for each file of vectors the function's name, how many were compared and how many differ, then the sums.
 ghost use mathlib.Core.Path.{_≡_};
-ghost use mathlib.Core.List.{_++_};
-ghost use Prim.Native.Nat.{_-_};
-ghost use lib.Dec.{T};
-ghost use lib.ListN.{length, getD, replicate};
-ghost use lib.Ieee.{binary64, ofBits};
-ghost use Rattle.widths.specs.Widths.{zeroWidth};
+ghost use lib.ListN.{length, replicate};
 ghost use Rattle.type1.specs.Interpret.{outcome, Leaves};
 ghost use Rattle.type1_to_type2.specs.Convert as Convert;
 ghost use Rattle.type1_to_type2.specs.Entry.{Converts};
 ghost use Rattle.replay.specs.Stores.{usedStem, afterRun, afterConverting};
+use compare::from_pattern;
+use compare::holds;
+use compare::is_cleared;
+use compare::same;
 use libc::STDOUT_FILENO;
 
 // The most bytes of a payload.
@@ -95,30 +94,9 @@ fn after_string(v: &[u8], at: usize) -> usize {
     place(place(at, 8), size(v, at))
 }
 
-// The double of a bit pattern, every NaN's alike.
-fn from_pattern(bits: u64) -> f64
-    ensures { λ r. ⌜ r ≡ ofBits binary64 bits ⌝ }
-{
-    if bits % 0x8000_0000_0000_0000 > 0x7FF0_0000_0000_0000 {
-        0.0 / 0.0
-    } else {
-        f64::from_bits(bits)
-    }
-}
-
 // The double at a place.
 fn double(v: &[u8], at: usize) -> f64 {
     from_pattern(number(v, at))
-}
-
-// Both are a NaN, or they are equal and, where zero, of one sign.
-fn same(x: f64, y: f64) -> bool
-    ensures { λ r. ⌜ (T r → x ≡ y) ⌝ }
-{
-    if x == y {
-        return if x == 0.0 { 1.0 / x == 1.0 / y } else { true };
-    }
-    if x == x { false } else { y != y }
 }
 
 // The signed number at a place, in two's complement.
@@ -129,27 +107,6 @@ fn signed(v: &[u8], at: usize) -> i64 {
     } else {
         !((u64::MAX - bits) as i64)
     }
-}
-
-// The byte at a place; rest beyond the end.
-fn byte_or(front: &[u8], at: usize, rest: u8) -> u8
-    ensures { λ r. ⌜ r ≡ getD (now (front .entry)) at rest ⌝ }
-{
-    if at < front.len() { front[at] } else { rest }
-}
-
-// The bytes of out are those of front, then each is rest.
-fn holds(out: &[u8], front: &[u8], rest: u8) -> bool
-    ensures { λ r. ⌜ (T r → now (out .entry) ≡ now (front .entry) ++ replicate (length (now (out .entry)) - length (now (front .entry))) rest) ⌝ }
-{
-    let mut i: usize = 0;
-    while i < out.len() {
-        if out[i] != byte_or(front, i, rest) {
-            return false;
-        }
-        i += 1;
-    }
-    front.len() <= out.len()
 }
 
 // The payload of a vector with one argument and one result is 17 bytes.
@@ -219,6 +176,24 @@ fn output() -> [u8; 512]
     [BEFORE; 512]
 }
 
+// The bytes from a place on; none beyond the end.
+fn rest(v: &[u8], at: usize) -> &[u8] {
+    if v.len() < at {
+        return &v[..0];
+    }
+    &v[at..]
+}
+
+// From a place on an output is as before the call.
+fn is_unchanged(out: &[u8], at: usize) -> bool {
+    holds(rest(out, at), b"", BEFORE)
+}
+
+// The first `room` bytes of an output are front, then zeros, and behind them nothing has changed.
+fn is_written(out: &[u8], room: usize, front: &[u8]) -> bool {
+    holds(part(out, 0, room), front, 0) && is_unchanged(out, room)
+}
+
 // An output that is long enough: the plain bytes, then zeros.
 fn decrypts(data: &[u8], len_iv: usize, plain: &[u8], out: &mut [u8]) -> bool {
     let r = charstring::decrypt_charstring(data, len_iv, out);
@@ -234,12 +209,8 @@ fn refuses_short(data: &[u8], len_iv: usize, plain: &[u8], out: &mut [u8]) -> bo
     if out.len() < room {
         return false;
     }
-    let behind = out.len() - room;
     let r = charstring::decrypt_charstring(data, len_iv, &mut out[..room]);
-    r.number == 18
-        && r.length == 0
-        && holds(part(out, 0, room), b"", 0)
-        && holds(part(out, room, behind), b"", BEFORE)
+    r.number == 18 && r.length == 0 && is_written(out, room, b"")
 }
 
 fn compare_decrypt_charstring(v: &[u8]) -> bool {
@@ -266,16 +237,23 @@ fn small_output() -> [u8; 8]
     [BEFORE; 8]
 }
 
+// A push that is refused: the number, and nothing changes.
+fn is_refused(r: type2::Pushed, refusal: u64, out: &[u8]) -> bool {
+    r.number as u64 == refusal && r.next == 0 && is_unchanged(out, 0)
+}
+
+// The bytes of an output from the second on are the pushed ones, and nothing else changes.
+fn is_pushed(out: &[u8], bytes: &[u8]) -> bool {
+    holds(part(out, 0, 1), b"", BEFORE) && holds(rest(out, 1), bytes, BEFORE)
+}
+
 // Into an output that is long enough, at its second byte: the bytes, and nothing else changes.
 fn pushes(x: f64, refusal: u64, bytes: &[u8], out: &mut [u8]) -> bool {
     let r = type2::push_number(out, 1, x);
     if refusal != 0 {
-        return r.number as u64 == refusal && r.next == 0 && holds(out, b"", BEFORE);
+        return is_refused(r, refusal, out);
     }
-    r.number == 0
-        && r.next == place(bytes.len(), 1)
-        && holds(part(out, 0, 1), b"", BEFORE)
-        && holds(part(out, 1, 7), bytes, BEFORE)
+    r.number == 0 && r.next == place(bytes.len(), 1) && is_pushed(out, bytes)
 }
 
 // Into an output that is one byte short: the refusal before, else 18, and nothing changes.
@@ -285,8 +263,7 @@ fn refuses_push(x: f64, refusal: u64, bytes: &[u8], out: &mut [u8]) -> bool {
         return false;
     }
     let r = type2::push_number(&mut out[..room], 1, x);
-    let expected = if refusal != 0 { refusal } else { 18 };
-    r.number as u64 == expected && r.next == 0 && holds(out, b"", BEFORE)
+    is_refused(r, if refusal != 0 { refusal } else { 18 }, out)
 }
 
 fn compare_push_number(v: &[u8]) -> bool {
@@ -325,25 +302,12 @@ fn read_doubles(v: &[u8], from: usize, to: &mut [f64]) -> usize {
     at
 }
 
-// 0.0 below n, rest from n on.
-fn zero_or(n: usize, at: usize, rest: f64) -> f64
-    ensures { λ r. ⌜ r ≡ getD (replicate n zeroWidth) at rest ⌝ }
-{
-    if at < n { 0.0 } else { rest }
-}
-
-// The first n of xs are 0.0, and each other is rest.
-fn is_cleared(xs: &[f64], n: usize, rest: f64) -> bool
-    ensures { λ r. ⌜ (T r → now (xs .entry) ≡ replicate n zeroWidth ++ replicate (length (now (xs .entry)) - n) rest) ⌝ }
-{
-    let mut i: usize = 0;
-    while i < xs.len() {
-        if !same(xs[i], zero_or(n, i, rest)) {
-            return false;
-        }
-        i += 1;
-    }
-    n <= xs.len()
+// The widths are the vector's results, which begin at a place.
+fn is_chosen(r: widths::Chosen, v: &[u8], at: usize) -> bool {
+    r.number == number(v, at)
+        && same(r.default_width_x, double(v, place(at, 8)))
+        && same(r.nominal_width_x, double(v, place(at, 16)))
+        && v.len() == place(at, 24)
 }
 
 // With a scratch of `room`: the results at a place, the scratch cleared, and nothing behind it changes.
@@ -352,11 +316,7 @@ fn chooses(ws: &[f64], room: usize, v: &[u8], at: usize, scratch: &mut [f64]) ->
         return false;
     }
     let r = widths::choose_widths(ws, &mut scratch[..room]);
-    r.number == number(v, at)
-        && same(r.default_width_x, double(v, place(at, 8)))
-        && same(r.nominal_width_x, double(v, place(at, 16)))
-        && v.len() == place(at, 24)
-        && is_cleared(scratch, room, UNUSED)
+    is_chosen(r, v, at) && is_cleared(scratch, room, UNUSED)
 }
 
 fn compare_widths(v: &[u8], n: usize, ws: &mut [f64], scratch: &mut [f64]) -> bool {
@@ -477,6 +437,22 @@ fn word(words: &[u64], entry: usize, k: usize) -> u64 {
 // The kind of an entry that starts a group.
 const GROUP: u64 = 5;
 
+// The place after the vector's group at a place, which is that of an entry whose records begin at `used`; 0 where it is not.
+fn after_group(
+    words: &[u64],
+    entry: usize,
+    used: u64,
+    stems: [type1::Stem; RECORDS],
+    v: &[u8],
+    at: usize,
+) -> usize {
+    let count = word(words, entry, 2);
+    if word(words, entry, 1) != used || count != number(v, at) {
+        return 0;
+    }
+    after_stems(stems, used as usize, count as usize, v, place(at, 8))
+}
+
 // The place after a vector's groups, which begin with their count; 0 where one differs.
 // A group's entry has the first of its records, which follow those of the group before, and their count.
 fn after_groups(words: &[u64], r: AfterRun, v: &[u8], from: usize) -> usize {
@@ -489,16 +465,12 @@ fn after_groups(words: &[u64], r: AfterRun, v: &[u8], from: usize) -> usize {
     let mut e: usize = 0;
     while e < entries {
         if word(words, e, 0) == GROUP {
-            let count = word(words, e, 2);
-            if word(words, e, 1) != used || count != number(v, at) {
-                return 0;
-            }
-            at = after_stems(stems, used as usize, count as usize, v, place(at, 8));
+            at = after_group(words, e, used, stems, v, at);
             if at == 0 {
                 return 0;
             }
             groups = sum(groups, 1);
-            used = sum(used, count);
+            used = sum(used, word(words, e, 2));
         }
         e += 1;
     }
@@ -608,6 +580,16 @@ fn is_refusal(words: &[u64], r: AfterRun) -> bool {
         && all_blank(stems)
 }
 
+// A run that is not refused: width, bytes run, groups and commands are the vector's, from a place on.
+fn is_ended(words: &[u64], r: AfterRun, v: &[u8], at: usize) -> bool {
+    let answer = r.answer;
+    if !same(answer.width, double(v, at)) || answer.ran != size(v, place(at, 8)) {
+        return false;
+    }
+    let commands = after_groups(words, r, v, place(at, 16));
+    commands != 0 && after_commands(words, answer.entries, v, commands) == v.len()
+}
+
 // The run is that of the vector's results, which begin at a place.
 fn is_run(words: &[u64], r: AfterRun, v: &[u8], at: usize) -> bool {
     let answer = r.answer;
@@ -617,11 +599,7 @@ fn is_run(words: &[u64], r: AfterRun, v: &[u8], at: usize) -> bool {
     if answer.number != 0 {
         return v.len() == place(at, 8) && is_refusal(words, r);
     }
-    if !same(answer.width, double(v, place(at, 8))) || answer.ran != size(v, place(at, 16)) {
-        return false;
-    }
-    let commands = after_groups(words, r, v, place(at, 24));
-    commands != 0 && after_commands(words, answer.entries, v, commands) == v.len()
+    is_ended(words, r, v, place(at, 8))
 }
 
 fn compare_run(v: &[u8]) -> bool {
@@ -791,6 +769,29 @@ fn rooms_at(v: &[u8]) -> usize {
     after_short_string(v, bank_at(v))
 }
 
+// Converts a vector's charstring.
+fn convert_vector(v: &[u8], words: &mut [u64], out: &mut [u8]) -> AfterConverting {
+    convert(
+        short_string(v, charstring_at(v)),
+        short_string(v, bank_at(v)),
+        nth_short(v, 1, 6) as usize,
+        short_matrix(v, 1),
+        words,
+        out,
+    )
+}
+
+// The answer is the vector's, which begins at a place, and the stem store is zero.
+fn is_converted(r: AfterConverting, v: &[u8], at: usize) -> bool {
+    let stems = r.stems;
+    is_answer(r.answer, v, at) && all_blank(stems)
+}
+
+// The program of a vector's answer.
+fn program(v: &[u8], answer_at: usize) -> &[u8] {
+    short_string(v, after_shorts(v, answer_at, 3))
+}
+
 // Converts with so many words and bytes: the vector's answer, the program and zeros, the stores zero,
 // and nothing behind what is lent changes.
 fn converts(v: &[u8], room: usize, bytes: usize, words: &mut [u64], out: &mut [u8]) -> bool {
@@ -800,26 +801,11 @@ fn converts(v: &[u8], room: usize, bytes: usize, words: &mut [u64], out: &mut [u
     if out.len() < bytes {
         return false;
     }
-    let behind = out.len() - bytes;
-    let r = convert(
-        short_string(v, charstring_at(v)),
-        short_string(v, bank_at(v)),
-        nth_short(v, 1, 6) as usize,
-        short_matrix(v, 1),
-        &mut words[..room],
-        &mut out[..bytes],
-    );
+    let r = convert_vector(v, &mut words[..room], &mut out[..bytes]);
     let answer_at = after_shorts(v, rooms_at(v), 2);
-    let stems = r.stems;
-    is_answer(r.answer, v, answer_at)
-        && holds(
-            part(out, 0, bytes),
-            short_string(v, after_shorts(v, answer_at, 3)),
-            0,
-        )
-        && holds(part(out, bytes, behind), b"", BEFORE)
+    is_converted(r, v, answer_at)
+        && is_written(out, bytes, program(v, answer_at))
         && is_wiped(words, room)
-        && all_blank(stems)
 }
 
 fn compare_convert(v: &[u8]) -> bool {
@@ -835,6 +821,29 @@ fn compare_convert(v: &[u8]) -> bool {
     converts(v, room, bytes, &mut words, &mut out)
 }
 
+// Finishes a vector's glyph with the widths at a place.
+fn finish(
+    glyph: type1_to_type2::Type2Glyph,
+    v: &[u8],
+    widths: usize,
+    out: &mut [u8],
+) -> type1_to_type2::Finished {
+    glyph.charstring(
+        string(v, 9),
+        double(v, widths),
+        double(v, place(widths, 8)),
+        out,
+    )
+}
+
+// The number is the vector's, and the length that of its finished bytes.
+fn is_finished(f: type1_to_type2::Finished, v: &[u8], widths: usize) -> bool {
+    let bytes_at = place(widths, 32);
+    v.len() == after_string(v, bytes_at)
+        && f.number == number(v, place(widths, 24))
+        && f.len == string(v, bytes_at).len()
+}
+
 // Finishes a glyph into a part of the output: the bytes, then zeros; behind the part nothing changes.
 fn finishes(
     glyph: type1_to_type2::Type2Glyph,
@@ -846,21 +855,8 @@ fn finishes(
     if out.len() < room {
         return false;
     }
-    let behind = out.len() - room;
-    let program = string(v, 9);
-    let bytes_at = place(widths, 32);
-    let f = glyph.charstring(
-        program,
-        double(v, widths),
-        double(v, place(widths, 8)),
-        &mut out[..room],
-    );
-    let bytes = string(v, bytes_at);
-    v.len() == after_string(v, bytes_at)
-        && f.number == number(v, place(widths, 24))
-        && f.len == bytes.len()
-        && holds(part(out, 0, room), bytes, 0)
-        && holds(part(out, room, behind), b"", BEFORE)
+    let f = finish(glyph, v, widths, &mut out[..room]);
+    is_finished(f, v, widths) && is_written(out, room, string(v, place(widths, 32)))
 }
 
 fn compare_finish(v: &[u8]) -> bool {
@@ -885,25 +881,28 @@ fn closepaths() -> [u8; LONG]
 }
 
 // Converts so many bytes `09`, not encrypted.
-fn compare_closepaths(v: &[u8]) -> bool {
+fn convert_closepaths(n: usize, bank: &[u8], words: &mut [u64], out: &mut [u8]) -> AfterConverting {
     let code = closepaths();
+    convert(
+        part(&code, 0, n),
+        bank,
+        usize::MAX,
+        geometry::Matrix::identity(),
+        words,
+        out,
+    )
+}
+
+fn compare_closepaths(v: &[u8]) -> bool {
     let bank_at = after_short(v, 1);
     let answer_at = after_short_string(v, bank_at);
     let mut words = few_words();
     let mut out = few_bytes();
-    let r = convert(
-        part(&code, 0, short(v, 1) as usize),
-        short_string(v, bank_at),
-        usize::MAX,
-        geometry::Matrix::identity(),
-        &mut words,
-        &mut out,
-    );
-    let stems = r.stems;
-    is_answer(r.answer, v, answer_at)
-        && holds(&out, short_string(v, after_shorts(v, answer_at, 3)), 0)
+    let bank = short_string(v, bank_at);
+    let r = convert_closepaths(short(v, 1) as usize, bank, &mut words, &mut out);
+    is_converted(r, v, answer_at)
+        && holds(&out, program(v, answer_at), 0)
         && is_wiped(&words, FEW_WORDS)
-        && all_blank(stems)
 }
 
 // Our function gives what the vector says. A vector of another kind than its file's counts as different.
@@ -1043,27 +1042,46 @@ fn replay(name: &[u8], file: &[u8], kind: u64, before: Tally) -> Tally {
     }
 }
 
-fn main() {
-    let mut t = Tally {
-        compared: 0,
-        different: 0,
-    };
-    t = replay(b"round", b"round.vec", 1, t);
+// The functions on doubles.
+fn replay_doubles(before: Tally) -> Tally {
+    let mut t = replay(b"round", b"round.vec", 1, before);
     t = replay(b"floor", b"floor.vec", 2, t);
     t = replay(b"abs", b"abs.vec", 3, t);
     t = replay(b"is_finite", b"is_finite.vec", 4, t);
     t = replay(b"to_usize", b"to_usize.vec", 5, t);
-    t = replay(b"to_i64", b"to_i64.vec", 6, t);
-    t = replay(b"round10", b"round10.vec", 7, t);
+    replay(b"to_i64", b"to_i64.vec", 6, t)
+}
+
+// Those on points.
+fn replay_points(before: Tally) -> Tally {
+    let mut t = replay(b"round10", b"round10.vec", 7, before);
     t = replay(b"transform_point", b"transform_point.vec", 8, t);
-    t = replay(b"transform_delta", b"transform_delta.vec", 9, t);
-    t = replay(b"decrypt_charstring", b"decrypt_charstring.vec", 10, t);
+    replay(b"transform_delta", b"transform_delta.vec", 9, t)
+}
+
+// The cipher, Type 2 numbers and the widths of a font.
+fn replay_parts(before: Tally) -> Tally {
+    let mut t = replay(b"decrypt_charstring", b"decrypt_charstring.vec", 10, before);
     t = replay(b"quantize", b"quantize.vec", 11, t);
     t = replay(b"push_number", b"push_number.vec", 12, t);
-    t = replay(b"choose_widths", b"choose_widths.vec", 13, t);
-    t = replay(b"run", b"run.vec", 14, t);
+    replay(b"choose_widths", b"choose_widths.vec", 13, t)
+}
+
+// The run, converting and finishing.
+fn replay_glyphs(before: Tally) -> Tally {
+    let mut t = replay(b"run", b"run.vec", 14, before);
     t = replay(b"convert", b"convert.vec", 15, t);
     t = replay(b"finish", b"finish.vec", 16, t);
-    t = replay(b"closepaths", b"closepaths.vec", 17, t);
-    print(b"total", t);
+    replay(b"closepaths", b"closepaths.vec", 17, t)
+}
+
+fn main() {
+    let none = Tally {
+        compared: 0,
+        different: 0,
+    };
+    print(
+        b"total",
+        replay_glyphs(replay_parts(replay_points(replay_doubles(none)))),
+    );
 }

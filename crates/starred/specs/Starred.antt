@@ -24,7 +24,8 @@ use Rattle.type1_to_type2.specs.Writing.{Written, wrote, put, putNumbers, write
 use Rattle.type1_to_type2.specs.Convert as Convert
 use Rattle.type1_to_type2.specs.Convert.{Conversion, converted, instructions, convert}
 use Rattle.type1_to_type2.specs.Finish.{widthFor, finish}
-use Rattle.widths.specs.Widths.{count, keep, best, commonest, nominal, widthsOf, allFinite, chosen}
+use Rattle.sorting.specs.Order.{count, allFinite}
+use Rattle.widths.specs.Widths.{keep, best, commonest, nominal, widthsOf, chosen}
 
 -- "Cipher `00 00`, lenIV 0: `10 D8`."
 cipher : plain 0 (0x00 ∷ 0x00 ∷ []) ≡ 0x10 ∷ 0xD8 ∷ []

@@ -1,7 +1,5 @@
-pub mod Heaps
 pub mod Places
 pub mod Lists
-pub mod Steps
 pub mod Passes
 pub mod Adding
 pub mod Zeros

@@ -20,29 +20,17 @@ loop-holds c = omega arith
 word-requires : tie.Need-word-requires Inv-loop μ-loop
 word-requires c κs = search needs
 
-word-requires-2 : tie.Need-word-requires-2 Inv-loop μ-loop
-word-requires-2 c κs = search needs
-
-word-requires-3 : tie.Need-word-requires-3 Inv-loop μ-loop
-word-requires-3 c κs = search needs
-
-number-requires : tie.Need-number-requires Inv-loop μ-loop
-number-requires c κs = search needs
+after-group-requires : tie.Need-after-group-requires Inv-loop μ-loop
+after-group-requires c κs = search needs
 
 returns : tie.Need-returns Inv-loop μ-loop
 returns c = search needs
 
-place-requires-2 : tie.Need-place-requires-2 Inv-loop μ-loop
-place-requires-2 c κs = search needs
-
-after-stems-requires : tie.Need-after-stems-requires Inv-loop μ-loop
-after-stems-requires c κs = search needs
-
-returns-2 : tie.Need-returns-2 Inv-loop μ-loop
-returns-2 c = search needs
-
 sum-requires : tie.Need-sum-requires Inv-loop μ-loop
 sum-requires c κs = search needs
+
+word-requires-2 : tie.Need-word-requires-2 Inv-loop μ-loop
+word-requires-2 c κs = search needs
 
 sum-requires-2 : tie.Need-sum-requires-2 Inv-loop μ-loop
 sum-requires-2 c κs = search needs
@@ -56,14 +44,14 @@ loop-less c = search needs
 loop-again : tie.Need-loop-again Inv-loop μ-loop
 loop-again c = omega arith
 
-number-requires-2 : tie.Need-number-requires-2 Inv-loop μ-loop
-number-requires-2 c κs = search needs
+number-requires : tie.Need-number-requires Inv-loop μ-loop
+number-requires c κs = search needs
+
+returns-2 : tie.Need-returns-2 Inv-loop μ-loop
+returns-2 c = search needs
 
 returns-3 : tie.Need-returns-3 Inv-loop μ-loop
 returns-3 c = search needs
-
-returns-4 : tie.Need-returns-4 Inv-loop μ-loop
-returns-4 c = search needs
 
 pub after-groups-spec : {M : Type 1} → statement M
 after-groups-spec =
@@ -74,18 +62,14 @@ after-groups-spec =
     place-requires
     loop-holds
     word-requires
-    word-requires-2
-    word-requires-3
-    number-requires
+    after-group-requires
     returns
-    place-requires-2
-    after-stems-requires
-    returns-2
     sum-requires
+    word-requires-2
     sum-requires-2
     add-e
     loop-less
     loop-again
-    number-requires-2
-    returns-3
-    returns-4)
+    number-requires
+    returns-2
+    returns-3)

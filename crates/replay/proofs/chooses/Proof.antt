@@ -17,29 +17,8 @@ slice-aggregate-choose-widths c = simp length-take (omega arith)
 choose-widths-requires : tie.Need-choose-widths-requires
 choose-widths-requires c κs = search needs
 
-number-requires : tie.Need-number-requires
-number-requires c κs = search needs
-
-place-requires : tie.Need-place-requires
-place-requires c κs = search needs
-
-double-requires : tie.Need-double-requires
-double-requires c κs = search needs
-
-same-requires : tie.Need-same-requires
-same-requires c κs = search needs
-
-place-requires-2 : tie.Need-place-requires-2
-place-requires-2 c κs = search needs
-
-double-requires-2 : tie.Need-double-requires-2
-double-requires-2 c κs = search needs
-
-same-requires-2 : tie.Need-same-requires-2
-same-requires-2 c κs = search needs
-
-place-requires-3 : tie.Need-place-requires-3
-place-requires-3 c κs = search needs
+is-chosen-requires : tie.Need-is-chosen-requires
+is-chosen-requires c κs = search needs
 
 is-cleared-requires : tie.Need-is-cleared-requires
 is-cleared-requires c κs = search needs
@@ -64,14 +43,7 @@ chooses-spec =
     slice-relend-prefix-choose-widths
     slice-aggregate-choose-widths
     choose-widths-requires
-    number-requires
-    place-requires
-    double-requires
-    same-requires
-    place-requires-2
-    double-requires-2
-    same-requires-2
-    place-requires-3
+    is-chosen-requires
     is-cleared-requires
     same-length
     returns-2

@@ -17,26 +17,14 @@ slice-aggregate-push-number c = simp length-take (omega arith)
 push-number-requires : tie.Need-push-number-requires
 push-number-requires c κs = search needs
 
-cast-if3 : tie.Need-cast-if3
-cast-if3 c = search needs
-
-slice-aggregate-holds : tie.Need-slice-aggregate-holds
-slice-aggregate-holds c = search needs
-
-holds-requires : tie.Need-holds-requires
-holds-requires c κs = search needs
+is-refused-requires : tie.Need-is-refused-requires
+is-refused-requires c κs = search needs
 
 same-length : tie.Need-same-length
 same-length c = search needs
 
 returns-2 : tie.Need-returns-2
 returns-2 c = search needs
-
-same-length-2 : tie.Need-same-length-2
-same-length-2 c = search needs
-
-returns-3 : tie.Need-returns-3
-returns-3 c = search needs
 
 pub refuses-push-spec : {M : Type 1} → statement M
 refuses-push-spec =
@@ -46,10 +34,6 @@ refuses-push-spec =
     slice-relend-prefix-push-number
     slice-aggregate-push-number
     push-number-requires
-    cast-if3
-    slice-aggregate-holds
-    holds-requires
+    is-refused-requires
     same-length
-    returns-2
-    same-length-2
-    returns-3)
+    returns-2)

@@ -14,9 +14,6 @@ sub-room c = search needs
 returns-2 : tie.Need-returns-2
 returns-2 c = search needs
 
-sub-behind : tie.Need-sub-behind
-sub-behind c = search needs
-
 slice-relend-prefix-decrypt-charstring : tie.Need-slice-relend-prefix-decrypt-charstring
 slice-relend-prefix-decrypt-charstring c = search needs
 
@@ -26,23 +23,11 @@ slice-aggregate-decrypt-charstring c = simp length-take (omega arith)
 decrypt-charstring-requires : tie.Need-decrypt-charstring-requires
 decrypt-charstring-requires c κs = search needs
 
-part-requires : tie.Need-part-requires
-part-requires c κs = search needs
+slice-aggregate-is-written : tie.Need-slice-aggregate-is-written
+slice-aggregate-is-written c = search needs
 
-slice-aggregate-holds : tie.Need-slice-aggregate-holds
-slice-aggregate-holds c = search needs
-
-holds-requires : tie.Need-holds-requires
-holds-requires c κs = search needs
-
-part-requires-2 : tie.Need-part-requires-2
-part-requires-2 c κs = search needs
-
-slice-aggregate-holds-2 : tie.Need-slice-aggregate-holds-2
-slice-aggregate-holds-2 c = search needs
-
-holds-requires-2 : tie.Need-holds-requires-2
-holds-requires-2 c κs = search needs
+is-written-requires : tie.Need-is-written-requires
+is-written-requires c κs = search needs
 
 same-length : tie.Need-same-length
 same-length c = search needs
@@ -63,16 +48,11 @@ refuses-short-spec =
     returns
     sub-room
     returns-2
-    sub-behind
     slice-relend-prefix-decrypt-charstring
     slice-aggregate-decrypt-charstring
     decrypt-charstring-requires
-    part-requires
-    slice-aggregate-holds
-    holds-requires
-    part-requires-2
-    slice-aggregate-holds-2
-    holds-requires-2
+    slice-aggregate-is-written
+    is-written-requires
     same-length
     returns-3
     same-length-2

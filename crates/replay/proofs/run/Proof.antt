@@ -18,7 +18,7 @@ use prog.Wp.{Heap, Calls, Loops, WpFn, Tables}
 use ghost.Atoms.{Atoms}
 use contract.Monad.{Fun}
 use types.Kit.{Given, ‵, _⊛_, ⋆, mean, _$_, _∵_, !, qed, by, move, keep, drop, split, join, rewrite, fsplit, fjoin, feqL, use1, suffices, frame, done}
-use types.Run.{look, init, store, forget, stop, hop, fld, from, load, lit, addr, of-opd, and-then, no-more, assigns, land, returns, enter, alloc1, alloc0, params1, pass1, pass0, free1, free0}
+use types.Run.{look, init, store, stop, hop, fld, from, load, lit, addr, of-opd, and-then, no-more, assigns, land, returns, enter, alloc1, alloc0, params1, pass1, pass0}
 use types.Part.{agg, whole, sub, look-in}
 use sound.WpLaws.{FmC, fmOf, WpFn-mono}
 use denote.RattleType.{owns}
@@ -50,6 +50,7 @@ use Rattle.replay.proofs.AfterRun as E
 use Rattle.replay.proofs.AfterRun.Laws as E′
 use Rattle.type1.proofs.Lent.{at-list, Own, lend}
 use Rattle.type1.proofs.LentWith.{returned}
+use Rattle.type1.proofs.Leaving.{filled, leave}
 use Rattle.type1.proofs.Many.{GotAll, asks-all}
 use Rattle.type1.proofs.LentArray.{lend-array, array-back}
 use Rattle.type1.specs.Interpret.{outcome, Leaves}
@@ -210,8 +211,8 @@ module _ {M : Type 1} (𝓤 : URA M) (H : Heap 𝓤) (A : Atoms 𝓤) (W : Given
         -- `with_stems`
         nothing ! $ asks-all ! fm E.the-row (Is E.the-row) (shows 𝓤 H A E.the-row) (Unit {0} × (Unit {0} × Unit {0})) (λ (r : E.the-row .Denot) (lasts : (Unit {0} × (Unit {0} × Unit {0}))). r ≡ afterRun r2 (zs2 .1 .1 .1 .1 .0)) (λ (lasts : (Unit {0} × (Unit {0} × Unit {0}))). (fsep ftrue (fsep ftrue ftrue))) (‵ ftrue) (‵ ftrue) (machI r2 ∷ machA (zs2 .1 .1 .1 .1 .0) ∷ []) (with-stems-as 𝓤 H A mem run′ W C known-with-stems (r2) ((zs2 .1 .1 .1 .1 .0)) (mineI r2 w2 is2) ((mineA (zs2 .1 .1 .1 .1 .0) vstore istore))) (and-then ! (load ! (from ! (stop !)) (look ! 18 refl)) (and-then ! (load ! (from ! (stop !)) (look ! 16 refl)) (no-more !))) (λ w3 r3 zs3 e3 is3. land ! (from ! (stop !)) (init ! 31 refl (typedE 𝓤 H A W r3 _ is3)) $ rewrite ! 31 (λ (u : Val). ‵ (fat fullShare tEt l₀ 0 u)) (ap only (LL.tells E.the-type E′.the-laws r3 (w3 ∷ []) is3)) refl $ drop ! $ drop ! $ fsplit ! $ drop ! $ fsplit ! $ drop ! $ drop ! $
         owned ! E.the-row (Is E.the-row) (LL.makes E.the-type E′.the-plain 𝓤 H A) r3 _ (mineE r3 w3 is3) $
-        returns ! (look ! 29 refl) $ forget ! 29 refl $ forget ! 27 refl $ forget ! 25 refl $ forget ! 23 refl $ forget ! 21 refl $ forget ! 1 refl $ forget ! 18 refl $ forget ! 16 refl $ forget ! 14 refl $ forget ! 12 refl $ forget ! 10 refl $ forget ! 8 refl $
-        move ! (29 ∷ 30 ∷ []) $ free1 ! $ move ! (27 ∷ 28 ∷ []) $ free1 ! $ move ! (25 ∷ 26 ∷ []) $ free1 ! $ move ! (23 ∷ 24 ∷ []) $ free1 ! $ move ! (21 ∷ 22 ∷ []) $ free1 ! $ move ! (1 ∷ 20 ∷ []) $ free1 ! $ move ! (17 ∷ 18 ∷ []) $ free1 ! $ move ! (15 ∷ 16 ∷ []) $ free1 ! $ move ! (13 ∷ 14 ∷ []) $ free1 ! $ move ! (11 ∷ 12 ∷ []) $ free1 ! $ move ! (9 ∷ 10 ∷ []) $ free1 ! $ move ! (7 ∷ 8 ∷ []) $ free1 ! $ free0 ! $ keep ! (0 ∷ 6 ∷ 4 ∷ 5 ∷ 3 ∷ 1 ∷ 2 ∷ []) $ by ! (exits r3 (machE r3) (zs2 .1 .1 .1 .0) (left (xcharstring .now) (xbank .now) iv (length yswords) yswords (zs2 .1 .1 .1 .0) r2 r1 (zs2 .1 .1 .1 .1 .0) r3 e1 e3 e2) (lwords2)))))))))))))))))))))))
+        returns ! (look ! 29 refl) $ move ! (0 ∷ 7 ∷ 5 ∷ 6 ∷ 4 ∷ 2 ∷ 3 ∷ 8 ∷ 9 ∷ 10 ∷ 11 ∷ 12 ∷ 13 ∷ 14 ∷ 15 ∷ 16 ∷ 17 ∷ 18 ∷ 19 ∷ 1 ∷ 20 ∷ 21 ∷ 22 ∷ 23 ∷ 24 ∷ 25 ∷ 26 ∷ 27 ∷ 28 ∷ 29 ∷ 30 ∷ []) $
+        leave ! (_ ∷ _ ∷ _ ∷ _ ∷ _ ∷ _ ∷ _ ∷ []) (filled _ _ _ ∷ filled _ _ _ ∷ filled _ _ _ ∷ filled _ _ _ ∷ filled _ _ _ ∷ filled _ _ _ ∷ filled _ _ _ ∷ filled _ _ _ ∷ filled _ _ _ ∷ filled _ _ _ ∷ filled _ _ _ ∷ filled _ _ _ ∷ []) $ keep ! (0 ∷ 1 ∷ 2 ∷ 3 ∷ 4 ∷ 5 ∷ 6 ∷ []) $ by ! (exits r3 (machE r3) (zs2 .1 .1 .1 .0) (left (xcharstring .now) (xbank .now) iv (length yswords) yswords (zs2 .1 .1 .1 .0) r2 r1 (zs2 .1 .1 .1 .1 .0) r3 e1 e3 e2) (lwords2)))))))))))))))))))))))
 
 module _ {M : Type 1} (𝓤 : URA M) (H : Heap 𝓤) (A : Atoms 𝓤) (W : Given 𝓤 H A) (mem : Memory → SProp 𝓤) (run′ : Routine → Fun 𝓤) where
   meets : (𝓣 : Tables 𝓤 H) → (let C : Calls 𝓤 H = 𝓣 .C in Triple 𝓤 (C #replay·stem-store) (StemStoreC 𝓤 H A mem run′) → Triple 𝓤 (C #type1·run-charstring) (RunCharstringC 𝓤 H A mem run′) → Triple 𝓤 (C #replay·with-stems) (WithStemsC 𝓤 H A mem run′) → MeetsC 𝓤 H A f.signature (WpFn 𝓤 H (𝓣 .C) (𝓣 .Λ) code.function) (f.spec 𝓤 H A mem run′))

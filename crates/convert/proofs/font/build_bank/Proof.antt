@@ -27,26 +27,17 @@ loop-holds c = search needs
 word-requires : tie.Need-word-requires Inv-loop μ-loop
 word-requires c κs = search needs
 
-four-times-requires-2 : tie.Need-four-times-requires-2 Inv-loop μ-loop
-four-times-requires-2 c κs = search needs
-
 place-requires-2 : tie.Need-place-requires-2 Inv-loop μ-loop
 place-requires-2 c κs = search needs
-
-put-u32-requires : tie.Need-put-u32-requires Inv-loop μ-loop
-put-u32-requires c κs = search needs
 
 word-requires-2 : tie.Need-word-requires-2 Inv-loop μ-loop
 word-requires-2 c κs = search needs
 
+put-body-requires : tie.Need-put-body-requires Inv-loop μ-loop
+put-body-requires c κs = search needs
+
 place-requires-3 : tie.Need-place-requires-3 Inv-loop μ-loop
 place-requires-3 c κs = search needs
-
-copy-requires : tie.Need-copy-requires Inv-loop μ-loop
-copy-requires c κs = search needs
-
-place-requires-4 : tie.Need-place-requires-4 Inv-loop μ-loop
-place-requires-4 c κs = search needs
 
 add-i : tie.Need-add-i Inv-loop μ-loop
 add-i c = search needs
@@ -57,14 +48,8 @@ loop-less c = search needs
 loop-again : tie.Need-loop-again Inv-loop μ-loop
 loop-again c = search needs
 
-four-times-requires-3 : tie.Need-four-times-requires-3 Inv-loop μ-loop
-four-times-requires-3 c κs = search needs
-
-place-requires-5 : tie.Need-place-requires-5 Inv-loop μ-loop
-place-requires-5 c κs = search needs
-
-put-u32-requires-2 : tie.Need-put-u32-requires-2 Inv-loop μ-loop
-put-u32-requires-2 c κs = search needs
+put-offset-requires : tie.Need-put-offset-requires Inv-loop μ-loop
+put-offset-requires c κs = search needs
 
 same-length : tie.Need-same-length Inv-loop μ-loop
 same-length c = search needs
@@ -83,18 +68,13 @@ build-bank-spec =
     put-u16-requires
     loop-holds
     word-requires
-    four-times-requires-2
     place-requires-2
-    put-u32-requires
     word-requires-2
+    put-body-requires
     place-requires-3
-    copy-requires
-    place-requires-4
     add-i
     loop-less
     loop-again
-    four-times-requires-3
-    place-requires-5
-    put-u32-requires-2
+    put-offset-requires
     same-length
     returns)

@@ -20,6 +20,12 @@ sub-turns c = search needs
 step-subroutines-requires : tie.Need-step-subroutines-requires Inv-loop μ-loop
 step-subroutines-requires c κs = search needs
 
+put-word-requires : tie.Need-put-word-requires Inv-loop μ-loop
+put-word-requires c κs = search needs
+
+put-word-requires-2 : tie.Need-put-word-requires-2 Inv-loop μ-loop
+put-word-requires-2 c κs = search needs
+
 same-length : tie.Need-same-length Inv-loop μ-loop
 same-length c = search needs
 
@@ -56,6 +62,8 @@ list-subroutines-spec =
     loop-holds
     sub-turns
     step-subroutines-requires
+    put-word-requires
+    put-word-requires-2
     same-length
     same-length-2
     returns
