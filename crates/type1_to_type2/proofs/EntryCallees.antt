@@ -90,6 +90,8 @@ use Rattle.type1.proofs.run_charstring as run-charstring-f
 use Rattle.type1.proofs.run_charstring.Symbol.{name as #type1·run-charstring}
 use Rattle.type1_to_type2.proofs.convert_run as convert-run-f
 use Rattle.type1_to_type2.proofs.convert_run.Symbol.{name as #type1-to-type2·convert-run}
+use Rattle.type1_to_type2.proofs.convert_stored as convert-stored-f
+use Rattle.type1_to_type2.proofs.convert_stored.Symbol.{name as #type1-to-type2·convert-stored}
 use Rattle.geometry.proofs.Matrix.identity as Matrix·identity-f
 use Rattle.geometry.proofs.Matrix.identity.Symbol.{name as #geometry·Matrix·identity}
 use Rattle.type1_to_type2.proofs.convert_charstring_transformed as convert-charstring-transformed-f
@@ -134,6 +136,9 @@ module _ {M : Type 1} (𝓤 : URA M) (H : Heap 𝓤) (A : Atoms 𝓤) (mem : Mem
 
   abbrev pub ConvertRunC : Contract 𝓤
   ConvertRunC = tripleOf 𝓤 H A convert-run-f.signature (convert-run-f.spec 𝓤 H A mem run′)
+
+  abbrev pub ConvertStoredC : Contract 𝓤
+  ConvertStoredC = tripleOf 𝓤 H A convert-stored-f.signature (convert-stored-f.spec 𝓤 H A mem run′)
 
   abbrev pub IdentityC : Contract 𝓤
   IdentityC = tripleOf 𝓤 H A Matrix·identity-f.signature (Matrix·identity-f.spec 𝓤 H A mem run′)
@@ -219,6 +224,12 @@ module _ {M : Type 1} (𝓤 : URA M) (H : Heap 𝓤) (A : Atoms 𝓤) (mem : Mem
   convert-run-as known κstems qstems mstems bstems ostems γstems ysstems κcommands qcommands mcommands bcommands ocommands γcommands yscommands κacross qacross bacross oacross γacross ysacross κupright qupright bupright oupright γupright ysupright κmask qmask bmask omask γmask ysmask κout qout mout bout oout γout ysout ri number m ri-fits number-fits m-fits need =
       let y : ConvertRunC 𝓤 H A mem run′ .Ghost = (((κstems, (κcommands, (κacross, (κupright, (κmask, (κout, tt)))))), (qstems, (qcommands, (qacross, (qupright, (qmask, (qout, tt)))))), tt, (ri, (number, (m, (at-list T.the-row mstems bstems ostems γstems ysstems, (at-list u64 mcommands bcommands ocommands γcommands yscommands, (at-one (Array f64 192) bacross oacross γacross ysacross, (at-one (Array f64 192) bupright oupright γupright ysupright, (at-one (Array bool 96) bmask omask γmask ysmask, (at-list u8 mout bout oout γout ysout, tt))))))))), (machI ri ∷ [], (vint w64 number ∷ [], (machZ m ∷ [], (sliceVal (bstems, ostems) mstems ∷ [], (sliceVal (bcommands, ocommands) mcommands ∷ [], (vptr bacross oacross ∷ [], (vptr bupright oupright ∷ [], (vptr bmask omask ∷ [], (sliceVal (bout, oout) mout ∷ [], tt)))))))))), tt) in
       via 𝓤 (ConvertRunC 𝓤 H A mem run′ .pre y) (qed W (((‵ (flft κstems qstems) ⊛ ‵ (Own T.the-row mstems bstems ostems κstems γstems ysstems)) ⊛ ((‵ (flft κcommands qcommands) ⊛ ‵ (Own u64 mcommands bcommands ocommands κcommands γcommands yscommands)) ⊛ ((‵ (flft κacross qacross) ⊛ ‵ (OwnR (Array f64 192) bacross oacross κacross γacross ysacross)) ⊛ ((‵ (flft κupright qupright) ⊛ ‵ (OwnR (Array f64 192) bupright oupright κupright γupright ysupright)) ⊛ ((‵ (flft κmask qmask) ⊛ ‵ (OwnR (Array bool 96) bmask omask κmask γmask ysmask)) ⊛ (‵ (flft κout qout) ⊛ ‵ (Own u8 mout bout oout κout γout ysout))))))) ∷ []) ∵ says ! need $ split ! $ move ! (1 ∷ []) $ split ! $ move ! (1 ∷ []) $ split ! $ move ! (1 ∷ []) $ split ! $ move ! (1 ∷ []) $ split ! $ move ! (5 ∷ []) $ split ! $ move ! (6 ∷ []) $ split ! $ move ! (7 ∷ []) $ split ! $ move ! (8 ∷ []) $ split ! $ move ! (8 ∷ []) $ split ! $ move ! (10 ∷ []) $ split ! $ nothing ! $ move ! (2 ∷ 0 ∷ []) $ fjoin ! $ move ! (3 ∷ 0 ∷ []) $ fjoin ! $ move ! (4 ∷ 0 ∷ []) $ fjoin ! $ move ! (5 ∷ 0 ∷ []) $ fjoin ! $ move ! (6 ∷ 0 ∷ []) $ fjoin ! $ move ! (7 ∷ 0 ∷ []) $ fjoin ! $ owned ! Z.the-row (Is Z.the-row) (LL.makes Z.the-type Z′.the-plain 𝓤 H A) m _ m-fits $ fjoin ! $ owned ! u64 (Is u64) (uint-makes 𝓤 H A W w64) number _ (refl, number-fits) $ fjoin ! $ owned ! I.the-row (Is I.the-row) (LL.makes I.the-type I′.the-plain 𝓤 H A) ri _ ri-fits $ fjoin ! $ nothing ! $ move ! (2 ∷ 0 ∷ []) $ join ! $ move ! (2 ∷ 0 ∷ []) $ join ! $ move ! (2 ∷ 0 ∷ []) $ join ! $ move ! (2 ∷ 0 ∷ []) $ join ! $ move ! (2 ∷ 0 ∷ []) $ join ! $ move ! (2 ∷ 0 ∷ []) $ join ! $ frame ! $ done !) (known y)
+
+  pub convert-stored-as : Triple 𝓤 (C #type1-to-type2·convert-stored) (ConvertStoredC 𝓤 H A mem run′) → (κstems : Lft) (qstems : Share) (mstems bstems ostems : ℕ) (γstems : GName) (ysstems : List Stem) (κcommands : Lft) (qcommands : Share) (mcommands bcommands ocommands : ℕ) (γcommands : GName) (yscommands : List ℕ) (κout : Lft) (qout : Share) (mout bout oout : ℕ) (γout : GName) (ysout : List ℕ) (ri : Interpreted) (number : ℕ) (m : Matrix) → Is I.the-row ri (machI ri ∷ []) → number < 2 ^ 64 → Is Z.the-row m (machZ m ∷ []) → Stored (ri .entries) yscommands ysstems
+      → ent 𝓤 (mean 𝓤 H A ((‵ (flft κstems qstems) ⊛ ‵ (Own T.the-row mstems bstems ostems κstems γstems ysstems)) ⊛ ((‵ (flft κcommands qcommands) ⊛ ‵ (Own u64 mcommands bcommands ocommands κcommands γcommands yscommands)) ⊛ (‵ (flft κout qout) ⊛ ‵ (Own u8 mout bout oout κout γout ysout))))) (C #type1-to-type2·convert-stored (machI ri ∷ vint w64 number ∷ machZ m ∷ sliceVal (bstems, ostems) mstems ∷ sliceVal (bcommands, ocommands) mcommands ∷ sliceVal (bout, oout) mout ∷ []) (λ w. mean 𝓤 H A (GotAll 𝓤 G.the-row (Unit {0} × (Unit {0} × (Unit {0} × (List Stem × (List ℕ × (List ℕ × Unit {0})))))) (λ (r : G.the-row .Denot) (lasts : (Unit {0} × (Unit {0} × (Unit {0} × (List Stem × (List ℕ × (List ℕ × Unit {0}))))))). (lasts .1 .1 .1 .0 ≡ ysstems) × ((lasts .1 .1 .1 .1 .0 ≡ yscommands) × Answers (fromRun number m (length ysout) ri yscommands ysstems) (length ysout) r (lasts .1 .1 .1 .1 .1 .0))) (λ (lasts : (Unit {0} × (Unit {0} × (Unit {0} × (List Stem × (List ℕ × (List ℕ × Unit {0}))))))). (fsep ftrue (fsep ftrue (fsep ftrue (fsep (fsep (finally T.the-row γstems (lasts .1 .1 .1 .0)) (feq ℕ (length (lasts .1 .1 .1 .0)) (length ysstems))) (fsep (fsep (finally u64 γcommands (lasts .1 .1 .1 .1 .0)) (feq ℕ (length (lasts .1 .1 .1 .1 .0)) (length yscommands))) (fsep (fsep (finally u8 γout (lasts .1 .1 .1 .1 .1 .0)) (feq ℕ (length (lasts .1 .1 .1 .1 .1 .0)) (length ysout))) ftrue))))))) (‵ (flft κstems qstems) ⊛ (‵ (flft κcommands qcommands) ⊛ (‵ (flft κout qout) ⊛ ‵ ftrue))) w)))
+  convert-stored-as known κstems qstems mstems bstems ostems γstems ysstems κcommands qcommands mcommands bcommands ocommands γcommands yscommands κout qout mout bout oout γout ysout ri number m ri-fits number-fits m-fits need =
+      let y : ConvertStoredC 𝓤 H A mem run′ .Ghost = (((κstems, (κcommands, (κout, tt))), (qstems, (qcommands, (qout, tt))), tt, (ri, (number, (m, (at-list T.the-row mstems bstems ostems γstems ysstems, (at-list u64 mcommands bcommands ocommands γcommands yscommands, (at-list u8 mout bout oout γout ysout, tt)))))), (machI ri ∷ [], (vint w64 number ∷ [], (machZ m ∷ [], (sliceVal (bstems, ostems) mstems ∷ [], (sliceVal (bcommands, ocommands) mcommands ∷ [], (sliceVal (bout, oout) mout ∷ [], tt))))))), tt) in
+      via 𝓤 (ConvertStoredC 𝓤 H A mem run′ .pre y) (qed W (((‵ (flft κstems qstems) ⊛ ‵ (Own T.the-row mstems bstems ostems κstems γstems ysstems)) ⊛ ((‵ (flft κcommands qcommands) ⊛ ‵ (Own u64 mcommands bcommands ocommands κcommands γcommands yscommands)) ⊛ (‵ (flft κout qout) ⊛ ‵ (Own u8 mout bout oout κout γout ysout)))) ∷ []) ∵ says ! need $ split ! $ move ! (1 ∷ []) $ split ! $ move ! (2 ∷ []) $ split ! $ move ! (2 ∷ []) $ split ! $ move ! (4 ∷ []) $ split ! $ nothing ! $ move ! (2 ∷ 0 ∷ []) $ fjoin ! $ move ! (3 ∷ 0 ∷ []) $ fjoin ! $ move ! (4 ∷ 0 ∷ []) $ fjoin ! $ owned ! Z.the-row (Is Z.the-row) (LL.makes Z.the-type Z′.the-plain 𝓤 H A) m _ m-fits $ fjoin ! $ owned ! u64 (Is u64) (uint-makes 𝓤 H A W w64) number _ (refl, number-fits) $ fjoin ! $ owned ! I.the-row (Is I.the-row) (LL.makes I.the-type I′.the-plain 𝓤 H A) ri _ ri-fits $ fjoin ! $ nothing ! $ move ! (2 ∷ 0 ∷ []) $ join ! $ move ! (2 ∷ 0 ∷ []) $ join ! $ move ! (2 ∷ 0 ∷ []) $ join ! $ frame ! $ done !) (known y)
 
   pub Matrix·identity-as : Triple 𝓤 (C #geometry·Matrix·identity) (IdentityC 𝓤 H A mem run′)
       → ent 𝓤 (mean 𝓤 H A (‵ ftrue)) (C #geometry·Matrix·identity ([]) (λ w. mean 𝓤 H A (GotAll 𝓤 Z.the-row (Unit {0}) (λ (r : Z.the-row .Denot) (lasts : (Unit {0})). r ≡ identity) (λ (lasts : (Unit {0})). ftrue) (‵ ftrue) w)))
