@@ -1032,10 +1032,18 @@ fn compare_file(file: &[u8], kind: u64) -> Tally {
     t
 }
 
+// The function's name: the file's, without `.vec`.
+fn name(file: &[u8]) -> &[u8] {
+    if file.len() < 4 {
+        return file;
+    }
+    part(file, 0, file.len() - 4)
+}
+
 // Replays a file, prints its line and adds it to the sums before.
-fn replay(name: &[u8], file: &[u8], kind: u64, before: Tally) -> Tally {
+fn replay(file: &[u8], kind: u64, before: Tally) -> Tally {
     let t = compare_file(file, kind);
-    print(name, t);
+    print(name(file), t);
     Tally {
         compared: sum(before.compared, t.compared),
         different: sum(before.different, t.different),
@@ -1044,35 +1052,35 @@ fn replay(name: &[u8], file: &[u8], kind: u64, before: Tally) -> Tally {
 
 // The functions on doubles.
 fn replay_doubles(before: Tally) -> Tally {
-    let mut t = replay(b"round", b"round.vec", 1, before);
-    t = replay(b"floor", b"floor.vec", 2, t);
-    t = replay(b"abs", b"abs.vec", 3, t);
-    t = replay(b"is_finite", b"is_finite.vec", 4, t);
-    t = replay(b"to_usize", b"to_usize.vec", 5, t);
-    replay(b"to_i64", b"to_i64.vec", 6, t)
+    let mut t = replay(b"round.vec", 1, before);
+    t = replay(b"floor.vec", 2, t);
+    t = replay(b"abs.vec", 3, t);
+    t = replay(b"is_finite.vec", 4, t);
+    t = replay(b"to_usize.vec", 5, t);
+    replay(b"to_i64.vec", 6, t)
 }
 
 // Those on points.
 fn replay_points(before: Tally) -> Tally {
-    let mut t = replay(b"round10", b"round10.vec", 7, before);
-    t = replay(b"transform_point", b"transform_point.vec", 8, t);
-    replay(b"transform_delta", b"transform_delta.vec", 9, t)
+    let mut t = replay(b"round10.vec", 7, before);
+    t = replay(b"transform_point.vec", 8, t);
+    replay(b"transform_delta.vec", 9, t)
 }
 
 // The cipher, Type 2 numbers and the widths of a font.
 fn replay_parts(before: Tally) -> Tally {
-    let mut t = replay(b"decrypt_charstring", b"decrypt_charstring.vec", 10, before);
-    t = replay(b"quantize", b"quantize.vec", 11, t);
-    t = replay(b"push_number", b"push_number.vec", 12, t);
-    replay(b"choose_widths", b"choose_widths.vec", 13, t)
+    let mut t = replay(b"decrypt_charstring.vec", 10, before);
+    t = replay(b"quantize.vec", 11, t);
+    t = replay(b"push_number.vec", 12, t);
+    replay(b"choose_widths.vec", 13, t)
 }
 
 // The run, converting and finishing.
 fn replay_glyphs(before: Tally) -> Tally {
-    let mut t = replay(b"run", b"run.vec", 14, before);
-    t = replay(b"convert", b"convert.vec", 15, t);
-    t = replay(b"finish", b"finish.vec", 16, t);
-    replay(b"closepaths", b"closepaths.vec", 17, t)
+    let mut t = replay(b"run.vec", 14, before);
+    t = replay(b"convert.vec", 15, t);
+    t = replay(b"finish.vec", 16, t);
+    replay(b"closepaths.vec", 17, t)
 }
 
 fn main() {
