@@ -1,13 +1,13 @@
--- Laws: the bytes that `push_units` writes. It counts from -2 ^ 32, so that n, its argument, is no negative number.
-use mathlib.Core.Path.{_≡_, ap, _∙_}
+-- Laws: the bytes that `push_whole` and `push_units` write. They count from -65536 and from -2 ^ 32, so that w and n, their arguments, are no negative numbers.
+use mathlib.Core.Path.{_≡_, sym, ap, _∙_}
 use mathlib.Core.Logic.{_⊎_, inl, inr}
-use Prim.Native.Nat.{ℕ, _+_, _-_, _/_, _%_, _≤_, _<_}
+use Prim.Native.Nat.{ℕ, _+_, _-_, _*_, _/_, _%_, _≤_, _<_}
 use native.Mathlib.Omega.{arith}
 use mathlib.Core.List.{List, [], _∷_}
 use lib.IntN.{ℤ, subℕ}
 use Rattle.type2.specs.Number.{zp, zm, wholeBytes, fixedBytes, numberBytes}
 use Rattle.type2.specs.Bools.{is-lt, not-lt, is-eq, not-eq}
-use Rattle.type2.specs.Signed.{sub-bal, one-sided}
+use Rattle.type2.specs.Signed.{sub-bal, sub-is, one-sided}
 
 -- the whole number p - m is w - 65536
 abbrev Gets : (p m w : ℕ) → List ℕ → Type 0
@@ -29,16 +29,53 @@ two-above p m w h k e f =
     let z : p - 108 ≡ w - 65644 = omega arith in
     rw (not-lt p 108 (let z : 108 ≤ p = omega arith in z), is-lt 107 p (let z : 107 < p = omega arith in z), is-lt p 1132 (let z : p < 1132 = omega arith in z), z)
 
-three-bytes : (p m w : ℕ) → w < 98304 → 32768 ≤ w → (w ≤ 64404) ⊎ (66668 ≤ w) → Gets p m w (28 ∷ (w / 256 % 256) ∷ (w % 256) ∷ [])
+three-bytes : (p m w : ℕ) → 32768 ≤ w → w < 98304 → (w ≤ 64404) ⊎ (66668 ≤ w) → Gets p m w (28 ∷ (w / 256 % 256) ∷ (w % 256) ∷ [])
 unfolding wholeBytes
-three-bytes p m w l g (inl h) e f =
+three-bytes p m w g l (inl h) e f =
     let x : (p + 65536 - m) % 65536 / 256 ≡ w / 256 % 256 = omega arith in
     let y : (p + 65536 - m) % 65536 % 256 ≡ w % 256 = omega arith in
     rw (is-lt p 108 (let z : p < 108 = omega arith in z), not-lt m 108 (let z : 108 ≤ m = omega arith in z), not-lt 107 p (let z : p ≤ 107 = omega arith in z), is-lt 107 m (let z : 107 < m = omega arith in z), not-lt m 1132 (let z : 1132 ≤ m = omega arith in z), x, y)
-three-bytes p m w l g (inr h) e f =
+three-bytes p m w g l (inr h) e f =
     let x : (p + 65536 - m) % 65536 / 256 ≡ w / 256 % 256 = omega arith in
     let y : (p + 65536 - m) % 65536 % 256 ≡ w % 256 = omega arith in
     rw (not-lt p 108 (let z : 108 ≤ p = omega arith in z), is-lt 107 p (let z : 107 < p = omega arith in z), not-lt p 1132 (let z : 1132 ≤ p = omega arith in z), not-lt 107 m (let z : m ≤ 107 = omega arith in z), x, y)
+
+module _ (w : ℕ) (low : 32768 ≤ w) (high : w < 98304) where
+  abbrev z : ℤ
+  z = subℕ (w * 65536) 4294967296
+
+  abbrev p : ℕ
+  p = zp z / 65536
+
+  abbrev m : ℕ
+  m = zm z / 65536
+
+  is-whole : numberBytes z ≡ wholeBytes p m
+  unfolding numberBytes
+  is-whole = rw (is-eq ((zp z + zm z) % 65536) 0 (part (one-sided z) (sub-bal (w * 65536) 4294967296)))
+    where
+      part : (zp z ≡ 0) ⊎ (zm z ≡ 0) → zp z + 4294967296 ≡ zm z + w * 65536 → (zp z + zm z) % 65536 ≡ 0
+      part (inl e) b = omega arith
+      part (inr e) b = omega arith
+
+  parts : (p ≡ w - 65536) × (m ≡ 65536 - w)
+  parts = go (one-sided z) (sub-bal (w * 65536) 4294967296)
+    where
+      go : (zp z ≡ 0) ⊎ (zm z ≡ 0) → zp z + 4294967296 ≡ zm z + w * 65536 → (p ≡ w - 65536) × (m ≡ 65536 - w)
+      go (inl e) b = (omega arith, omega arith)
+      go (inr e) b = (omega arith, omega arith)
+
+  pub one-form : w < 65644 → 65428 < w → numberBytes z ≡ (w - 65397) ∷ []
+  one-form h k = is-whole ∙ one-byte p m w h k (parts .0) (parts .1)
+
+  pub below-form : w ≤ 65428 → 64404 < w → numberBytes z ≡ ((65428 - w) / 256 + 251) ∷ ((65428 - w) % 256) ∷ []
+  below-form h k = is-whole ∙ two-below p m w h k (parts .0) (parts .1)
+
+  pub above-form : 65644 ≤ w → w < 66668 → numberBytes z ≡ ((w - 65644) / 256 + 247) ∷ ((w - 65644) % 256) ∷ []
+  above-form h k = is-whole ∙ two-above p m w h k (parts .0) (parts .1)
+
+  pub short-form : (w ≤ 64404) ⊎ (66668 ≤ w) → numberBytes z ≡ 28 ∷ (w / 256 % 256) ∷ (w % 256) ∷ []
+  short-form h = is-whole ∙ three-bytes p m w low high h (parts .0) (parts .1)
 
 module _ (n : ℕ) (low : 2147483648 ≤ n) (high : n < 6442450944) where
   abbrev u : ℤ
@@ -63,40 +100,6 @@ module _ (n : ℕ) (low : 2147483648 ≤ n) (high : n < 6442450944) where
           let d : N % 256 ≡ n % 256 = omega arith in
           cc
 
-  -- a whole number, w - 65536
-  module _ (whole : n % 65536 ≡ 0) where
-    abbrev w : ℕ
-    w = n / 65536
-
-    abbrev p : ℕ
-    p = zp u / 65536
-
-    abbrev m : ℕ
-    m = zm u / 65536
-
-    is-whole : numberBytes u ≡ wholeBytes p m
-    unfolding numberBytes
-    is-whole = rw (is-eq ((zp u + zm u) % 65536) 0 (part (one-sided u) (sub-bal n 4294967296)))
-      where
-        part : (zp u ≡ 0) ⊎ (zm u ≡ 0) → zp u + 4294967296 ≡ zm u + n → (zp u + zm u) % 65536 ≡ 0
-        part (inl z) b = omega arith
-        part (inr z) b = omega arith
-
-    parts : (p ≡ w - 65536) × (m ≡ 65536 - w)
-    parts = go (one-sided u) (sub-bal n 4294967296)
-      where
-        go : (zp u ≡ 0) ⊎ (zm u ≡ 0) → zp u + 4294967296 ≡ zm u + n → (p ≡ w - 65536) × (m ≡ 65536 - w)
-        go (inl z) b = (omega arith, omega arith)
-        go (inr z) b = (omega arith, omega arith)
-
-    pub one-form : w < 65644 → 65428 < w → numberBytes u ≡ (w - 65397) ∷ []
-    one-form h k = is-whole ∙ one-byte p m w h k (parts .0) (parts .1)
-
-    pub below-form : w ≤ 65428 → 64404 < w → numberBytes u ≡ ((65428 - w) / 256 + 251) ∷ ((65428 - w) % 256) ∷ []
-    below-form h k = is-whole ∙ two-below p m w h k (parts .0) (parts .1)
-
-    pub above-form : 65644 ≤ w → w < 66668 → numberBytes u ≡ ((w - 65644) / 256 + 247) ∷ ((w - 65644) % 256) ∷ []
-    above-form h k = is-whole ∙ two-above p m w h k (parts .0) (parts .1)
-
-    pub short-form : (w ≤ 64404) ⊎ (66668 ≤ w) → numberBytes u ≡ 28 ∷ (w / 256 % 256) ∷ (w % 256) ∷ []
-    short-form h = is-whole ∙ three-bytes p m w (omega arith) (omega arith) h (parts .0) (parts .1)
+  -- a whole number: so many times 65536
+  pub whole-form : n % 65536 ≡ 0 → u ≡ subℕ (n / 65536 * 65536) 4294967296
+  whole-form h = sym (sub-is u (n / 65536 * 65536) 4294967296 (let b = sub-bal n 4294967296 in omega arith))

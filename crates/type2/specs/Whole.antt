@@ -5,7 +5,7 @@ use native.Mathlib.Nat.{le-trans, le-of-eq, le-of-suc-le-suc, lt-of-le-of-lt, lt
 use native.Mathlib.Omega.{arith}
 use mathlib.Core.Bool.{Bool, true, false, _||_, Bool·beq, cond, true≢false}
 use lib.IntN.{pos}
-use lib.Dec.{T, eqb, eqb→eq, lit<, lit≤}
+use lib.Dec.{T, eqb, eqb→eq, lit≤}
 use lib.Pow.{pow-add, pow-pos, pow-mono}
 use lib.Ieee.{Float, nan, inf, fin, Format, binary64, low, size, add, sub, eq, lt, fits}
 use lib.Ieee.Digits.{size-lt}
@@ -66,35 +66,16 @@ unfolding mag
 lit-mag = (refl, refl, refl)
 
 -- ---- the test
-module _ (v : Float) (a : T (fits F v)) (lo : lt v (two 51) ≡ true) (hi : lt below v ≡ true) where
-  is-finite : T (finite v)
-  is-finite = go v lo hi
-    where
-      go : (x : Float) → lt x (two 51) ≡ true → lt below x ≡ true → T (finite x)
-      go nan p q = unfold lt in absurd (true≢false (sym p))
-      go (inf true) p q = unfold lt in absurd (true≢false (sym q))
-      go (inf false) p q = unfold lt in absurd (true≢false (sym p))
-      go (fin s m e) p q = tt
-
-  sides : (pl F v < 2 ^ 51 * 2 ^ 1074) × (mi F v < 2 ^ 51 * 2 ^ 1074)
-  sides =
-      let p = lt→balance F v (two 51) a is-finite (lit-fits .1) tt (subst T (sym lo) tt) in
-      let q = lt→balance F below v (lit-fits .2) tt a is-finite (subst T (sym hi) tt) in
-      go (sign v) (mag F v) (mag F (two 51)) (mag F below) (2 ^ 51 * 2 ^ 1074) (lit-mag .1) (lit-mag .2) (lit< tt) p q
-    where
-      go : (s : Bool) (m x y Q : ℕ) → x ≡ Q → y ≡ Q → 0 < Q → cond s 0 m + 0 < cond s m 0 + x → 0 + cond s m 0 < y + cond s 0 m → (cond s 0 m < Q) × (cond s m 0 < Q)
-      go true m x y Q e f z p q = (z, (omega arith))
-      go false m x y Q e f z p q = ((omega arith), z)
-
+module _ (v : Float) (a : T (fits F v)) (b : T (finite v)) (under : mag F v < 2 ^ 51 * 2 ^ 1074) where
   -- v + 1.5 * 2 ^ 52 lies between 2 ^ 52 and 2 ^ 53, so it is whole
   sum-whole : (k : ℕ) × HasValue (add F v middle) false (k * 2 ^ 1074) (2 ^ low F) × (k ≤ 2 ^ 53)
   sum-whole =
-      let r = add-rounded F v middle a is-finite (lit-fits .0) tt in
+      let r = add-rounded F v middle a b (lit-fits .0) tt in
       let n = r .amount in
-      let t = go (r .sgn) n (pl F v) (mi F v) (mag F middle) (2 ^ 51 * 2 ^ 1074) (lit-mag .0 ∙ mul-assoc 3 (2 ^ 51) (2 ^ 1074)) (sides .0) (sides .1) (r .balance) in
+      let t = go (r .sgn) n (sign v) (mag F v) (mag F middle) (2 ^ 51 * 2 ^ 1074) (lit-mag .0 ∙ mul-assoc 3 (2 ^ 51) (2 ^ 1074)) under (r .balance) in
       let w = rounded-whole n (le-trans (lit≤ tt) (t .1)) in
-      let b = rnd-near F n 1074 (lt-of-lt-of-le (t .2) (lit≤ tt)) in
-      let l : rnd F n < 2 ^ 1127 + 2 ^ 1074 = near (rnd F n) n (4 * (2 ^ 51 * 2 ^ 1074)) (2 ^ 1127) (2 ^ 1074) (lit≤ tt) (pow-pos 1074) (t .2) (b .0) in
+      let d = rnd-near F n 1074 (lt-of-lt-of-le (t .2) (lit≤ tt)) in
+      let l : rnd F n < 2 ^ 1127 + 2 ^ 1074 = near (rnd F n) n (4 * (2 ^ 51 * 2 ^ 1074)) (2 ^ 1127) (2 ^ 1074) (lit≤ tt) (pow-pos 1074) (t .2) (d .0) in
       (w .0, subst (λ (s : Bool). HasValue (add F v middle) s (w .0 * 2 ^ 1074) (2 ^ low F)) (t .0) (subst (λ (x : ℕ). HasValue (add F v middle) (r .sgn) x (2 ^ low F)) (w .1) (subst (λ (x : Float). HasValue x (r .sgn) (rnd F n) (2 ^ low F)) (sym (r .is)) (round-rnd F (r .sgn) n (lt-of-lt-of-le l (lit≤ tt))))), at-most (w .0) (2 ^ 53) (2 ^ 1074) (lt-of-lt-of-le (subst (λ (x : ℕ). x < 2 ^ 1127 + 2 ^ 1074) (w .1) l) (lit≤ tt)))
     where
       at-most : (k n L : ℕ) → k * L < suc n * L → k ≤ n
@@ -103,13 +84,15 @@ module _ (v : Float) (a : T (fits F v)) (lo : lt v (two 51) ≡ true) (hi : lt b
       near : (r n q t l : ℕ) → q ≤ t → 0 < l → n < q → r * 2 ≤ n * 2 + l → r < t + l
       near r n q t l h p k g = omega arith
 
-      go : (s : Bool) (n p m c Q : ℕ) → c ≡ 3 * Q → p < Q → m < Q → cond s 0 n + (m + 0) ≡ cond s n 0 + (p + c) → (s ≡ false) × (2 * Q ≤ n) × (n < 4 * Q)
-      go true n p m c Q e h k b = absurd (let z : ⊥ = omega arith in z)
-      go false n p m c Q e h k b = (refl, omega arith, omega arith)
+      go : (s : Bool) (n : ℕ) (t : Bool) (m c Q : ℕ) → c ≡ 3 * Q → m < Q → cond s 0 n + (cond t m 0 + 0) ≡ cond s n 0 + (cond t 0 m + c) → (s ≡ false) × (2 * Q ≤ n) × (n < 4 * Q)
+      go true n true m c Q e h b = absurd (let z : ⊥ = omega arith in z)
+      go true n false m c Q e h b = absurd (let z : ⊥ = omega arith in z)
+      go false n true m c Q e h b = (refl, omega arith, omega arith)
+      go false n false m c Q e h b = (refl, omega arith, omega arith)
 
-  pub came-back : eq (sub F (add F v middle) middle) v ≡ true → v ≡ roundAway v
+  pub is-whole : eq (sub F (add F v middle) middle) v ≡ true → Multiple F 1074 v
   unfolding Multiple
-  came-back t =
+  is-whole t =
       let (k, h, l) = sum-whole in
       let s = add F v middle in
       let z = sub F s middle in
@@ -121,9 +104,9 @@ module _ (v : Float) (a : T (fits F v)) (lo : lt v (two 51) ≡ true) (hi : lt b
       let D : dist (pl F s + mi F middle) (mi F s + pl F middle) ≡ dist k (3 * 2 ^ 51) * L = ap₂ (λ (b : Bool) (x : ℕ). dist (cond b 0 x + 0) (cond b x 0 + mag F middle)) gs ms ∙ ap₂ dist (zero-right (k * L)) (zero-left (mag F middle) ∙ lit-mag .0) ∙ dist-mul k (3 * 2 ^ 51) L in
       let E = sub-multiples F 1074 s middle fs bs (lit-fits .0) tt (k, ms) (3 * 2 ^ 51, lit-mag .0) (lt-of-le-of-lt (le-of-eq D) (few k l)) (lit≤ tt) in
       let mz : mag F z ≡ dist k (3 * 2 ^ 51) * L = amount-is (sign z) (mag F z) (pl F s + mi F middle) (mi F s + pl F middle) (E .balance) ∙ D in
-      let q = subst T (sym t ∙ eq-units F z v (sign z) (sign v) (mag F z) (mag F v) (own F z (sub-fits F s middle) (E .fine)) (own F v a is-finite)) tt in
+      let q = subst T (sym t ∙ eq-units F z v (sign z) (sign v) (mag F z) (mag F v) (own F z (sub-fits F s middle) (E .fine)) (own F v a b)) tt in
       let m : mag F z ≡ mag F v = eqb→eq (mag F z) (mag F v) (and-l (eqb (mag F z) (mag F v)) (Bool·beq (sign z) (sign v) || eqb (mag F z) 0) q) in
-      whole-kept F v (dist k (3 * 2 ^ 51)) a is-finite (sym m ∙ mz)
+      (dist k (3 * 2 ^ 51), sym m ∙ mz)
     where
       zero-right : (x : ℕ) → x + 0 ≡ x
       zero-right x = omega arith
@@ -136,3 +119,27 @@ module _ (v : Float) (a : T (fits F v)) (lo : lt v (two 51) ≡ true) (hi : lt b
         where
           small : (k : ℕ) → k ≤ 2 ^ 53 → dist k (3 * 2 ^ 51) < 2 ^ 53
           small k l = omega arith
+
+module _ (v : Float) (a : T (fits F v)) (lo : lt v (two 51) ≡ true) (hi : lt below v ≡ true) where
+  is-finite : T (finite v)
+  is-finite = go v lo hi
+    where
+      go : (x : Float) → lt x (two 51) ≡ true → lt below x ≡ true → T (finite x)
+      go nan p q = unfold lt in absurd (true≢false (sym p))
+      go (inf true) p q = unfold lt in absurd (true≢false (sym q))
+      go (inf false) p q = unfold lt in absurd (true≢false (sym p))
+      go (fin s m e) p q = tt
+
+  size-below : mag F v < 2 ^ 51 * 2 ^ 1074
+  size-below =
+      let p = lt→balance F v (two 51) a is-finite (lit-fits .1) tt (subst T (sym lo) tt) in
+      let q = lt→balance F below v (lit-fits .2) tt a is-finite (subst T (sym hi) tt) in
+      go (sign v) (mag F v) (mag F (two 51)) (mag F below) (2 ^ 51 * 2 ^ 1074) (lit-mag .1) (lit-mag .2) p q
+    where
+      go : (s : Bool) (m x y Q : ℕ) → x ≡ Q → y ≡ Q → cond s 0 m + 0 < cond s m 0 + x → 0 + cond s m 0 < y + cond s 0 m → m < Q
+      go true m x y Q e f p q = omega arith
+      go false m x y Q e f p q = omega arith
+
+  pub came-back : eq (sub F (add F v middle) middle) v ≡ true → v ≡ roundAway v
+  unfolding Multiple
+  came-back t = let (k, e) = is-whole v a is-finite size-below t in whole-kept F v k a is-finite e

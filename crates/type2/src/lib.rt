@@ -1,7 +1,7 @@
 // Type 2 numbers (TN#5177, section 3.2): doubles rounded to the 16.16 grid, and their bytes; the deltas of a path, how many
 // share an operator, and a charstring's width.
 ghost use mathlib.Core.Path.{_≡_};
-ghost use Prim.Native.Nat.{_-_, _≤_, _<_};
+ghost use Prim.Native.Nat.{_-_, _*_, _≤_, _<_};
 ghost use mathlib.Core.List.{[], _∷_};
 ghost use lib.IntN.{subℕ};
 ghost use lib.Ieee.{binary64, sub};
@@ -123,23 +123,11 @@ fn put5(out: &mut [u8], at: usize, a: u8, b: u8, c: u8, d: u8, e: u8) -> Pushed
     }
 }
 
-// The bytes of the number `n - 2 ^ 32`, in units of 1/65536. From 65536 on, `w` is a whole number and 65536 more.
-fn push_units(out: &mut [u8], at: usize, n: u64) -> Pushed
-    requires { ⌜ (2147483648 ≤ n) × (n < 6442450944) ⌝ }
-    ensures { λ r. ⌜ gave (r .number) (r .next) (now (out .exit)) ≡ put (now (out .entry)) at (numberBytes (subℕ n 4294967296)) ⌝ }
+// The bytes of the whole number `w - 65536`, in its shortest form.
+fn push_whole(out: &mut [u8], at: usize, w: u32) -> Pushed
+    requires { ⌜ (32768 ≤ w) × (w < 98304) ⌝ }
+    ensures { λ r. ⌜ gave (r .number) (r .next) (now (out .exit)) ≡ put (now (out .entry)) at (numberBytes (subℕ (w * 65536) 4294967296)) ⌝ }
 {
-    let w = n / 65536;
-    if n % 65536 != 0 {
-        return put5(
-            out,
-            at,
-            255,
-            (n / 16777216 % 256) as u8,
-            (w % 256) as u8,
-            (n / 256 % 256) as u8,
-            (n % 256) as u8,
-        );
-    }
     if w < 65644 {
         if w > 65428 {
             return put1(out, at, (w - 65397) as u8);
@@ -157,6 +145,26 @@ fn push_units(out: &mut [u8], at: usize, n: u64) -> Pushed
     put3(out, at, 28, (w / 256 % 256) as u8, (w % 256) as u8)
 }
 
+// The bytes of the number `n - 2 ^ 32`, in units of 1/65536: a whole number's, else 16.16.
+fn push_units(out: &mut [u8], at: usize, n: u64) -> Pushed
+    requires { ⌜ (2147483648 ≤ n) × (n < 6442450944) ⌝ }
+    ensures { λ r. ⌜ gave (r .number) (r .next) (now (out .exit)) ≡ put (now (out .entry)) at (numberBytes (subℕ n 4294967296)) ⌝ }
+{
+    let w = n / 65536;
+    if n % 65536 != 0 {
+        return put5(
+            out,
+            at,
+            255,
+            (n / 16777216 % 256) as u8,
+            (w % 256) as u8,
+            (n / 256 % 256) as u8,
+            (n % 256) as u8,
+        );
+    }
+    push_whole(out, at, w as u32)
+}
+
 // What a pushed delta gave: a push's number and place, and the delta that the bytes stand for.
 struct Delta {
     number: u64,
@@ -167,13 +175,22 @@ struct Delta {
 // v to the nearest 1/65536, a tie away from zero, into `out` at `at`: the shortest form of a whole
 // number, else 16.16. Refused with 13 where the rounded number is not -32768 to below 32768, which the
 // two tests decide half of 1/65536 further out, and with 18 where `out` has no room; `out` is then as it was.
-// `value` is `quantize(v)`: by `Quantize.rounded-once`, one rounding gives both.
+// `value` is `quantize(v)`: by `Quantize.rounded-once`, one rounding gives both. A whole number, which the sum
+// with 1.5 * 2 ^ 52 gives back as it was, is pushed at once.
 fn push_delta(out: &mut [u8], at: usize, v: f64) -> Delta
     ensures { λ r. ⌜ gave (r .number) (r .next) (now (out .exit)) ≡ pushNumber (now (out .entry)) at v ⌝ }
     ensures { λ r. ⌜ r .value ≡ quantized v ⌝ }
 {
     if v < 32767.99999237060546875 {
         if -32768.00000762939453125 < v {
+            if (v + 6755399441055744.0) - 6755399441055744.0 == v {
+                let q = push_whole(out, at, (v + 65536.0) as u32);
+                return Delta {
+                    number: q.number as u64,
+                    next: q.next,
+                    value: v,
+                };
+            }
             let n = nearest(v * 65536.0);
             let p = push_units(out, at, (n + 4294967296.0) as u64);
             return Delta {

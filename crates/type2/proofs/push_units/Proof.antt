@@ -1,8 +1,9 @@
--- `type2::push_units` meets its contract: each arm writes the bytes of one form.
-use mathlib.Core.Logic.{_⊎_, inl, inr, ⊎-elim}
+-- `type2::push_units` meets its contract: 16.16, or a whole number that `push_whole` writes.
+use mathlib.Core.Path.{ap}
 use borrow.Author.Needs.{needs}
+use Rattle.type2.specs.Number.{numberBytes}
 use Rattle.type2.specs.Put.{same-bytes}
-use Rattle.type2.specs.Forms.{fixed-form, one-form, below-form, above-form, short-form}
+use Rattle.type2.specs.Forms.{fixed-form, whole-form}
 use Rattle.type2.proofs.push_units.Statement.{statement}
 use Rattle.type2.proofs.push_units.Tie as tie
 
@@ -27,71 +28,17 @@ same-length c = search needs
 returns : tie.Need-returns
 returns c = let s = c .before .before .before .before .before .before in same-bytes (s .args .out .now) (s .args .at) (c .before .before .put5 .ensures) (fixed-form (s .args .n) (s .pre .0) (s .pre .1) (c .before .before .before .before .if1 .taken))
 
-sub-put1 : tie.Need-sub-put1
-sub-put1 c = search needs
+cast-push-whole : tie.Need-cast-push-whole
+cast-push-whole c = search needs
 
-cast-put1 : tie.Need-cast-put1
-cast-put1 c = search needs
-
-put1-requires : tie.Need-put1-requires
-put1-requires c κs = search needs
+push-whole-requires : tie.Need-push-whole-requires
+push-whole-requires c κs = search needs
 
 same-length-2 : tie.Need-same-length-2
 same-length-2 c = search needs
 
 returns-2 : tie.Need-returns-2
-returns-2 c = let s = c .before .before .before .before .before .before .before .before in same-bytes (s .args .out .now) (s .args .at) (c .before .before .put1 .ensures) (one-form (s .args .n) (s .pre .0) (s .pre .1) (c .before .before .before .before .before .before .if1 .left) (c .before .before .before .before .before .if2 .taken) (c .before .before .before .before .if3 .taken))
-
-add-put2 : tie.Need-add-put2
-add-put2 c = search needs
-
-cast-put2 : tie.Need-cast-put2
-cast-put2 c = search needs
-
-cast-put2-2 : tie.Need-cast-put2-2
-cast-put2-2 c = search needs
-
-put2-requires : tie.Need-put2-requires
-put2-requires c κs = search needs
-
-same-length-3 : tie.Need-same-length-3
-same-length-3 c = search needs
-
-returns-3 : tie.Need-returns-3
-returns-3 c = let s = c .before .before .before .before .before .before .before .before .before in same-bytes (s .args .out .now) (s .args .at) (c .before .before .put2 .ensures) (below-form (s .args .n) (s .pre .0) (s .pre .1) (c .before .before .before .before .before .before .before .if1 .left) (c .before .before .before .before .before .if3 .left) (c .before .before .before .before .if4 .taken))
-
-add-put2-2 : tie.Need-add-put2-2
-add-put2-2 c = search needs
-
-cast-put2-3 : tie.Need-cast-put2-3
-cast-put2-3 c = search needs
-
-cast-put2-4 : tie.Need-cast-put2-4
-cast-put2-4 c = search needs
-
-put2-requires-2 : tie.Need-put2-requires-2
-put2-requires-2 c κs = search needs
-
-same-length-4 : tie.Need-same-length-4
-same-length-4 c = search needs
-
-returns-4 : tie.Need-returns-4
-returns-4 c = let s = c .before .before .before .before .before .before .before .before in same-bytes (s .args .out .now) (s .args .at) (c .before .before .put22 .ensures) (above-form (s .args .n) (s .pre .0) (s .pre .1) (c .before .before .before .before .before .before .if1 .left) (c .before .before .before .before .before .if2 .left) (c .before .before .before .before .if5 .taken))
-
-cast-put3 : tie.Need-cast-put3
-cast-put3 c = search needs
-
-cast-put3-2 : tie.Need-cast-put3-2
-cast-put3-2 c = search needs
-
-put3-requires : tie.Need-put3-requires
-put3-requires c κs = search needs
-
-same-length-5 : tie.Need-same-length-5
-same-length-5 c = search needs
-
-returns-5 : tie.Need-returns-5
-returns-5 c = let s = c .before .before .before .before .before .before .before in same-bytes (s .args .out .now) (s .args .at) (c .before .before .put3 .ensures) (short-form (s .args .n) (s .pre .0) (s .pre .1) (c .before .before .before .before .before .if1 .left) (⊎-elim (λ w. inl (w .2 .left)) (λ w. inr (w .1 .left)) (c .before .before .before .before .if2 .came)))
+returns-2 c = let s = c .before .before .before .before .before .before in same-bytes (s .args .out .now) (s .args .at) (c .before .before .push-whole .ensures) (ap numberBytes (whole-form (s .args .n) (s .pre .0) (s .pre .1) (c .before .before .before .before .if1 .left)))
 
 pub push-units-spec : {M : Type 1} → statement M
 push-units-spec =
@@ -104,25 +51,7 @@ push-units-spec =
     put5-requires
     same-length
     returns
-    sub-put1
-    cast-put1
-    put1-requires
+    cast-push-whole
+    push-whole-requires
     same-length-2
-    returns-2
-    add-put2
-    cast-put2
-    cast-put2-2
-    put2-requires
-    same-length-3
-    returns-3
-    add-put2-2
-    cast-put2-3
-    cast-put2-4
-    put2-requires-2
-    same-length-4
-    returns-4
-    cast-put3
-    cast-put3-2
-    put3-requires
-    same-length-5
-    returns-5)
+    returns-2)
