@@ -1930,7 +1930,49 @@ fn begin(code: &[u8], len_iv: usize) -> Begun
     }
 }
 
-// One operator.
+// 10: the body that the top operand names runs, one level deeper.
+fn call_body(
+    bank: &[u8],
+    len_iv: usize,
+    levels: usize,
+    st: St,
+    ops: &mut [f64; 256],
+    ps: &mut [f64; 256],
+    cells: &mut [f64; 19],
+    edges: &mut [f64; 1024],
+    across: &mut [bool; 512],
+    cmds: &mut [u64],
+    stems: &mut [Stem],
+) -> Ran
+    requires { ⌜ (levels < 100) × (Valid (now bank) × Ready st (memOf (now ops) (now ps) (now cells) (now edges) (now across) (now cmds) (now stems))) ⌝ }
+    ensures { λ r. ⌜ Meets r (memOf (now (ops .exit)) (now (ps .exit)) (now (cells .exit)) (now (edges .exit)) (now (across .exit)) (now (cmds .exit)) (now (stems .exit)))
+        (opD (now (bank .entry)) «len_iv» levels 10 st (memOf (now (ops .entry)) (now (ps .entry)) (now (cells .entry)) (now (edges .entry)) (now (across .entry)) (now (cmds .entry)) (now (stems .entry)))) ⌝ }
+{
+    let c = callsubr(bank, st, ops);
+    let f = c.flow;
+    if f != 0 {
+        return made(c.st, f);
+    }
+    if levels == 0 {
+        return made(c.st, 4);
+    }
+    run(
+        bank::body(bank, c.index),
+        bank,
+        len_iv,
+        levels - 1,
+        c.st,
+        ops,
+        ps,
+        cells,
+        edges,
+        across,
+        cmds,
+        stems,
+    )
+}
+
+// One operator. `call_body` is a function of its own so that LLVM inlines `plain`.
 fn op(
     op: u16,
     bank: &[u8],
@@ -1950,20 +1992,11 @@ fn op(
         (opD (now (bank .entry)) «len_iv» levels op st (memOf (now (ops .entry)) (now (ps .entry)) (now (cells .entry)) (now (edges .entry)) (now (across .entry)) (now (cmds .entry)) (now (stems .entry)))) ⌝ }
 {
     if op == 10 {
-        let c = callsubr(bank, st, ops);
-        let f = c.flow;
-        if f != 0 {
-            return made(c.st, f);
-        }
-        if levels == 0 {
-            return made(c.st, 4);
-        }
-        return run(
-            bank::body(bank, c.index),
+        return call_body(
             bank,
             len_iv,
-            levels - 1,
-            c.st,
+            levels,
+            st,
             ops,
             ps,
             cells,

@@ -68,6 +68,8 @@ use Rattle.type1.proofs.room as room-f
 use Rattle.type1.proofs.room.Symbol.{name as #type1·room}
 use Rattle.type1.proofs.keep_group as keep-group-f
 use Rattle.type1.proofs.keep_group.Symbol.{name as #type1·keep-group}
+use Rattle.type1.proofs.call_body as call-body-f
+use Rattle.type1.proofs.call_body.Key.{name as #type1·call-body}
 use Rattle.type1.proofs.op as op-f
 use Rattle.type1.proofs.op.Key.{name as #type1·op}
 use Rattle.type1.proofs.run as run-f
@@ -101,17 +103,23 @@ module _ {M : Type 1} (𝓤 : URA M) (H : Heap 𝓤) (A : Atoms 𝓤) (mem : Mem
   abbrev pub KeepGroupC : Contract 𝓤
   KeepGroupC = tripleOf 𝓤 H A keep-group-f.signature (keep-group-f.spec 𝓤 H A mem run′)
 
+  abbrev pub CallBodyC : Contract 𝓤
+  CallBodyC = tripleOf 𝓤 H A call-body-f.signature (call-body-f.spec 𝓤 H A mem run′)
+
   abbrev pub OpC : Contract 𝓤
   OpC = tripleOf 𝓤 H A op-f.signature (op-f.spec 𝓤 H A mem run′)
 
   abbrev pub RunC : Contract 𝓤
   RunC = tripleOf 𝓤 H A run-f.signature (run-f.spec 𝓤 H A mem run′)
 
+  abbrev pub BelowCallBody : Table 𝓤 H → ℕ → Type 1
+  BelowCallBody C t = (y : CallBodyC .Ghost) → ((y .0 .3 .1 .1 .0) + (y .0 .3 .1 .1 .0) + (y .0 .3 .1 .1 .0)) < t → ent 𝓤 (CallBodyC .pre y) (C #type1·call-body (CallBodyC .args y) (CallBodyC .post y))
+
   abbrev pub BelowOp : Table 𝓤 H → ℕ → Type 1
-  BelowOp C t = (y : OpC .Ghost) → ((y .0 .3 .1 .1 .1 .0) + (y .0 .3 .1 .1 .1 .0)) < t → ent 𝓤 (OpC .pre y) (C #type1·op (OpC .args y) (OpC .post y))
+  BelowOp C t = (y : OpC .Ghost) → ((y .0 .3 .1 .1 .1 .0) + (y .0 .3 .1 .1 .1 .0) + (y .0 .3 .1 .1 .1 .0) + 1) < t → ent 𝓤 (OpC .pre y) (C #type1·op (OpC .args y) (OpC .post y))
 
   abbrev pub BelowRun : Table 𝓤 H → ℕ → Type 1
-  BelowRun C t = (y : RunC .Ghost) → ((y .0 .3 .1 .1 .1 .0) + (y .0 .3 .1 .1 .1 .0) + 1) < t → ent 𝓤 (RunC .pre y) (C #type1·run (RunC .args y) (RunC .post y))
+  BelowRun C t = (y : RunC .Ghost) → ((y .0 .3 .1 .1 .1 .0) + (y .0 .3 .1 .1 .1 .0) + (y .0 .3 .1 .1 .1 .0) + 2) < t → ent 𝓤 (RunC .pre y) (C #type1·run (RunC .args y) (RunC .post y))
 
 module _ {M : Type 1} (𝓤 : URA M) (H : Heap 𝓤) (A : Atoms 𝓤) (mem : Memory → SProp 𝓤) (run′ : Routine → Fun 𝓤) (W : Given 𝓤 H A) (C : Table 𝓤 H) where
   pub token-as : Triple 𝓤 (C #type1·token) (TokenC 𝓤 H A mem run′) → (κcode : Lft) (qcode : Share) (xcode : RefT (List ℕ)) (κops : Lft) (qops : Share) (bops oops : ℕ) (γops : GName) (ysops : List Float) (κcmds : Lft) (qcmds : Share) (mcmds bcmds ocmds : ℕ) (γcmds : GName) (yscmds : List ℕ) (i : ℕ) (key : ℕ) (enc : Bool) (st : St) → i < 2 ^ 64 → key < 2 ^ 16 → Is S.the-row st (machS st ∷ []) → (i < length (xcode .now)) × ((st .operands ≤ 256) × (14 * st .entries ≤ length yscmds))
@@ -168,13 +176,19 @@ module _ {M : Type 1} (𝓤 : URA M) (H : Heap 𝓤) (A : Atoms 𝓤) (mem : Mem
       let y : KeepGroupC 𝓤 H A mem run′ .Ghost = (((κedges, (κacross, (κstems, tt))), (qedges, (qacross, (qstems, tt))), tt, (used, (n, (xedges, (xacross, (at-list T.the-row mstems bstems ostems γstems ysstems, tt))))), (vint w64 used ∷ [], (vint w64 n ∷ [], (vptr (xedges .ptr .0) (xedges .ptr .1) ∷ [], (vptr (xacross .ptr .0) (xacross .ptr .1) ∷ [], (sliceVal (bstems, ostems) mstems ∷ [], tt)))))), tt) in
       via 𝓤 (KeepGroupC 𝓤 H A mem run′ .pre y) (qed W (((‵ (flft κedges qedges) ⊛ ‵ (ShrRef (named 0) κedges (Array f64 1024) .own xedges (vptr (xedges .ptr .0) (xedges .ptr .1) ∷ []))) ⊛ ((‵ (flft κacross qacross) ⊛ ‵ (ShrRef (named 0) κacross (Array bool 512) .own xacross (vptr (xacross .ptr .0) (xacross .ptr .1) ∷ []))) ⊛ (‵ (flft κstems qstems) ⊛ ‵ (Own T.the-row mstems bstems ostems κstems γstems ysstems)))) ∷ []) ∵ says ! need $ split ! $ move ! (1 ∷ []) $ split ! $ move ! (2 ∷ []) $ split ! $ move ! (2 ∷ []) $ split ! $ move ! (4 ∷ []) $ split ! $ nothing ! $ move ! (2 ∷ 0 ∷ []) $ fjoin ! $ move ! (3 ∷ 0 ∷ []) $ fjoin ! $ move ! (4 ∷ 0 ∷ []) $ fjoin ! $ owned ! usize (Is usize) (uint-makes 𝓤 H A W w64) n _ (refl, n-fits) $ fjoin ! $ owned ! usize (Is usize) (uint-makes 𝓤 H A W w64) used _ (refl, used-fits) $ fjoin ! $ nothing ! $ move ! (2 ∷ 0 ∷ []) $ join ! $ move ! (2 ∷ 0 ∷ []) $ join ! $ move ! (2 ∷ 0 ∷ []) $ join ! $ frame ! $ done !) (known y)
 
-  pub op-as : (t : ℕ) → BelowOp 𝓤 H A mem run′ C t → (κbank : Lft) (qbank : Share) (xbank : RefT (List ℕ)) (κops : Lft) (qops : Share) (bops oops : ℕ) (γops : GName) (ysops : List Float) (κps : Lft) (qps : Share) (bps ops : ℕ) (γps : GName) (ysps : List Float) (κcells : Lft) (qcells : Share) (bcells ocells : ℕ) (γcells : GName) (yscells : List Float) (κedges : Lft) (qedges : Share) (bedges oedges : ℕ) (γedges : GName) (ysedges : List Float) (κacross : Lft) (qacross : Share) (bacross oacross : ℕ) (γacross : GName) (ysacross : List Bool) (κcmds : Lft) (qcmds : Share) (mcmds bcmds ocmds : ℕ) (γcmds : GName) (yscmds : List ℕ) (κstems : Lft) (qstems : Share) (mstems bstems ostems : ℕ) (γstems : GName) (ysstems : List Stem) (o : ℕ) (iv : ℕ) (levels : ℕ) (st : St) → o < 2 ^ 16 → iv < 2 ^ 64 → levels < 2 ^ 64 → Is S.the-row st (machS st ∷ []) → (levels < 100) × (Valid (xbank .now) × Ready st (memOf ysops ysps yscells ysedges ysacross yscmds ysstems)) → (levels + levels) < t
+  pub call-body-as : (t : ℕ) → BelowCallBody 𝓤 H A mem run′ C t → (κbank : Lft) (qbank : Share) (xbank : RefT (List ℕ)) (κops : Lft) (qops : Share) (bops oops : ℕ) (γops : GName) (ysops : List Float) (κps : Lft) (qps : Share) (bps ops : ℕ) (γps : GName) (ysps : List Float) (κcells : Lft) (qcells : Share) (bcells ocells : ℕ) (γcells : GName) (yscells : List Float) (κedges : Lft) (qedges : Share) (bedges oedges : ℕ) (γedges : GName) (ysedges : List Float) (κacross : Lft) (qacross : Share) (bacross oacross : ℕ) (γacross : GName) (ysacross : List Bool) (κcmds : Lft) (qcmds : Share) (mcmds bcmds ocmds : ℕ) (γcmds : GName) (yscmds : List ℕ) (κstems : Lft) (qstems : Share) (mstems bstems ostems : ℕ) (γstems : GName) (ysstems : List Stem) (iv : ℕ) (levels : ℕ) (st : St) → iv < 2 ^ 64 → levels < 2 ^ 64 → Is S.the-row st (machS st ∷ []) → (levels < 100) × (Valid (xbank .now) × Ready st (memOf ysops ysps yscells ysedges ysacross yscmds ysstems)) → (levels + levels + levels) < t
+      → ent 𝓤 (mean 𝓤 H A ((‵ (flft κbank qbank) ⊛ ‵ (ShrSlice (named 0) κbank u8 .own xbank (sliceVal (xbank .ptr) (length (xbank .now)) ∷ []))) ⊛ ((‵ (flft κops qops) ⊛ ‵ (OwnR (Array f64 256) bops oops κops γops ysops)) ⊛ ((‵ (flft κps qps) ⊛ ‵ (OwnR (Array f64 256) bps ops κps γps ysps)) ⊛ ((‵ (flft κcells qcells) ⊛ ‵ (OwnR (Array f64 19) bcells ocells κcells γcells yscells)) ⊛ ((‵ (flft κedges qedges) ⊛ ‵ (OwnR (Array f64 1024) bedges oedges κedges γedges ysedges)) ⊛ ((‵ (flft κacross qacross) ⊛ ‵ (OwnR (Array bool 512) bacross oacross κacross γacross ysacross)) ⊛ ((‵ (flft κcmds qcmds) ⊛ ‵ (Own u64 mcmds bcmds ocmds κcmds γcmds yscmds)) ⊛ (‵ (flft κstems qstems) ⊛ ‵ (Own T.the-row mstems bstems ostems κstems γstems ysstems)))))))))) (C #type1·call-body (sliceVal (xbank .ptr) (length (xbank .now)) ∷ vint w64 iv ∷ vint w64 levels ∷ machS st ∷ vptr bops oops ∷ vptr bps ops ∷ vptr bcells ocells ∷ vptr bedges oedges ∷ vptr bacross oacross ∷ sliceVal (bcmds, ocmds) mcmds ∷ sliceVal (bstems, ostems) mstems ∷ []) (λ w. mean 𝓤 H A (GotAll 𝓤 N.the-row (Unit {0} × (Unit {0} × (Unit {0} × (Unit {0} × (List Float × (List Float × (List Float × (List Float × (List Bool × (List ℕ × (List Stem × Unit {0}))))))))))) (λ (r : N.the-row .Denot) (lasts : (Unit {0} × (Unit {0} × (Unit {0} × (Unit {0} × (List Float × (List Float × (List Float × (List Float × (List Bool × (List ℕ × (List Stem × Unit {0})))))))))))). Meets r (memOf (lasts .1 .1 .1 .1 .0) (lasts .1 .1 .1 .1 .1 .0) (lasts .1 .1 .1 .1 .1 .1 .0) (lasts .1 .1 .1 .1 .1 .1 .1 .0) (lasts .1 .1 .1 .1 .1 .1 .1 .1 .0) (lasts .1 .1 .1 .1 .1 .1 .1 .1 .1 .0) (lasts .1 .1 .1 .1 .1 .1 .1 .1 .1 .1 .0)) (opD (xbank .now) iv levels 10 st (memOf ysops ysps yscells ysedges ysacross yscmds ysstems))) (λ (lasts : (Unit {0} × (Unit {0} × (Unit {0} × (Unit {0} × (List Float × (List Float × (List Float × (List Float × (List Bool × (List ℕ × (List Stem × Unit {0})))))))))))). (fsep ftrue (fsep ftrue (fsep ftrue (fsep ftrue (fsep (fres γops ((Array f64 256) .coded .code (lasts .1 .1 .1 .1 .0))) (fsep (fres γps ((Array f64 256) .coded .code (lasts .1 .1 .1 .1 .1 .0))) (fsep (fres γcells ((Array f64 19) .coded .code (lasts .1 .1 .1 .1 .1 .1 .0))) (fsep (fres γedges ((Array f64 1024) .coded .code (lasts .1 .1 .1 .1 .1 .1 .1 .0))) (fsep (fres γacross ((Array bool 512) .coded .code (lasts .1 .1 .1 .1 .1 .1 .1 .1 .0))) (fsep (fsep (finally u64 γcmds (lasts .1 .1 .1 .1 .1 .1 .1 .1 .1 .0)) (feq ℕ (length (lasts .1 .1 .1 .1 .1 .1 .1 .1 .1 .0)) (length yscmds))) (fsep (fsep (finally T.the-row γstems (lasts .1 .1 .1 .1 .1 .1 .1 .1 .1 .1 .0)) (feq ℕ (length (lasts .1 .1 .1 .1 .1 .1 .1 .1 .1 .1 .0)) (length ysstems))) ftrue)))))))))))) (‵ (flft κbank qbank) ⊛ (‵ (flft κops qops) ⊛ (‵ (flft κps qps) ⊛ (‵ (flft κcells qcells) ⊛ (‵ (flft κedges qedges) ⊛ (‵ (flft κacross qacross) ⊛ (‵ (flft κcmds qcmds) ⊛ (‵ (flft κstems qstems) ⊛ ‵ ftrue)))))))) w)))
+  call-body-as t known κbank qbank xbank κops qops bops oops γops ysops κps qps bps ops γps ysps κcells qcells bcells ocells γcells yscells κedges qedges bedges oedges γedges ysedges κacross qacross bacross oacross γacross ysacross κcmds qcmds mcmds bcmds ocmds γcmds yscmds κstems qstems mstems bstems ostems γstems ysstems iv levels st iv-fits levels-fits st-fits need lt =
+      let y : CallBodyC 𝓤 H A mem run′ .Ghost = (((κbank, (κops, (κps, (κcells, (κedges, (κacross, (κcmds, (κstems, tt)))))))), (qbank, (qops, (qps, (qcells, (qedges, (qacross, (qcmds, (qstems, tt)))))))), tt, (xbank, (iv, (levels, (st, (at-one (Array f64 256) bops oops γops ysops, (at-one (Array f64 256) bps ops γps ysps, (at-one (Array f64 19) bcells ocells γcells yscells, (at-one (Array f64 1024) bedges oedges γedges ysedges, (at-one (Array bool 512) bacross oacross γacross ysacross, (at-list u64 mcmds bcmds ocmds γcmds yscmds, (at-list T.the-row mstems bstems ostems γstems ysstems, tt))))))))))), (sliceVal (xbank .ptr) (length (xbank .now)) ∷ [], (vint w64 iv ∷ [], (vint w64 levels ∷ [], (machS st ∷ [], (vptr bops oops ∷ [], (vptr bps ops ∷ [], (vptr bcells ocells ∷ [], (vptr bedges oedges ∷ [], (vptr bacross oacross ∷ [], (sliceVal (bcmds, ocmds) mcmds ∷ [], (sliceVal (bstems, ostems) mstems ∷ [], tt)))))))))))), tt) in
+      via 𝓤 (CallBodyC 𝓤 H A mem run′ .pre y) (qed W (((‵ (flft κbank qbank) ⊛ ‵ (ShrSlice (named 0) κbank u8 .own xbank (sliceVal (xbank .ptr) (length (xbank .now)) ∷ []))) ⊛ ((‵ (flft κops qops) ⊛ ‵ (OwnR (Array f64 256) bops oops κops γops ysops)) ⊛ ((‵ (flft κps qps) ⊛ ‵ (OwnR (Array f64 256) bps ops κps γps ysps)) ⊛ ((‵ (flft κcells qcells) ⊛ ‵ (OwnR (Array f64 19) bcells ocells κcells γcells yscells)) ⊛ ((‵ (flft κedges qedges) ⊛ ‵ (OwnR (Array f64 1024) bedges oedges κedges γedges ysedges)) ⊛ ((‵ (flft κacross qacross) ⊛ ‵ (OwnR (Array bool 512) bacross oacross κacross γacross ysacross)) ⊛ ((‵ (flft κcmds qcmds) ⊛ ‵ (Own u64 mcmds bcmds ocmds κcmds γcmds yscmds)) ⊛ (‵ (flft κstems qstems) ⊛ ‵ (Own T.the-row mstems bstems ostems κstems γstems ysstems))))))))) ∷ []) ∵ says ! need $ split ! $ move ! (1 ∷ []) $ split ! $ move ! (1 ∷ []) $ split ! $ move ! (1 ∷ []) $ split ! $ move ! (1 ∷ []) $ split ! $ move ! (1 ∷ []) $ split ! $ move ! (1 ∷ []) $ split ! $ move ! (7 ∷ []) $ split ! $ move ! (8 ∷ []) $ split ! $ move ! (9 ∷ []) $ split ! $ move ! (10 ∷ []) $ split ! $ move ! (11 ∷ []) $ split ! $ move ! (12 ∷ []) $ split ! $ move ! (12 ∷ []) $ split ! $ move ! (14 ∷ []) $ split ! $ nothing ! $ move ! (2 ∷ 0 ∷ []) $ fjoin ! $ move ! (3 ∷ 0 ∷ []) $ fjoin ! $ move ! (4 ∷ 0 ∷ []) $ fjoin ! $ move ! (5 ∷ 0 ∷ []) $ fjoin ! $ move ! (6 ∷ 0 ∷ []) $ fjoin ! $ move ! (7 ∷ 0 ∷ []) $ fjoin ! $ move ! (8 ∷ 0 ∷ []) $ fjoin ! $ owned ! S.the-row (Is S.the-row) (LL.makes S.the-type S′.the-plain 𝓤 H A) st _ st-fits $ fjoin ! $ owned ! usize (Is usize) (uint-makes 𝓤 H A W w64) levels _ (refl, levels-fits) $ fjoin ! $ owned ! usize (Is usize) (uint-makes 𝓤 H A W w64) iv _ (refl, iv-fits) $ fjoin ! $ move ! (9 ∷ 0 ∷ []) $ fjoin ! $ nothing ! $ move ! (2 ∷ 0 ∷ []) $ join ! $ move ! (2 ∷ 0 ∷ []) $ join ! $ move ! (2 ∷ 0 ∷ []) $ join ! $ move ! (2 ∷ 0 ∷ []) $ join ! $ move ! (2 ∷ 0 ∷ []) $ join ! $ move ! (2 ∷ 0 ∷ []) $ join ! $ move ! (2 ∷ 0 ∷ []) $ join ! $ move ! (2 ∷ 0 ∷ []) $ join ! $ frame ! $ done !) (known y lt)
+
+  pub op-as : (t : ℕ) → BelowOp 𝓤 H A mem run′ C t → (κbank : Lft) (qbank : Share) (xbank : RefT (List ℕ)) (κops : Lft) (qops : Share) (bops oops : ℕ) (γops : GName) (ysops : List Float) (κps : Lft) (qps : Share) (bps ops : ℕ) (γps : GName) (ysps : List Float) (κcells : Lft) (qcells : Share) (bcells ocells : ℕ) (γcells : GName) (yscells : List Float) (κedges : Lft) (qedges : Share) (bedges oedges : ℕ) (γedges : GName) (ysedges : List Float) (κacross : Lft) (qacross : Share) (bacross oacross : ℕ) (γacross : GName) (ysacross : List Bool) (κcmds : Lft) (qcmds : Share) (mcmds bcmds ocmds : ℕ) (γcmds : GName) (yscmds : List ℕ) (κstems : Lft) (qstems : Share) (mstems bstems ostems : ℕ) (γstems : GName) (ysstems : List Stem) (o : ℕ) (iv : ℕ) (levels : ℕ) (st : St) → o < 2 ^ 16 → iv < 2 ^ 64 → levels < 2 ^ 64 → Is S.the-row st (machS st ∷ []) → (levels < 100) × (Valid (xbank .now) × Ready st (memOf ysops ysps yscells ysedges ysacross yscmds ysstems)) → (levels + levels + levels + 1) < t
       → ent 𝓤 (mean 𝓤 H A ((‵ (flft κbank qbank) ⊛ ‵ (ShrSlice (named 0) κbank u8 .own xbank (sliceVal (xbank .ptr) (length (xbank .now)) ∷ []))) ⊛ ((‵ (flft κops qops) ⊛ ‵ (OwnR (Array f64 256) bops oops κops γops ysops)) ⊛ ((‵ (flft κps qps) ⊛ ‵ (OwnR (Array f64 256) bps ops κps γps ysps)) ⊛ ((‵ (flft κcells qcells) ⊛ ‵ (OwnR (Array f64 19) bcells ocells κcells γcells yscells)) ⊛ ((‵ (flft κedges qedges) ⊛ ‵ (OwnR (Array f64 1024) bedges oedges κedges γedges ysedges)) ⊛ ((‵ (flft κacross qacross) ⊛ ‵ (OwnR (Array bool 512) bacross oacross κacross γacross ysacross)) ⊛ ((‵ (flft κcmds qcmds) ⊛ ‵ (Own u64 mcmds bcmds ocmds κcmds γcmds yscmds)) ⊛ (‵ (flft κstems qstems) ⊛ ‵ (Own T.the-row mstems bstems ostems κstems γstems ysstems)))))))))) (C #type1·op (vint w16 o ∷ sliceVal (xbank .ptr) (length (xbank .now)) ∷ vint w64 iv ∷ vint w64 levels ∷ machS st ∷ vptr bops oops ∷ vptr bps ops ∷ vptr bcells ocells ∷ vptr bedges oedges ∷ vptr bacross oacross ∷ sliceVal (bcmds, ocmds) mcmds ∷ sliceVal (bstems, ostems) mstems ∷ []) (λ w. mean 𝓤 H A (GotAll 𝓤 N.the-row (Unit {0} × (Unit {0} × (Unit {0} × (Unit {0} × (Unit {0} × (List Float × (List Float × (List Float × (List Float × (List Bool × (List ℕ × (List Stem × Unit {0})))))))))))) (λ (r : N.the-row .Denot) (lasts : (Unit {0} × (Unit {0} × (Unit {0} × (Unit {0} × (Unit {0} × (List Float × (List Float × (List Float × (List Float × (List Bool × (List ℕ × (List Stem × Unit {0}))))))))))))). Meets r (memOf (lasts .1 .1 .1 .1 .1 .0) (lasts .1 .1 .1 .1 .1 .1 .0) (lasts .1 .1 .1 .1 .1 .1 .1 .0) (lasts .1 .1 .1 .1 .1 .1 .1 .1 .0) (lasts .1 .1 .1 .1 .1 .1 .1 .1 .1 .0) (lasts .1 .1 .1 .1 .1 .1 .1 .1 .1 .1 .0) (lasts .1 .1 .1 .1 .1 .1 .1 .1 .1 .1 .1 .0)) (opD (xbank .now) iv levels o st (memOf ysops ysps yscells ysedges ysacross yscmds ysstems))) (λ (lasts : (Unit {0} × (Unit {0} × (Unit {0} × (Unit {0} × (Unit {0} × (List Float × (List Float × (List Float × (List Float × (List Bool × (List ℕ × (List Stem × Unit {0}))))))))))))). (fsep ftrue (fsep ftrue (fsep ftrue (fsep ftrue (fsep ftrue (fsep (fres γops ((Array f64 256) .coded .code (lasts .1 .1 .1 .1 .1 .0))) (fsep (fres γps ((Array f64 256) .coded .code (lasts .1 .1 .1 .1 .1 .1 .0))) (fsep (fres γcells ((Array f64 19) .coded .code (lasts .1 .1 .1 .1 .1 .1 .1 .0))) (fsep (fres γedges ((Array f64 1024) .coded .code (lasts .1 .1 .1 .1 .1 .1 .1 .1 .0))) (fsep (fres γacross ((Array bool 512) .coded .code (lasts .1 .1 .1 .1 .1 .1 .1 .1 .1 .0))) (fsep (fsep (finally u64 γcmds (lasts .1 .1 .1 .1 .1 .1 .1 .1 .1 .1 .0)) (feq ℕ (length (lasts .1 .1 .1 .1 .1 .1 .1 .1 .1 .1 .0)) (length yscmds))) (fsep (fsep (finally T.the-row γstems (lasts .1 .1 .1 .1 .1 .1 .1 .1 .1 .1 .1 .0)) (feq ℕ (length (lasts .1 .1 .1 .1 .1 .1 .1 .1 .1 .1 .1 .0)) (length ysstems))) ftrue))))))))))))) (‵ (flft κbank qbank) ⊛ (‵ (flft κops qops) ⊛ (‵ (flft κps qps) ⊛ (‵ (flft κcells qcells) ⊛ (‵ (flft κedges qedges) ⊛ (‵ (flft κacross qacross) ⊛ (‵ (flft κcmds qcmds) ⊛ (‵ (flft κstems qstems) ⊛ ‵ ftrue)))))))) w)))
   op-as t known κbank qbank xbank κops qops bops oops γops ysops κps qps bps ops γps ysps κcells qcells bcells ocells γcells yscells κedges qedges bedges oedges γedges ysedges κacross qacross bacross oacross γacross ysacross κcmds qcmds mcmds bcmds ocmds γcmds yscmds κstems qstems mstems bstems ostems γstems ysstems o iv levels st o-fits iv-fits levels-fits st-fits need lt =
       let y : OpC 𝓤 H A mem run′ .Ghost = (((κbank, (κops, (κps, (κcells, (κedges, (κacross, (κcmds, (κstems, tt)))))))), (qbank, (qops, (qps, (qcells, (qedges, (qacross, (qcmds, (qstems, tt)))))))), tt, (o, (xbank, (iv, (levels, (st, (at-one (Array f64 256) bops oops γops ysops, (at-one (Array f64 256) bps ops γps ysps, (at-one (Array f64 19) bcells ocells γcells yscells, (at-one (Array f64 1024) bedges oedges γedges ysedges, (at-one (Array bool 512) bacross oacross γacross ysacross, (at-list u64 mcmds bcmds ocmds γcmds yscmds, (at-list T.the-row mstems bstems ostems γstems ysstems, tt)))))))))))), (vint w16 o ∷ [], (sliceVal (xbank .ptr) (length (xbank .now)) ∷ [], (vint w64 iv ∷ [], (vint w64 levels ∷ [], (machS st ∷ [], (vptr bops oops ∷ [], (vptr bps ops ∷ [], (vptr bcells ocells ∷ [], (vptr bedges oedges ∷ [], (vptr bacross oacross ∷ [], (sliceVal (bcmds, ocmds) mcmds ∷ [], (sliceVal (bstems, ostems) mstems ∷ [], tt))))))))))))), tt) in
       via 𝓤 (OpC 𝓤 H A mem run′ .pre y) (qed W (((‵ (flft κbank qbank) ⊛ ‵ (ShrSlice (named 0) κbank u8 .own xbank (sliceVal (xbank .ptr) (length (xbank .now)) ∷ []))) ⊛ ((‵ (flft κops qops) ⊛ ‵ (OwnR (Array f64 256) bops oops κops γops ysops)) ⊛ ((‵ (flft κps qps) ⊛ ‵ (OwnR (Array f64 256) bps ops κps γps ysps)) ⊛ ((‵ (flft κcells qcells) ⊛ ‵ (OwnR (Array f64 19) bcells ocells κcells γcells yscells)) ⊛ ((‵ (flft κedges qedges) ⊛ ‵ (OwnR (Array f64 1024) bedges oedges κedges γedges ysedges)) ⊛ ((‵ (flft κacross qacross) ⊛ ‵ (OwnR (Array bool 512) bacross oacross κacross γacross ysacross)) ⊛ ((‵ (flft κcmds qcmds) ⊛ ‵ (Own u64 mcmds bcmds ocmds κcmds γcmds yscmds)) ⊛ (‵ (flft κstems qstems) ⊛ ‵ (Own T.the-row mstems bstems ostems κstems γstems ysstems))))))))) ∷ []) ∵ says ! need $ split ! $ move ! (1 ∷ []) $ split ! $ move ! (1 ∷ []) $ split ! $ move ! (1 ∷ []) $ split ! $ move ! (1 ∷ []) $ split ! $ move ! (1 ∷ []) $ split ! $ move ! (1 ∷ []) $ split ! $ move ! (7 ∷ []) $ split ! $ move ! (8 ∷ []) $ split ! $ move ! (9 ∷ []) $ split ! $ move ! (10 ∷ []) $ split ! $ move ! (11 ∷ []) $ split ! $ move ! (12 ∷ []) $ split ! $ move ! (12 ∷ []) $ split ! $ move ! (14 ∷ []) $ split ! $ nothing ! $ move ! (2 ∷ 0 ∷ []) $ fjoin ! $ move ! (3 ∷ 0 ∷ []) $ fjoin ! $ move ! (4 ∷ 0 ∷ []) $ fjoin ! $ move ! (5 ∷ 0 ∷ []) $ fjoin ! $ move ! (6 ∷ 0 ∷ []) $ fjoin ! $ move ! (7 ∷ 0 ∷ []) $ fjoin ! $ move ! (8 ∷ 0 ∷ []) $ fjoin ! $ owned ! S.the-row (Is S.the-row) (LL.makes S.the-type S′.the-plain 𝓤 H A) st _ st-fits $ fjoin ! $ owned ! usize (Is usize) (uint-makes 𝓤 H A W w64) levels _ (refl, levels-fits) $ fjoin ! $ owned ! usize (Is usize) (uint-makes 𝓤 H A W w64) iv _ (refl, iv-fits) $ fjoin ! $ move ! (9 ∷ 0 ∷ []) $ fjoin ! $ owned ! u16 (Is u16) (uint-makes 𝓤 H A W w16) o _ (refl, o-fits) $ fjoin ! $ nothing ! $ move ! (2 ∷ 0 ∷ []) $ join ! $ move ! (2 ∷ 0 ∷ []) $ join ! $ move ! (2 ∷ 0 ∷ []) $ join ! $ move ! (2 ∷ 0 ∷ []) $ join ! $ move ! (2 ∷ 0 ∷ []) $ join ! $ move ! (2 ∷ 0 ∷ []) $ join ! $ move ! (2 ∷ 0 ∷ []) $ join ! $ move ! (2 ∷ 0 ∷ []) $ join ! $ frame ! $ done !) (known y lt)
 
-  pub run-as : (t : ℕ) → BelowRun 𝓤 H A mem run′ C t → (κcode : Lft) (qcode : Share) (xcode : RefT (List ℕ)) (κbank : Lft) (qbank : Share) (xbank : RefT (List ℕ)) (κops : Lft) (qops : Share) (bops oops : ℕ) (γops : GName) (ysops : List Float) (κps : Lft) (qps : Share) (bps ops : ℕ) (γps : GName) (ysps : List Float) (κcells : Lft) (qcells : Share) (bcells ocells : ℕ) (γcells : GName) (yscells : List Float) (κedges : Lft) (qedges : Share) (bedges oedges : ℕ) (γedges : GName) (ysedges : List Float) (κacross : Lft) (qacross : Share) (bacross oacross : ℕ) (γacross : GName) (ysacross : List Bool) (κcmds : Lft) (qcmds : Share) (mcmds bcmds ocmds : ℕ) (γcmds : GName) (yscmds : List ℕ) (κstems : Lft) (qstems : Share) (mstems bstems ostems : ℕ) (γstems : GName) (ysstems : List Stem) (iv : ℕ) (levels : ℕ) (st : St) → iv < 2 ^ 64 → levels < 2 ^ 64 → Is S.the-row st (machS st ∷ []) → (levels < 100) × (Valid (xbank .now) × Ready st (memOf ysops ysps yscells ysedges ysacross yscmds ysstems)) → (levels + levels + 1) < t
+  pub run-as : (t : ℕ) → BelowRun 𝓤 H A mem run′ C t → (κcode : Lft) (qcode : Share) (xcode : RefT (List ℕ)) (κbank : Lft) (qbank : Share) (xbank : RefT (List ℕ)) (κops : Lft) (qops : Share) (bops oops : ℕ) (γops : GName) (ysops : List Float) (κps : Lft) (qps : Share) (bps ops : ℕ) (γps : GName) (ysps : List Float) (κcells : Lft) (qcells : Share) (bcells ocells : ℕ) (γcells : GName) (yscells : List Float) (κedges : Lft) (qedges : Share) (bedges oedges : ℕ) (γedges : GName) (ysedges : List Float) (κacross : Lft) (qacross : Share) (bacross oacross : ℕ) (γacross : GName) (ysacross : List Bool) (κcmds : Lft) (qcmds : Share) (mcmds bcmds ocmds : ℕ) (γcmds : GName) (yscmds : List ℕ) (κstems : Lft) (qstems : Share) (mstems bstems ostems : ℕ) (γstems : GName) (ysstems : List Stem) (iv : ℕ) (levels : ℕ) (st : St) → iv < 2 ^ 64 → levels < 2 ^ 64 → Is S.the-row st (machS st ∷ []) → (levels < 100) × (Valid (xbank .now) × Ready st (memOf ysops ysps yscells ysedges ysacross yscmds ysstems)) → (levels + levels + levels + 2) < t
       → ent 𝓤 (mean 𝓤 H A ((‵ (flft κcode qcode) ⊛ ‵ (ShrSlice (named 0) κcode u8 .own xcode (sliceVal (xcode .ptr) (length (xcode .now)) ∷ []))) ⊛ ((‵ (flft κbank qbank) ⊛ ‵ (ShrSlice (named 0) κbank u8 .own xbank (sliceVal (xbank .ptr) (length (xbank .now)) ∷ []))) ⊛ ((‵ (flft κops qops) ⊛ ‵ (OwnR (Array f64 256) bops oops κops γops ysops)) ⊛ ((‵ (flft κps qps) ⊛ ‵ (OwnR (Array f64 256) bps ops κps γps ysps)) ⊛ ((‵ (flft κcells qcells) ⊛ ‵ (OwnR (Array f64 19) bcells ocells κcells γcells yscells)) ⊛ ((‵ (flft κedges qedges) ⊛ ‵ (OwnR (Array f64 1024) bedges oedges κedges γedges ysedges)) ⊛ ((‵ (flft κacross qacross) ⊛ ‵ (OwnR (Array bool 512) bacross oacross κacross γacross ysacross)) ⊛ ((‵ (flft κcmds qcmds) ⊛ ‵ (Own u64 mcmds bcmds ocmds κcmds γcmds yscmds)) ⊛ (‵ (flft κstems qstems) ⊛ ‵ (Own T.the-row mstems bstems ostems κstems γstems ysstems))))))))))) (C #type1·run (sliceVal (xcode .ptr) (length (xcode .now)) ∷ sliceVal (xbank .ptr) (length (xbank .now)) ∷ vint w64 iv ∷ vint w64 levels ∷ machS st ∷ vptr bops oops ∷ vptr bps ops ∷ vptr bcells ocells ∷ vptr bedges oedges ∷ vptr bacross oacross ∷ sliceVal (bcmds, ocmds) mcmds ∷ sliceVal (bstems, ostems) mstems ∷ []) (λ w. mean 𝓤 H A (GotAll 𝓤 N.the-row (Unit {0} × (Unit {0} × (Unit {0} × (Unit {0} × (Unit {0} × (List Float × (List Float × (List Float × (List Float × (List Bool × (List ℕ × (List Stem × Unit {0})))))))))))) (λ (r : N.the-row .Denot) (lasts : (Unit {0} × (Unit {0} × (Unit {0} × (Unit {0} × (Unit {0} × (List Float × (List Float × (List Float × (List Float × (List Bool × (List ℕ × (List Stem × Unit {0}))))))))))))). Meets r (memOf (lasts .1 .1 .1 .1 .1 .0) (lasts .1 .1 .1 .1 .1 .1 .0) (lasts .1 .1 .1 .1 .1 .1 .1 .0) (lasts .1 .1 .1 .1 .1 .1 .1 .1 .0) (lasts .1 .1 .1 .1 .1 .1 .1 .1 .1 .0) (lasts .1 .1 .1 .1 .1 .1 .1 .1 .1 .1 .0) (lasts .1 .1 .1 .1 .1 .1 .1 .1 .1 .1 .1 .0)) (runD (xbank .now) iv levels (xcode .now) st (memOf ysops ysps yscells ysedges ysacross yscmds ysstems))) (λ (lasts : (Unit {0} × (Unit {0} × (Unit {0} × (Unit {0} × (Unit {0} × (List Float × (List Float × (List Float × (List Float × (List Bool × (List ℕ × (List Stem × Unit {0}))))))))))))). (fsep ftrue (fsep ftrue (fsep ftrue (fsep ftrue (fsep ftrue (fsep (fres γops ((Array f64 256) .coded .code (lasts .1 .1 .1 .1 .1 .0))) (fsep (fres γps ((Array f64 256) .coded .code (lasts .1 .1 .1 .1 .1 .1 .0))) (fsep (fres γcells ((Array f64 19) .coded .code (lasts .1 .1 .1 .1 .1 .1 .1 .0))) (fsep (fres γedges ((Array f64 1024) .coded .code (lasts .1 .1 .1 .1 .1 .1 .1 .1 .0))) (fsep (fres γacross ((Array bool 512) .coded .code (lasts .1 .1 .1 .1 .1 .1 .1 .1 .1 .0))) (fsep (fsep (finally u64 γcmds (lasts .1 .1 .1 .1 .1 .1 .1 .1 .1 .1 .0)) (feq ℕ (length (lasts .1 .1 .1 .1 .1 .1 .1 .1 .1 .1 .0)) (length yscmds))) (fsep (fsep (finally T.the-row γstems (lasts .1 .1 .1 .1 .1 .1 .1 .1 .1 .1 .1 .0)) (feq ℕ (length (lasts .1 .1 .1 .1 .1 .1 .1 .1 .1 .1 .1 .0)) (length ysstems))) ftrue))))))))))))) (‵ (flft κcode qcode) ⊛ (‵ (flft κbank qbank) ⊛ (‵ (flft κops qops) ⊛ (‵ (flft κps qps) ⊛ (‵ (flft κcells qcells) ⊛ (‵ (flft κedges qedges) ⊛ (‵ (flft κacross qacross) ⊛ (‵ (flft κcmds qcmds) ⊛ (‵ (flft κstems qstems) ⊛ ‵ ftrue))))))))) w)))
   run-as t known κcode qcode xcode κbank qbank xbank κops qops bops oops γops ysops κps qps bps ops γps ysps κcells qcells bcells ocells γcells yscells κedges qedges bedges oedges γedges ysedges κacross qacross bacross oacross γacross ysacross κcmds qcmds mcmds bcmds ocmds γcmds yscmds κstems qstems mstems bstems ostems γstems ysstems iv levels st iv-fits levels-fits st-fits need lt =
       let y : RunC 𝓤 H A mem run′ .Ghost = (((κcode, (κbank, (κops, (κps, (κcells, (κedges, (κacross, (κcmds, (κstems, tt))))))))), (qcode, (qbank, (qops, (qps, (qcells, (qedges, (qacross, (qcmds, (qstems, tt))))))))), tt, (xcode, (xbank, (iv, (levels, (st, (at-one (Array f64 256) bops oops γops ysops, (at-one (Array f64 256) bps ops γps ysps, (at-one (Array f64 19) bcells ocells γcells yscells, (at-one (Array f64 1024) bedges oedges γedges ysedges, (at-one (Array bool 512) bacross oacross γacross ysacross, (at-list u64 mcmds bcmds ocmds γcmds yscmds, (at-list T.the-row mstems bstems ostems γstems ysstems, tt)))))))))))), (sliceVal (xcode .ptr) (length (xcode .now)) ∷ [], (sliceVal (xbank .ptr) (length (xbank .now)) ∷ [], (vint w64 iv ∷ [], (vint w64 levels ∷ [], (machS st ∷ [], (vptr bops oops ∷ [], (vptr bps ops ∷ [], (vptr bcells ocells ∷ [], (vptr bedges oedges ∷ [], (vptr bacross oacross ∷ [], (sliceVal (bcmds, ocmds) mcmds ∷ [], (sliceVal (bstems, ostems) mstems ∷ [], tt))))))))))))), tt) in

@@ -73,9 +73,9 @@ use Rattle.type1.proofs.token.Symbol.{name as #type1·token}
 use Rattle.type1.proofs.made.Symbol.{name as #type1·made}
 use Rattle.type1.proofs.stopped.Symbol.{name as #type1·stopped}
 use Rattle.type1.proofs.run as f
-use Rattle.type1.proofs.+op+run.Code as code
-use Rattle.type1.proofs.+op+run.Code.run as text
-use Rattle.type1.proofs.+op+run.Proof.Calls.{BeginC, TokenC, MadeC, StoppedC, begin-as, token-as, made-as, stopped-as, BelowOp, op-as}
+use Rattle.type1.proofs.+call_body+op+run.Code as code
+use Rattle.type1.proofs.+call_body+op+run.Code.run as text
+use Rattle.type1.proofs.+call_body+op+run.Proof.Calls.{BeginC, TokenC, MadeC, StoppedC, begin-as, token-as, made-as, stopped-as, BelowOp, op-as}
 use Rattle.type1.proofs.Octets.{knows-bytes}
 use Rattle.type1.proofs.CycleLaws.{Onward, starts, ended, ready-token, token-stopped, op-stopped, op-went}
 
@@ -156,7 +156,7 @@ module _ {M : Type 1} (𝓤 : URA M) (H : Heap 𝓤) (A : Atoms 𝓤) (W : Given
       qed W (‵ (N.the-row .own r (w ∷ [])) ∷ ‵ (ShrSlice (named 0) κcode u8 .own xcode (sliceVal (xcode .ptr) (length (xcode .now)) ∷ [])) ∷ ‵ (flft κcode qcode) ∷ ‵ (ShrSlice (named 0) κbank u8 .own xbank (sliceVal (xbank .ptr) (length (xbank .now)) ∷ [])) ∷ ‵ (flft κbank qbank) ∷ ‵ (OwnR (Array f64 256) bops oops κops γops usops) ∷ ‵ (flft κops qops) ∷ ‵ (OwnR (Array f64 256) bps ops κps γps usps) ∷ ‵ (flft κps qps) ∷ ‵ (OwnR (Array f64 19) bcells ocells κcells γcells uscells) ∷ ‵ (flft κcells qcells) ∷ ‵ (OwnR (Array f64 1024) bedges oedges κedges γedges usedges) ∷ ‵ (flft κedges qedges) ∷ ‵ (OwnR (Array bool 512) bacross oacross κacross γacross usacross) ∷ ‵ (flft κacross qacross) ∷ ‵ (Own u64 mcmds bcmds ocmds κcmds γcmds uscmds) ∷ ‵ (flft κcmds qcmds) ∷ ‵ (Own T.the-row mstems bstems ostems κstems γstems usstems) ∷ ‵ (flft κstems qstems) ∷ []) ∵ suffices ! _ (ends-at 𝓤 H A f.ended stayed (f.clauses 𝓤 H A mem run′) W bound w r (tt, (tt, (tt, (tt, (tt, (usops, (usps, (uscells, (usedges, (usacross, (uscmds, (usstems, tt)))))))))))) (tt, (tt, (tt, (tt, (tt, (tt, (tt, (tt, (tt, (tt, (lcmds, (lstems, tt))))))))))))) $ says ! e $
       nothing ! $ move ! (19 ∷ 0 ∷ []) $ join ! $ move ! (17 ∷ 0 ∷ []) $ join ! $ move ! (15 ∷ 0 ∷ []) $ join ! $ move ! (13 ∷ 0 ∷ []) $ join ! $ move ! (11 ∷ 0 ∷ []) $ join ! $ move ! (9 ∷ 0 ∷ []) $ join ! $ move ! (7 ∷ 0 ∷ []) $ join ! $ move ! (5 ∷ 0 ∷ []) $ join ! $ move ! (3 ∷ 0 ∷ []) $ join ! $ frame ! $ nothing ! $ move ! (10 ∷ 0 ∷ []) $ fjoin ! $ move ! (9 ∷ 0 ∷ []) $ fjoin ! $ move ! (8 ∷ 0 ∷ []) $ fjoin ! $ move ! (7 ∷ 0 ∷ []) $ fjoin ! $ move ! (6 ∷ 0 ∷ []) $ fjoin ! $ move ! (5 ∷ 0 ∷ []) $ fjoin ! $ move ! (4 ∷ 0 ∷ []) $ fjoin ! $ owned ! S.the-row (Is S.the-row) (LL.makes S.the-type S′.the-plain 𝓤 H A) st _ st-fits $ fjoin ! $ owned ! usize (Is usize) (uint-makes 𝓤 H A W w64) levels _ (refl, levels-fits) $ fjoin ! $ owned ! usize (Is usize) (uint-makes 𝓤 H A W w64) iv _ (refl, iv-fits) $ fjoin ! $ move ! (3 ∷ 0 ∷ []) $ fjoin ! $ move ! (2 ∷ 0 ∷ []) $ fjoin ! $ done !
 
-  module _ (known-begin : Triple 𝓤 (C #type1·begin) (BeginC 𝓤 H A mem run′)) (known-token : Triple 𝓤 (C #type1·token) (TokenC 𝓤 H A mem run′)) (known-made : Triple 𝓤 (C #type1·made) (MadeC 𝓤 H A mem run′)) (known-stopped : Triple 𝓤 (C #type1·stopped) (StoppedC 𝓤 H A mem run′)) (need : (levels < 100) × (Valid (xbank .now) × Ready st (memOf ysops ysps yscells ysedges ysacross yscmds ysstems))) (t : ℕ) (below : BelowOp 𝓤 H A mem run′ C t) (measure : levels + levels + 1 ≡ t) where
+  module _ (known-begin : Triple 𝓤 (C #type1·begin) (BeginC 𝓤 H A mem run′)) (known-token : Triple 𝓤 (C #type1·token) (TokenC 𝓤 H A mem run′)) (known-made : Triple 𝓤 (C #type1·made) (MadeC 𝓤 H A mem run′)) (known-stopped : Triple 𝓤 (C #type1·stopped) (StoppedC 𝓤 H A mem run′)) (need : (levels < 100) × (Valid (xbank .now) × Ready st (memOf ysops ysps yscells ysedges ysacross yscmds ysstems))) (t : ℕ) (below : BelowOp 𝓤 H A mem run′ C t) (measure : levels + levels + levels + 2 ≡ t) where
     abbrev En : (l₀ l₁ l₂ l₃ l₄ l₅ l₆ l₇ l₈ l₉ l₁₀ l₁₁ l₁₂ l₁₃ l₁₄ l₁₅ l₁₆ l₁₇ l₁₈ l₁₉ l₂₀ l₂₁ l₂₂ l₂₃ l₂₄ l₂₅ l₂₆ l₂₇ l₂₈ l₂₉ l₃₀ l₃₁ l₃₂ l₃₃ l₃₄ l₃₅ : ℕ) → Env 𝓤 H
     En l₀ l₁ l₂ l₃ l₄ l₅ l₆ l₇ l₈ l₉ l₁₀ l₁₁ l₁₂ l₁₃ l₁₄ l₁₅ l₁₆ l₁₇ l₁₈ l₁₉ l₂₀ l₂₁ l₂₂ l₂₃ l₂₄ l₂₅ l₂₆ l₂₇ l₂₈ l₂₉ l₃₀ l₃₁ l₃₂ l₃₃ l₃₄ l₃₅ = (tNt, l₀) ∷ (sliceTy (tB (named 0)), l₁) ∷ (sliceTy (tB (named 1)), l₂) ∷ (word, l₃) ∷ (word, l₄) ∷ (tSt, l₅) ∷ (tF (named 2) 256, l₆) ∷ (tF (named 3) 256, l₇) ∷ (tF (named 4) 19, l₈) ∷ (tF (named 5) 1024, l₉) ∷ (tA (named 6), l₁₀) ∷ (sliceTy (tU (named 7)), l₁₁) ∷ (sliceTy (tS (named 8)), l₁₂) ∷ (tBt, l₁₃) ∷ (tyBool, l₁₄) ∷ (word, l₁₅) ∷ (half, l₁₆) ∷ (tSt, l₁₇) ∷ (tKt, l₁₈) ∷ (byte, l₁₉) ∷ (tNt, l₂₀) ∷ (byte, l₂₁) ∷ (word, l₂₂) ∷ (tyBool, l₂₃) ∷ (tF erased 256, l₂₄) ∷ (tU erased, l₂₅) ∷ (sliceTy (tU erased), l₂₆) ∷ (tF erased 256, l₂₇) ∷ (tF erased 256, l₂₈) ∷ (tF erased 19, l₂₉) ∷ (tF erased 1024, l₃₀) ∷ (tA erased, l₃₁) ∷ (tU erased, l₃₂) ∷ (sliceTy (tU erased), l₃₃) ∷ (tS erased, l₃₄) ∷ (sliceTy (tS erased), l₃₅) ∷ []
 
