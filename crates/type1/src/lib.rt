@@ -1850,15 +1850,16 @@ fn put(stems: &mut [Stem], i: usize, v: Stem)
     stems[i] = v;
 }
 
-// The zero record: vertical, 0, 0.
-fn blank() -> Stem
-    ensures { λ r. ⌜ r ≡ Small.zeroStem ⌝ }
+// The record at a place becomes the zero record: vertical, 0, 0. Stored as a literal: LLVM then writes its fields and no padding.
+fn clear(stems: &mut [Stem], i: usize)
+    requires { ⌜ i < length (now stems) ⌝ }
+    ensures { λ _. ⌜ now (stems .exit) ≡ set (now (stems .entry)) i Small.zeroStem ⌝ }
 {
-    Stem {
+    stems[i] = Stem {
         horizontal: false,
         pos: 0.0,
         width: 0.0,
-    }
+    };
 }
 
 // The stem in force at a place.
@@ -1892,22 +1893,15 @@ fn keep_group(used: usize, n: usize, edges: &[f64; 1024], across: &[bool; 512], 
     }
 }
 
-// Every record becomes v. The record is made once, outside the loop: LLVM keeps it in registers there.
-fn fill(stems: &mut [Stem], v: Stem)
-    ensures { λ _. ⌜ now (stems .exit) ≡ replicate (length (now (stems .entry))) v ⌝ }
-{
-    let mut i = 0;
-    while i < stems.len() {
-        put(stems, i, v);
-        i += 1;
-    }
-}
-
 // Every record becomes the zero record.
 pub fn wipe(stems: &mut [Stem])
     ensures { λ _. ⌜ now (stems .exit) ≡ replicate (length (now (stems .entry))) Small.zeroStem ⌝ }
 {
-    fill(stems, blank());
+    let mut i = 0;
+    while i < stems.len() {
+        clear(stems, i);
+        i += 1;
+    }
 }
 
 // ---- the run
