@@ -559,6 +559,33 @@ fn made(st: St, flow: u8) -> Ran
     Ran { st, flow }
 }
 
+// The same answer, field by field: LLVM then keeps the fields in registers.
+fn kept(r: Ran) -> Ran
+    ensures { λ a. ⌜ a ≡ r ⌝ }
+{
+    let t = r.st;
+    Ran {
+        st: St {
+            operands: t.operands,
+            postscript: t.postscript,
+            x: t.x,
+            y: t.y,
+            points: t.points,
+            hints: t.hints,
+            last: t.last,
+            groups: t.groups,
+            stems: t.stems,
+            entries: t.entries,
+            ran: t.ran,
+            opened: t.opened,
+            flexing: t.flexing,
+            changed: t.changed,
+            divided: t.divided,
+        },
+        flow: r.flow,
+    }
+}
+
 // A body that returns, or comes to its end, goes on after the call.
 fn stopped(st: St, flow: u8) -> Ran
     ensures { λ r. ⌜ r ≡ Small.ranOf st (pick (eqb flow 1) 0 flow) ⌝ }
@@ -1722,19 +1749,19 @@ fn plain(
             return vstem(st, ops, cells, edges, across);
         }
         4 => {
-            return vmoveto(room, st, ops, edges, across, cmds);
+            return kept(vmoveto(room, st, ops, edges, across, cmds));
         }
         5 => {
-            return rlineto(room, st, ops, edges, across, cmds);
+            return kept(rlineto(room, st, ops, edges, across, cmds));
         }
         6 => {
-            return hlineto(room, st, ops, edges, across, cmds);
+            return kept(hlineto(room, st, ops, edges, across, cmds));
         }
         7 => {
-            return vlineto(room, st, ops, edges, across, cmds);
+            return kept(vlineto(room, st, ops, edges, across, cmds));
         }
         8 => {
-            return rrcurveto(room, st, ops, edges, across, cmds);
+            return kept(rrcurveto(room, st, ops, edges, across, cmds));
         }
         9 => {
             return closepath(st);
@@ -1749,25 +1776,25 @@ fn plain(
             return made(cleared(st), 2);
         }
         21 => {
-            return rmoveto(room, st, ops, edges, across, cmds);
+            return kept(rmoveto(room, st, ops, edges, across, cmds));
         }
         22 => {
-            return hmoveto(room, st, ops, edges, across, cmds);
+            return kept(hmoveto(room, st, ops, edges, across, cmds));
         }
         30 => {
-            return vhcurveto(room, st, ops, edges, across, cmds);
+            return kept(vhcurveto(room, st, ops, edges, across, cmds));
         }
         31 => {
-            return hvcurveto(room, st, ops, edges, across, cmds);
+            return kept(hvcurveto(room, st, ops, edges, across, cmds));
         }
         256 => {
             return made(cleared(st), 0);
         }
         257 => {
-            return stems3(false, cells[BEARING_X], st, ops, edges, across);
+            return kept(stems3(false, cells[BEARING_X], st, ops, edges, across));
         }
         258 => {
-            return stems3(true, cells[BEARING_Y], st, ops, edges, across);
+            return kept(stems3(true, cells[BEARING_Y], st, ops, edges, across));
         }
         262 => {
             return made(st, 12);
@@ -1779,13 +1806,13 @@ fn plain(
             return div(st, ops);
         }
         272 => {
-            return callothersubr(room, st, ops, ps, cells, edges, across, cmds);
+            return kept(callothersubr(room, st, ops, ps, cells, edges, across, cmds));
         }
         273 => {
             return pop(st, ops, ps);
         }
         289 => {
-            return setcurrentpoint(room, st, ops, edges, across, cmds);
+            return kept(setcurrentpoint(room, st, ops, edges, across, cmds));
         }
         _ => {
             return made(st, 6);

@@ -26,6 +26,7 @@ use Rattle.type1.proofs.hmoveto.Reads as hmoveto-reads
 use Rattle.type1.proofs.hsbw.Reads as hsbw-reads
 use Rattle.type1.proofs.hstem.Reads as hstem-reads
 use Rattle.type1.proofs.hvcurveto.Reads as hvcurveto-reads
+use Rattle.type1.proofs.kept.Reads as kept-reads
 use Rattle.type1.proofs.made.Reads as made-reads
 use Rattle.type1.proofs.pop.Reads as pop-reads
 use Rattle.type1.proofs.rlineto.Reads as rlineto-reads
@@ -63,6 +64,9 @@ returns-2 c =
 vmoveto-requires : tie.Need-vmoveto-requires
 vmoveto-requires c κs = search needs
 
+kept-requires : tie.Need-kept-requires
+kept-requires c κs = search needs
+
 -- src/lib.rt:478:13
 same-length : tie.Need-same-length
 same-length c = search needs
@@ -71,12 +75,15 @@ same-length c = search needs
 returns-3 : tie.Need-returns-3
 unfolding operatorOf ofByte
 returns-3 c =
-    path-arm _ _ _ _ _ _ _ _ _ _ _ op.vmoveto (c .before .before .before .before .before .before .before .match .keys3) refl _ _ _ (c .before .before .vmoveto .ensures .0) (c .before .before .vmoveto .ensures .1)
+    path-arm _ _ _ _ _ _ _ _ _ _ _ op.vmoveto (c .before .before .before .before .before .before .before .before .match .keys3) refl _ _ _ _ (c .kept .ensures) (c .before .before .before .vmoveto .ensures .0) (c .before .before .before .vmoveto .ensures .1)
 
 -- src/lib.rt:481:13
 rlineto-requires : tie.Need-rlineto-requires
 rlineto-requires c κs =
     (c .before .before .before .before .before .before .pre .0, (c .before .before .before .before .before .before .pre .1 .0, (c .before .before .before .before .before .before .pre .1 .1 .x, c .before .before .before .before .before .before .pre .1 .1 .y)))
+
+kept-requires-2 : tie.Need-kept-requires-2
+kept-requires-2 c κs = search needs
 
 -- src/lib.rt:481:13
 same-length-2 : tie.Need-same-length-2
@@ -86,12 +93,15 @@ same-length-2 c = search needs
 returns-4 : tie.Need-returns-4
 unfolding operatorOf ofByte
 returns-4 c =
-    path-arm _ _ _ _ _ _ _ _ _ _ _ op.rlineto (c .before .before .before .before .before .before .before .match .keys4) refl _ _ _ (c .before .before .rlineto .ensures .0) (c .before .before .rlineto .ensures .1)
+    path-arm _ _ _ _ _ _ _ _ _ _ _ op.rlineto (c .before .before .before .before .before .before .before .before .match .keys4) refl _ _ _ _ (c .kept2 .ensures) (c .before .before .before .rlineto .ensures .0) (c .before .before .before .rlineto .ensures .1)
 
 -- src/lib.rt:484:13
 hlineto-requires : tie.Need-hlineto-requires
 hlineto-requires c κs =
     (c .before .before .before .before .before .before .pre .0, (c .before .before .before .before .before .before .pre .1 .0, (c .before .before .before .before .before .before .pre .1 .1 .x, c .before .before .before .before .before .before .pre .1 .1 .y)))
+
+kept-requires-3 : tie.Need-kept-requires-3
+kept-requires-3 c κs = search needs
 
 -- src/lib.rt:484:13
 same-length-3 : tie.Need-same-length-3
@@ -101,12 +111,15 @@ same-length-3 c = search needs
 returns-5 : tie.Need-returns-5
 unfolding operatorOf ofByte
 returns-5 c =
-    path-arm _ _ _ _ _ _ _ _ _ _ _ op.hlineto (c .before .before .before .before .before .before .before .match .keys5) refl _ _ _ (c .before .before .hlineto .ensures .0) (c .before .before .hlineto .ensures .1)
+    path-arm _ _ _ _ _ _ _ _ _ _ _ op.hlineto (c .before .before .before .before .before .before .before .before .match .keys5) refl _ _ _ _ (c .kept3 .ensures) (c .before .before .before .hlineto .ensures .0) (c .before .before .before .hlineto .ensures .1)
 
 -- src/lib.rt:487:13
 vlineto-requires : tie.Need-vlineto-requires
 vlineto-requires c κs =
     (c .before .before .before .before .before .before .pre .0, (c .before .before .before .before .before .before .pre .1 .0, (c .before .before .before .before .before .before .pre .1 .1 .x, c .before .before .before .before .before .before .pre .1 .1 .y)))
+
+kept-requires-4 : tie.Need-kept-requires-4
+kept-requires-4 c κs = search needs
 
 -- src/lib.rt:487:13
 same-length-4 : tie.Need-same-length-4
@@ -116,12 +129,15 @@ same-length-4 c = search needs
 returns-6 : tie.Need-returns-6
 unfolding operatorOf ofByte
 returns-6 c =
-    path-arm _ _ _ _ _ _ _ _ _ _ _ op.vlineto (c .before .before .before .before .before .before .before .match .keys6) refl _ _ _ (c .before .before .vlineto .ensures .0) (c .before .before .vlineto .ensures .1)
+    path-arm _ _ _ _ _ _ _ _ _ _ _ op.vlineto (c .before .before .before .before .before .before .before .before .match .keys6) refl _ _ _ _ (c .kept4 .ensures) (c .before .before .before .vlineto .ensures .0) (c .before .before .before .vlineto .ensures .1)
 
 -- src/lib.rt:490:13
 rrcurveto-requires : tie.Need-rrcurveto-requires
 rrcurveto-requires c κs =
     (c .before .before .before .before .before .before .pre .0, (c .before .before .before .before .before .before .pre .1 .0, (c .before .before .before .before .before .before .pre .1 .1 .x, c .before .before .before .before .before .before .pre .1 .1 .y)))
+
+kept-requires-5 : tie.Need-kept-requires-5
+kept-requires-5 c κs = search needs
 
 -- src/lib.rt:490:13
 same-length-5 : tie.Need-same-length-5
@@ -131,7 +147,7 @@ same-length-5 c = search needs
 returns-7 : tie.Need-returns-7
 unfolding operatorOf ofByte
 returns-7 c =
-    path-arm _ _ _ _ _ _ _ _ _ _ _ op.rrcurveto (c .before .before .before .before .before .before .before .match .keys7) refl _ _ _ (c .before .before .rrcurveto .ensures .0) (c .before .before .rrcurveto .ensures .1)
+    path-arm _ _ _ _ _ _ _ _ _ _ _ op.rrcurveto (c .before .before .before .before .before .before .before .before .match .keys7) refl _ _ _ _ (c .kept5 .ensures) (c .before .before .before .rrcurveto .ensures .0) (c .before .before .before .rrcurveto .ensures .1)
 
 -- src/lib.rt:493:13
 closepath-requires : tie.Need-closepath-requires
@@ -182,6 +198,9 @@ rmoveto-requires : tie.Need-rmoveto-requires
 rmoveto-requires c κs =
     (c .before .before .before .before .before .before .pre .0, (c .before .before .before .before .before .before .pre .1 .0, (c .before .before .before .before .before .before .pre .1 .1 .x, c .before .before .before .before .before .before .pre .1 .1 .y)))
 
+kept-requires-6 : tie.Need-kept-requires-6
+kept-requires-6 c κs = search needs
+
 -- src/lib.rt:505:13
 same-length-6 : tie.Need-same-length-6
 same-length-6 c = search needs
@@ -190,12 +209,15 @@ same-length-6 c = search needs
 returns-12 : tie.Need-returns-12
 unfolding operatorOf ofByte
 returns-12 c =
-    path-arm _ _ _ _ _ _ _ _ _ _ _ op.rmoveto (c .before .before .before .before .before .before .before .match .keys12) refl _ _ _ (c .before .before .rmoveto .ensures .0) (c .before .before .rmoveto .ensures .1)
+    path-arm _ _ _ _ _ _ _ _ _ _ _ op.rmoveto (c .before .before .before .before .before .before .before .before .match .keys12) refl _ _ _ _ (c .kept6 .ensures) (c .before .before .before .rmoveto .ensures .0) (c .before .before .before .rmoveto .ensures .1)
 
 -- src/lib.rt:508:13
 hmoveto-requires : tie.Need-hmoveto-requires
 hmoveto-requires c κs =
     (c .before .before .before .before .before .before .pre .0, (c .before .before .before .before .before .before .pre .1 .0, (c .before .before .before .before .before .before .pre .1 .1 .x, c .before .before .before .before .before .before .pre .1 .1 .y)))
+
+kept-requires-7 : tie.Need-kept-requires-7
+kept-requires-7 c κs = search needs
 
 -- src/lib.rt:508:13
 same-length-7 : tie.Need-same-length-7
@@ -205,12 +227,15 @@ same-length-7 c = search needs
 returns-13 : tie.Need-returns-13
 unfolding operatorOf ofByte
 returns-13 c =
-    path-arm _ _ _ _ _ _ _ _ _ _ _ op.hmoveto (c .before .before .before .before .before .before .before .match .keys13) refl _ _ _ (c .before .before .hmoveto .ensures .0) (c .before .before .hmoveto .ensures .1)
+    path-arm _ _ _ _ _ _ _ _ _ _ _ op.hmoveto (c .before .before .before .before .before .before .before .before .match .keys13) refl _ _ _ _ (c .kept7 .ensures) (c .before .before .before .hmoveto .ensures .0) (c .before .before .before .hmoveto .ensures .1)
 
 -- src/lib.rt:511:13
 vhcurveto-requires : tie.Need-vhcurveto-requires
 vhcurveto-requires c κs =
     (c .before .before .before .before .before .before .pre .0, (c .before .before .before .before .before .before .pre .1 .0, (c .before .before .before .before .before .before .pre .1 .1 .x, c .before .before .before .before .before .before .pre .1 .1 .y)))
+
+kept-requires-8 : tie.Need-kept-requires-8
+kept-requires-8 c κs = search needs
 
 -- src/lib.rt:511:13
 same-length-8 : tie.Need-same-length-8
@@ -220,12 +245,15 @@ same-length-8 c = search needs
 returns-14 : tie.Need-returns-14
 unfolding operatorOf ofByte
 returns-14 c =
-    path-arm _ _ _ _ _ _ _ _ _ _ _ op.vhcurveto (c .before .before .before .before .before .before .before .match .keys14) refl _ _ _ (c .before .before .vhcurveto .ensures .0) (c .before .before .vhcurveto .ensures .1)
+    path-arm _ _ _ _ _ _ _ _ _ _ _ op.vhcurveto (c .before .before .before .before .before .before .before .before .match .keys14) refl _ _ _ _ (c .kept8 .ensures) (c .before .before .before .vhcurveto .ensures .0) (c .before .before .before .vhcurveto .ensures .1)
 
 -- src/lib.rt:514:13
 hvcurveto-requires : tie.Need-hvcurveto-requires
 hvcurveto-requires c κs =
     (c .before .before .before .before .before .before .pre .0, (c .before .before .before .before .before .before .pre .1 .0, (c .before .before .before .before .before .before .pre .1 .1 .x, c .before .before .before .before .before .before .pre .1 .1 .y)))
+
+kept-requires-9 : tie.Need-kept-requires-9
+kept-requires-9 c κs = search needs
 
 -- src/lib.rt:514:13
 same-length-9 : tie.Need-same-length-9
@@ -235,7 +263,7 @@ same-length-9 c = search needs
 returns-15 : tie.Need-returns-15
 unfolding operatorOf ofByte
 returns-15 c =
-    path-arm _ _ _ _ _ _ _ _ _ _ _ op.hvcurveto (c .before .before .before .before .before .before .before .match .keys15) refl _ _ _ (c .before .before .hvcurveto .ensures .0) (c .before .before .hvcurveto .ensures .1)
+    path-arm _ _ _ _ _ _ _ _ _ _ _ op.hvcurveto (c .before .before .before .before .before .before .before .before .match .keys15) refl _ _ _ _ (c .kept9 .ensures) (c .before .before .before .hvcurveto .ensures .0) (c .before .before .before .hvcurveto .ensures .1)
 
 -- src/lib.rt:517:25
 cleared-requires-2 : tie.Need-cleared-requires-2
@@ -259,11 +287,14 @@ element-copy-out-stems3 c = search needs
 stems3-requires : tie.Need-stems3-requires
 stems3-requires c κs = search needs
 
+kept-requires-10 : tie.Need-kept-requires-10
+kept-requires-10 c κs = search needs
+
 -- src/lib.rt:520:13
 returns-17 : tie.Need-returns-17
 unfolding operatorOf ofEscape operate
 returns-17 c =
-    stems3-arm _ _ _ _ _ _ _ _ _ _ _ op.vstem3 (c .before .before .before .before .before .match .keys17) refl false _ _ _ (λ s lim b. ap (λ (p : Point). stems3 lim false (p .x) s) b) (c .stems3 .ensures .0) (c .stems3 .ensures .1)
+    stems3-arm _ _ _ _ _ _ _ _ _ _ _ op.vstem3 (c .before .before .before .before .before .before .match .keys17) refl false _ _ _ _ (c .kept10 .ensures) (λ s lim b. ap (λ (p : Point). stems3 lim false (p .x) s) b) (c .before .stems3 .ensures .0) (c .before .stems3 .ensures .1)
 
 -- src/lib.rt:523:33
 element-copy-out-stems3-2 : tie.Need-element-copy-out-stems3-2
@@ -273,11 +304,14 @@ element-copy-out-stems3-2 c = search needs
 stems3-requires-2 : tie.Need-stems3-requires-2
 stems3-requires-2 c κs = search needs
 
+kept-requires-11 : tie.Need-kept-requires-11
+kept-requires-11 c κs = search needs
+
 -- src/lib.rt:523:13
 returns-18 : tie.Need-returns-18
 unfolding operatorOf ofEscape operate
 returns-18 c =
-    stems3-arm _ _ _ _ _ _ _ _ _ _ _ op.hstem3 (c .before .before .before .before .before .match .keys18) refl true _ _ _ (λ s lim b. ap (λ (p : Point). stems3 lim true (p .y) s) b) (c .stems32 .ensures .0) (c .stems32 .ensures .1)
+    stems3-arm _ _ _ _ _ _ _ _ _ _ _ op.hstem3 (c .before .before .before .before .before .before .match .keys18) refl true _ _ _ _ (c .kept11 .ensures) (λ s lim b. ap (λ (p : Point). stems3 lim true (p .y) s) b) (c .before .stems32 .ensures .0) (c .before .stems32 .ensures .1)
 
 -- src/lib.rt:526:13
 made-requires-4 : tie.Need-made-requires-4
@@ -313,6 +347,9 @@ returns-21 c =
 callothersubr-requires : tie.Need-callothersubr-requires
 callothersubr-requires c κs = search needs
 
+kept-requires-12 : tie.Need-kept-requires-12
+kept-requires-12 c κs = search needs
+
 -- src/lib.rt:535:13
 same-length-10 : tie.Need-same-length-10
 same-length-10 c = search needs
@@ -321,7 +358,7 @@ same-length-10 c = search needs
 returns-22 : tie.Need-returns-22
 unfolding operatorOf ofEscape operate
 returns-22 c =
-    other-arm _ _ _ _ _ _ _ _ _ _ _ op.callothersubr (c .before .before .before .before .before .before .before .before .before .match .keys22) refl _ _ _ _ _ (λ s lim. refl) (c .before .before .callothersubr .ensures .0) (c .before .before .callothersubr .ensures .1)
+    other-arm _ _ _ _ _ _ _ _ _ _ _ op.callothersubr (c .before .before .before .before .before .before .before .before .before .before .match .keys22) refl _ _ _ _ _ _ (c .kept12 .ensures) (λ s lim. refl) (c .before .before .before .callothersubr .ensures .0) (c .before .before .before .callothersubr .ensures .1)
 
 -- src/lib.rt:538:13
 pop-requires : tie.Need-pop-requires
@@ -338,6 +375,9 @@ setcurrentpoint-requires : tie.Need-setcurrentpoint-requires
 setcurrentpoint-requires c κs =
     (c .before .before .before .before .before .before .pre .0, (c .before .before .before .before .before .before .pre .1 .0, ((c .before .before .before .before .before .before .pre .1 .1 .x, c .before .before .before .before .before .before .pre .1 .1 .y), c .before .before .before .before .before .before .pre .1 .1 .operands)))
 
+kept-requires-13 : tie.Need-kept-requires-13
+kept-requires-13 c κs = search needs
+
 -- src/lib.rt:541:13
 same-length-11 : tie.Need-same-length-11
 same-length-11 c = search needs
@@ -346,7 +386,7 @@ same-length-11 c = search needs
 returns-24 : tie.Need-returns-24
 unfolding operatorOf ofEscape
 returns-24 c =
-    path-arm _ _ _ _ _ _ _ _ _ _ _ op.setcurrentpoint (c .before .before .before .before .before .before .before .match .keys24) refl _ _ _ (c .before .before .setcurrentpoint .ensures .0) (c .before .before .setcurrentpoint .ensures .1)
+    path-arm _ _ _ _ _ _ _ _ _ _ _ op.setcurrentpoint (c .before .before .before .before .before .before .before .before .match .keys24) refl _ _ _ _ (c .kept13 .ensures) (c .before .before .before .setcurrentpoint .ensures .0) (c .before .before .before .setcurrentpoint .ensures .1)
 
 -- src/lib.rt:544:13
 made-requires-5 : tie.Need-made-requires-5
@@ -366,18 +406,23 @@ plain-spec =
     vstem-requires
     returns-2
     vmoveto-requires
+    kept-requires
     same-length
     returns-3
     rlineto-requires
+    kept-requires-2
     same-length-2
     returns-4
     hlineto-requires
+    kept-requires-3
     same-length-3
     returns-5
     vlineto-requires
+    kept-requires-4
     same-length-4
     returns-6
     rrcurveto-requires
+    kept-requires-5
     same-length-5
     returns-7
     closepath-requires
@@ -390,15 +435,19 @@ plain-spec =
     made-requires-2
     returns-11
     rmoveto-requires
+    kept-requires-6
     same-length-6
     returns-12
     hmoveto-requires
+    kept-requires-7
     same-length-7
     returns-13
     vhcurveto-requires
+    kept-requires-8
     same-length-8
     returns-14
     hvcurveto-requires
+    kept-requires-9
     same-length-9
     returns-15
     cleared-requires-2
@@ -406,9 +455,11 @@ plain-spec =
     returns-16
     element-copy-out-stems3
     stems3-requires
+    kept-requires-10
     returns-17
     element-copy-out-stems3-2
     stems3-requires-2
+    kept-requires-11
     returns-18
     made-requires-4
     returns-19
@@ -417,11 +468,13 @@ plain-spec =
     div-requires
     returns-21
     callothersubr-requires
+    kept-requires-12
     same-length-10
     returns-22
     pop-requires
     returns-23
     setcurrentpoint-requires
+    kept-requires-13
     same-length-11
     returns-24
     made-requires-5
