@@ -32,7 +32,8 @@ use Rattle.agreement.specs.Demand3.{SameDrawing, masksFor, left, unlimit
 use Rattle.agreement.specs.Simulation.{commandsOf, Meets, ListCoordinates, pointCount, masksOf, Ran, Folds}
 use Rattle.agreement.specs.Program.{program-run}
 use Rattle.agreement.specs.Runs.{states-hold, ends-at-14}
-use Rattle.agreement.specs.Writes.{write-is, finish-is}
+use Rattle.type1_to_type2.specs.Fine.{write-is}
+use Rattle.agreement.specs.Writes.{finish-is}
 use Rattle.agreement.specs.Commands.{commands-entries, commands-points, commands-coordinates, commands-masks}
 use Rattle.agreement.specs.Folded.{near-list, exact-list, folded-points, folded-length, folded-rising, folded-masks, few-stems}
 use Rattle.agreement.specs.Converted.{ends-so, converts}

@@ -1,7 +1,7 @@
 -- Laws: what the machine draws for commands is near what was asked for, however long the path.
 use mathlib.Core.Path.{_≡_, refl, sym, ap, _∙_, subst}
 use mathlib.Core.Logic.{_⊎_, inl, inr}
-use Prim.Native.Nat.{ℕ, suc, _+_, _-_, _*_, _^_, _≤_, _<_}
+use Prim.Native.Nat.{ℕ, suc, _+_, _*_, _^_, _≤_, _<_}
 use native.Mathlib.Omega.{arith}
 use mathlib.Core.Bool.{Bool, true, false, _&&_}
 use mathlib.Core.List.{List, [], _∷_, _++_, append-assoc, append-nil}
@@ -23,7 +23,8 @@ use Rattle.type1_to_type2.specs.Stems.{maskOf}
 use Rattle.type2.specs.Path.{delta}
 use Rattle.type1_to_type2.specs.Emission.{kindOf, pointsOf, heightOf, follow, deltas, arrives, go, Cmd, hints, shape, items}
 use Rattle.agreement.specs.Demand3.{SamePoint}
-use Rattle.agreement.specs.Simulation.{ListCoordinates, Bounded, PointsRun, effects, size, AllAccepted, itemsFine, entriesOf, pointCount, CommandCoordinates, masksFrom, masksOf, CommandsRun}
+use Rattle.type1_to_type2.specs.Fine.{itemsFine}
+use Rattle.agreement.specs.Simulation.{ListCoordinates, Bounded, PointsRun, effects, size, AllAccepted, entriesOf, pointCount, CommandCoordinates, masksFrom, masksOf, CommandsRun}
 use Rattle.agreement.specs.Deltas.{one-delta, delta-meets}
 
 bound-grows : (n : ℕ) (z u : ℤ) → T (inRange u) → zp z + zm z ≤ n * 2147483648 → zp (z +ℤ u) + zm (z +ℤ u) ≤ suc n * 2147483648

@@ -1,81 +1,31 @@
 -- Laws: the machine runs a program, from the width and the stems to the endchar.
 use mathlib.Core.Path.{_≡_, refl, sym, ap, _∙_, subst}
-use Prim.Native.Nat.{ℕ, zero, suc, _+_, _-_, _*_, _≤_}
+use Prim.Native.Nat.{ℕ, zero, suc, _+_, _*_, _≤_}
 use native.Mathlib.Omega.{arith}
-use mathlib.Core.Bool.{Bool, true, false, _&&_, _||_, cond}
+use mathlib.Core.Bool.{Bool, true, false, _||_, cond}
 use mathlib.Core.List.{List, [], _∷_, _++_}
 use mathlib.Core.Option.{Option, none, some}
 use lib.ListN.{length, length-append}
 use lib.Dec.{T, leb, eqb, lit≤}
 use lib.IntN.{ℤ, pos}
 use lib.Ieee.{Float, binary64, fits}
-use lib.Ieee.Fits.{and-i}
 use Rattle.binary64.specs.Value.{mag}
-use Rattle.type2.specs.Machine.{Kind, moves, lines, curves, flexes, Entry, State, start, withOps, withStems, run}
-use Rattle.type2.specs.Number.{inRange, Is}
-use Rattle.type2.specs.Instruction.{Instr, instr, bytes, fine, allFine, isZero}
-use Rattle.type2.specs.Bools.{choose, and-both}
-use Rattle.type2.specs.Operators.{Ready, settledWith, widthOf, numbers-run, operands-run, stem-run, zero-is}
+use Rattle.type2.specs.Machine.{Entry, State, start, withOps, withStems, run}
+use Rattle.type2.specs.Number.{Is}
+use Rattle.type2.specs.Instruction.{Instr, instr, bytes, fine, allFine}
+use Rattle.type2.specs.Bools.{and-both}
+use Rattle.type2.specs.Operators.{Ready, settledWith, widthOf, numbers-run, operands-run, stem-run}
 use Rattle.type2.specs.Machine as Machine
 use Rattle.type1.specs.declared.Stem.{Stem}
 use Rattle.type1.specs.State.{plusZero, origin}
 use Rattle.type1_to_type2.specs.Stems.{Declared, stemsOf}
-use Rattle.type2.specs.Path.{most}
-use Rattle.type1_to_type2.specs.Emission.{moveOf, Item, mask, go, Waiting, idle, held, codeOf, sameKind, flush, join, pack, pair, secondEdge, stemsFrom, items, Cmd, program}
+use Rattle.type1_to_type2.specs.Emission.{idle, pack, pair, secondEdge, stemsFrom, items, Cmd, program}
 use Rattle.type1_to_type2.specs.Finish.{first}
 use Rattle.agreement.specs.Demand3.{SamePoint, SameDrawing}
-use Rattle.agreement.specs.Simulation.{Meets, effects, itemsFine, waitFine, PackFine, StemsRun, entriesOf, pointCount, CommandCoordinates, Ran}
+use Rattle.type1_to_type2.specs.Fine.{pack-fine}
+use Rattle.agreement.specs.Simulation.{Meets, effects, StemsRun, entriesOf, pointCount, CommandCoordinates, Ran}
 use Rattle.agreement.specs.Items.{pack-run}
 use Rattle.agreement.specs.Path.{commands-run}
-
--- ---- what the bytes were not refused for, the items were not
-fine-left : (l m : List ℤ) → T (fine (l ++ m)) → T (fine l) × T (fine m)
-unfolding fine
-fine-left [] m t = (tt, t)
-fine-left (u ∷ l) m t =
-    let w = and-both (inRange u) (fine (l ++ m)) t in
-    let r = fine-left l m (w .1) in
-    (and-i (inRange u) (fine l) (w .0) (r .0), r .1)
-
-flush-fine : (w : Waiting) (is : List Instr) → T (allFine (flush w is)) → T (waitFine w) × T (allFine is)
-unfolding allFine
-flush-fine idle is t = (tt, t)
-flush-fine (held k l) is t = and-both (fine l) (allFine is) t
-
-move-fine : (l : List ℤ) → T (fine (moveOf l .operands)) → T (fine l)
-unfolding fine
-move-fine [] t = t
-move-fine (a ∷ []) t = t
-move-fine (a ∷ b ∷ c ∷ l) t = t
-move-fine (a ∷ b ∷ []) t =
-    choose (isZero b) (λ (i : Instr). T (fine (i .operands)) → T (fine (a ∷ b ∷ []))) (instr (a ∷ []) (22 ∷ [])) (cond (isZero a) (instr (b ∷ []) (4 ∷ [])) (instr (a ∷ b ∷ []) (21 ∷ [])))
-    (λ z t. and-i (inRange a) (inRange b && true) (and-both (inRange a) true t .0) (subst (λ (x : ℤ). T (inRange x && true)) (sym (zero-is b z)) tt))
-    (λ y t. choose (isZero a) (λ (i : Instr). T (fine (i .operands)) → T (fine (a ∷ b ∷ []))) (instr (b ∷ []) (4 ∷ [])) (instr (a ∷ b ∷ []) (21 ∷ []))
-    (λ z t. and-i (inRange a) (inRange b && true) (subst (λ (x : ℤ). T (inRange x)) (sym (zero-is a z)) tt) t) (λ z t. t) t) t
-
-join-fine : (k : Kind) (l : List ℤ) (is : List Item) (w : Waiting) → PackFine is → T (allFine (join k l w (pack is))) → T (waitFine w) × T (fine l && itemsFine is)
-unfolding allFine
-join-fine k l is idle f t = let r = f (held k l) t in (tt, and-i (fine l) (itemsFine is) (r .0) (r .1))
-join-fine k l is (held j m) f t =
-    choose (sameKind j k && leb (length m + length l) (most k)) (λ (x : List Instr). T (allFine x) → T (fine m) × T (fine l && itemsFine is)) (pack is (held k (m ++ l))) (instr m (codeOf j ∷ []) ∷ pack is (held k l))
-    (λ z t. let r = f (held k (m ++ l)) t in let q = fine-left m l (r .0) in (q .0, and-i (fine l) (itemsFine is) (q .1) (r .1)))
-    (λ z t. let q = and-both (fine m) (allFine (pack is (held k l))) t in let r = f (held k l) (q .1) in (q .0, and-i (fine l) (itemsFine is) (r .0) (r .1))) t
-
-alone-fine : (x : Instr) (is : List Item) (w : Waiting) → PackFine is → T (allFine (flush w (x ∷ pack is idle))) → T (waitFine w) × T (fine (x .operands)) × T (itemsFine is)
-unfolding allFine
-alone-fine x is w f t =
-    let a = flush-fine w (x ∷ pack is idle) t in
-    let b = and-both (fine (x .operands)) (allFine (pack is idle)) (a .1) in
-    (a .0, b .0, f idle (b .1) .1)
-
-pub pack-fine : (is : List Item) → PackFine is
-unfolding pack itemsFine
-pack-fine [] w t = (flush-fine w (instr [] (14 ∷ []) ∷ []) t .0, tt)
-pack-fine (mask b ∷ is) w t = let a = alone-fine (instr [] _) is w (pack-fine is) t in (a .0, a .2)
-pack-fine (go moves l ∷ is) w t = let a = alone-fine (moveOf l) is w (pack-fine is) t in (a .0, and-i (fine l) (itemsFine is) (move-fine l (a .1)) (a .2))
-pack-fine (go lines l ∷ is) w t = join-fine lines l is w (pack-fine is) t
-pack-fine (go curves l ∷ is) w t = join-fine curves l is w (pack-fine is) t
-pack-fine (go flexes l ∷ is) w t = let a = alone-fine (instr l (12 ∷ 35 ∷ [])) is w (pack-fine is) t in (a .0, and-i (fine l) (itemsFine is) (a .1) (a .2))
 
 -- ---- stems: the machine counts them all
 module _ (op : ℕ) (isStem : (eqb op 1 || eqb op 3 || eqb op 18 || eqb op 23) ≡ true) (noNumber : (eqb op 28 || leb 32 op) ≡ false) where

@@ -2,7 +2,7 @@
 use Prim.Native.Nat.{ℕ, suc, _+_, _*_, _≤_}
 use mathlib.Core.Path.{_≡_}
 use mathlib.Core.Logic.{_⊎_}
-use mathlib.Core.Bool.{Bool, true, false, _&&_}
+use mathlib.Core.Bool.{Bool, true, false}
 use mathlib.Core.List.{List, [], _∷_, _++_}
 use mathlib.Core.Option.{Option}
 use lib.ListN.{length}
@@ -105,11 +105,6 @@ unfoldable pub AllAccepted : List Item → State → Type 0
 AllAccepted [] s = Unit {0}
 AllAccepted (i ∷ is) s = Accepted i s × AllAccepted is (effect i s)
 
-unfoldable pub itemsFine : List Item → Bool
-itemsFine [] = true
-itemsFine (mask b ∷ is) = itemsFine is
-itemsFine (go k l ∷ is) = fine l && itemsFine is
-
 -- ---- what waits for an operator: from s its bytes lead to t
 abbrev pub waits : Kind → Bool
 waits moves = false
@@ -138,17 +133,9 @@ pub record Flushed (w : Waiting) (is : List Instr) (s t : State) : Type 0 where
   pub is-t : settledWith [] here ≡ t
   pub ran : run (bytes (flush w is)) 0 s ≡ run (bytes is) 0 here
 
-abbrev pub waitFine : Waiting → Bool
-waitFine idle = true
-waitFine (held k l) = fine l
-
 -- the items run from wherever
 abbrev pub ItemsRun : List Item → Type 0
 ItemsRun is = (w : Waiting) (s t : State) → Ready s → Waits w s t → AllAccepted is t → run (bytes (pack is w)) 0 s ≡ ended (effects is t) []
-
--- where the bytes are in range, so are the items
-abbrev pub PackFine : List Item → Type 0
-PackFine is = (w : Waiting) → T (allFine (pack is w)) → T (waitFine w) × T (itemsFine is)
 
 -- after the stem operators: n stems
 pub record StemsRun (is all : List Instr) (s : State) (n : ℕ) : Type 0 where

@@ -1,6 +1,8 @@
 -- Definitions: folding a matrix into a run's drawn list, groups and width. Document 01, "Folding". Each operation rounds once, in the Rust's order.
+use Prim.Native.Nat.{ℕ}
 use mathlib.Core.Bool.{Bool, true, false, _&&_, _||_, cond}
 use mathlib.Core.List.{List, [], _∷_}
+use lib.Dec.{eqb}
 use lib.IntN.{pos}
 use lib.Ieee.{Float, fin, binary64, add, sub, mul, eq, lt}
 use lib.Ieee.Scale.{finite}
@@ -122,3 +124,7 @@ finiteGroups (g ∷ l) = finiteStems (g .stems) && finiteGroups l
 -- of what a run has left
 unfoldable pub foldsFinite : Matrix → State → Bool
 foldsFinite m s = finite (foldedWidth m (s .width)) && (finiteList (foldedList m (s .drawn)) && finiteGroups (foldedGroups m (s .groups)))
+
+-- the number of a refusal in writing, with the number before it, or 0: "folding, writing in byte order", so that 14 for a folded point comes before what writing is refused for
+unfoldable pub refusal : ℕ → ℕ → Bool → ℕ
+refusal before written points = cond (eqb before 0) (cond points written 14) written

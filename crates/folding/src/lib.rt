@@ -139,3 +139,14 @@ pub fn folded(m: Matrix, identity: bool, s: Stem) -> Stem
     }
     fold_stem(m, s)
 }
+
+// The number where writing was refused with `written`, or there was one before it: a folded point that is not finite
+// comes before what writing is refused for.
+pub fn refusal(before: u64, written: u64, finite: bool) -> u64
+    ensures { λ r. ⌜ r ≡ Folding.refusal before written finite ⌝ }
+{
+    if before != 0 {
+        return written;
+    }
+    if finite { written } else { 14 }
+}

@@ -1,29 +1,28 @@
 -- Laws: the entries checked one after the other; what is planned. Assumes nothing.
-use mathlib.Core.Path.{_≡_, refl, sym, _∙_, ap, ap₂, subst}
-use Prim.Native.Nat.{ℕ, zero, suc, _+_, _*_, _≤_, _<_}
+use mathlib.Core.Path.{_≡_, refl, sym, _∙_, ap, ap₂}
+use Prim.Native.Nat.{ℕ, _+_, _*_, _≤_}
 use native.Mathlib.Omega.{arith}
 use native.Mathlib.Numerals.{add-one}
 use mathlib.Core.Bool.{Bool, true, false, _&&_}
 use mathlib.Core.List.{List, [], _∷_, _++_}
-use lib.ListN.{length, getD}
+use lib.ListN.{getD}
 use lib.Dec.{eqb}
 use borrow.Author.Tests.{eq-eqb, ne-eqb}
 use lib.Ieee.{Float}
 use lib.Ieee.Scale.{finite}
 use Rattle.geometry.specs.declared.Point.{Point}
 use Rattle.geometry.specs.declared.Matrix.{Matrix}
-use Rattle.type1.specs.State.{Command, move, line, curve, flex, Group}
+use Rattle.type1.specs.State.{Command, move, line, curve, flex}
 use Rattle.type1.specs.Run.{pick}
 use Rattle.type1.specs.Memory.{Good, word, commandIn, drawnIn}
 use Rattle.type1.specs.Sound.{All, OfPoint, OfCommand}
-use Rattle.type1_to_type2.specs.declared.Checked.{Checked}
 use Rattle.type1_to_type2.specs.declared.Collected.{Collected}
 use Rattle.type1_to_type2.specs.declared.Plan.{Plan}
 use Rattle.type2.specs.Bools.{yes}
-use Rattle.folding.specs.Folding.{finiteMatrix, isIdentity, foldedPoint, foldedCommand, foldedList, foldedWidth, finitePoint, finiteCommand, finiteList}
-use Rattle.type1_to_type2.specs.Stems.{Declared, declared, allStems, stemsOf}
+use Rattle.folding.specs.Folding.{finiteMatrix, isIdentity, foldedPoint, foldedCommand, foldedList, foldedWidth, finitePoint, finiteCommand, finiteList, refusal}
+use Rattle.type1_to_type2.specs.Stems.{Declared, stemsOf}
 use Rattle.type1_to_type2.specs.Table.{tableStems}
-use Rattle.type1_to_type2.specs.Collecting.{Collects, Counted, droppedCounts, needsMasks}
+use Rattle.type1_to_type2.specs.Collecting.{Counted, droppedCounts, needsMasks}
 use Rattle.type1_to_type2.specs.declared.Writer.{Writer}
 use Rattle.type1.specs.declared.Stem.{Stem}
 use Rattle.type1.specs.State.{plusZero}
@@ -33,7 +32,7 @@ use Rattle.type1_to_type2.specs.Writing.{Written, refused, write}
 use Rattle.type1_to_type2.specs.Convert.{writes}
 use Rattle.type1_to_type2.specs.Streaming.{resumed, resumedAll, Ends}
 use Rattle.type1_to_type2.specs.Passes.{both}
-use Rattle.type1_to_type2.specs.Entry.{groupCount, firstNumber, Checks, Planned, tables, opens, Opens, Answers}
+use Rattle.type1_to_type2.specs.Entry.{groupCount, firstNumber, Planned, tables, opens, Opens, settles, Answers}
 use Rattle.type1_to_type2.proofs.EntryLaws.{list-end}
 use Rattle.type1_to_type2.proofs.Ordering.{declared-across, declared-upright, declared-masked}
 
@@ -82,8 +81,11 @@ pub groups-more : (c : List ℕ) (e g k : ℕ) → g ≡ groupCount e c → k �
 unfolding groupCount
 groups-more c e g k eg ek = ap₂ _+_ eg ek ∙ ap (λ (n : ℕ). groupCount n c) (sym (add-one e))
 
-pub checked-all : (m : Matrix) (c : List ℕ) (n e : ℕ) (f : Bool) (g : ℕ) → e ≡ n → f ≡ finiteList (foldedList m (drawnIn e c)) → g ≡ groupCount e c → Checks m n c (record { finite = f; groups = g })
-checked-all m c n e f g q ef eg = record { points = ef ∙ ap (λ (k : ℕ). finiteList (foldedList m (drawnIn k c))) q; groups = eg ∙ ap (λ (k : ℕ). groupCount k c) q }
+pub points-all : (m : Matrix) (c : List ℕ) (n e : ℕ) (f : Bool) → e ≡ n → f ≡ finiteList (foldedList m (drawnIn e c)) → f ≡ finiteList (foldedList m (drawnIn n c))
+points-all m c n e f q ef = ef ∙ ap (λ (k : ℕ). finiteList (foldedList m (drawnIn k c))) q
+
+pub groups-all : (c : List ℕ) (n e g : ℕ) → e ≡ n → g ≡ groupCount e c → g ≡ groupCount n c
+groups-all c n e g q eg = eg ∙ ap (λ (k : ℕ). groupCount k c) q
 
 first-word : (c : List ℕ) (e : ℕ) → word c e 0 ≡ getD c (14 * e) 0
 first-word c e = ap (λ (i : ℕ). getD c i 0) (let z : 14 * e + 0 ≡ 14 * e = omega arith in z)
@@ -104,22 +106,22 @@ matrix-not m b n e t = sym (ap (λ (x : Bool). pick x n 1) (sym e ∙ t))
 pub refused-already : (n : ℕ) (b : Bool) → (n ≡ 0 → ⊥) → n ≡ pick (eqb n 0) (pick b 0 14) n
 refused-already n b h = sym (ap (λ (x : Bool). pick x (pick b 0 14) n) (ne-eqb n 0 h))
 
--- n is 0, f the test of the width, b of points and stems, d of all
-module _ (n : ℕ) (f p s b d : Bool) (w : Float) (h : n ≡ 0) (ef : f ≡ finite w) (eb : b ≡ (p && s)) (ed : d ≡ (f && b)) where
-  zero-now : (k : ℕ) → k ≡ pick d 0 14 → k ≡ pick (eqb n 0) (pick (finite w && (p && s)) 0 14) n
-  zero-now k ek = ek ∙ ap (λ (x : Bool). pick x 0 14) (ed ∙ ap₂ _&&_ ef eb) ∙ sym (ap (λ (x : ℕ). pick (eqb x 0) (pick (finite w && (p && s)) 0 14) x) h)
+-- n is 0, f the test of the width, s of the stems, d of both
+module _ (n : ℕ) (f s d : Bool) (w : Float) (h : n ≡ 0) (ef : f ≡ finite w) (ed : d ≡ (f && s)) where
+  zero-now : (k : ℕ) → k ≡ pick d 0 14 → k ≡ pick (eqb n 0) (pick (finite w && s) 0 14) n
+  zero-now k ek = ek ∙ ap (λ (x : Bool). pick x 0 14) (ed ∙ ap (λ (x : Bool). x && s) ef) ∙ sym (ap (λ (x : ℕ). pick (eqb x 0) (pick (finite w && s) 0 14) x) h)
 
-  pub all-fine : d ≡ true → 0 ≡ pick (eqb n 0) (pick (finite w && (p && s)) 0 14) n
+  pub all-fine : d ≡ true → 0 ≡ pick (eqb n 0) (pick (finite w && s) 0 14) n
   all-fine t = zero-now 0 (sym (ap (λ (x : Bool). pick x 0 14) t))
 
-  pub not-fine : d ≡ false → 14 ≡ pick (eqb n 0) (pick (finite w && (p && s)) 0 14) n
+  pub not-fine : d ≡ false → 14 ≡ pick (eqb n 0) (pick (finite w && s) 0 14) n
   not-fine t = zero-now 14 (sym (ap (λ (x : Bool). pick x 0 14) t))
 
-pub planned : (number : ℕ) (k : Checked) (c d : Collected) (m : Matrix) (width w : Float) (n : ℕ) (b : Bool) → Counted c → w ≡ foldedWidth m width → (d ≡ droppedCounts c) × (d .across + d .upright ≤ 96)
-    → n ≡ pick (eqb number 0) (pick (finite w && (k .finite && c .finite)) 0 14) number → b ≡ needsMasks d
-    → Planned number k c m width (record { number = n; masked = b; across = d .across; upright = d .upright; width = w })
-planned number k c d m width w n b few ew ed en eb = record {
-  number-is = en ∙ ap (λ (x : Float). pick (eqb number 0) (pick (finite x && (k .finite && c .finite)) 0 14) number) ew;
+pub planned : (number : ℕ) (c d : Collected) (m : Matrix) (width w : Float) (n : ℕ) (b : Bool) → Counted c → w ≡ foldedWidth m width → (d ≡ droppedCounts c) × (d .across + d .upright ≤ 96)
+    → n ≡ pick (eqb number 0) (pick (finite w && c .finite) 0 14) number → b ≡ needsMasks d
+    → Planned number c m width (record { number = n; masked = b; across = d .across; upright = d .upright; width = w })
+planned number c d m width w n b few ew ed en eb = record {
+  number-is = en ∙ ap (λ (x : Float). pick (eqb number 0) (pick (finite x && c .finite) 0 14) number) ew;
   width-is = ew;
   few = ed .1;
   stems = λ gs ta tu C g f. λ i. record {
@@ -147,10 +149,12 @@ opened-front p ta tu room w out h f = record { more = λ cs. f (tables p ta tu) 
     open-now : (p : Plan) (ta tu : List Float) (room : ℕ) (cs : List Cmd) → p .number ≡ 0 → opens p ta tu room cs ≡ write (program (tables p ta tu) cs) room
     open-now p ta tu room cs h = unfold opens in rw (eq-eqb (p .number) 0 h) refl
 
-pub ended-refused : (x : Written) (room : ℕ) (v : Writer) (out : List ℕ) (w : Float) (n : ℕ) → Ends room x v out → (v .number ≡ 0 → ⊥) → Answers (writes w n x) room (record { number = v .number; len = 0; width = plusZero; ran = 0 }) out
-ended-refused (Writing.refused k) room v out w n F h = record { glyph = ap (λ (j : ℕ). record { number = j; len = 0; width = plusZero; ran = 0 }) (F .1 .0); bytes = F .1 .1 .1 }
-ended-refused (Writing.wrote b) room v out w n F h = absurd (h (F .0))
+pub ended-refused : (x : Written) (room : ℕ) (v : Writer) (out : List ℕ) (w : Float) (n before k : ℕ) (points f : Bool) → Ends room x v out → (v .number ≡ 0 → ⊥) → f ≡ points → k ≡ refusal before (v .number) f
+    → Answers (settles before points (writes w n x)) room (record { number = k; len = 0; width = plusZero; ran = 0 }) out
+ended-refused (Writing.refused j) room v out w n before k points f F h ep ek =
+    record { glyph = ap (λ (i : ℕ). record { number = i; len = 0; width = plusZero; ran = 0 }) (ek ∙ ap₂ (refusal before) (F .1 .0) ep); bytes = F .1 .1 .1 }
+ended-refused (Writing.wrote b) room v out w n before k points f F h ep ek = absurd (h (F .0))
 
-pub ended-written : (x : Written) (room : ℕ) (v : Writer) (out : List ℕ) (w : Float) (n : ℕ) → Ends room x v out → v .number ≡ 0 → Answers (writes w n x) room (record { number = 0; len = v .next; width = w; ran = n }) out
-ended-written (Writing.refused k) room v out w n F h = absurd (let z : ⊥ = omega (arith, F .0, F .1 .0, h) in z)
-ended-written (Writing.wrote b) room v out w n F h = record { glyph = ap (λ (j : ℕ). record { number = 0; len = j; width = w; ran = n }) (F .1 .0); bytes = F .1 .1 }
+pub ended-written : (x : Written) (room : ℕ) (v : Writer) (out : List ℕ) (w : Float) (n before : ℕ) (points : Bool) → Ends room x v out → v .number ≡ 0 → Answers (settles before points (writes w n x)) room (record { number = 0; len = v .next; width = w; ran = n }) out
+ended-written (Writing.refused k) room v out w n before points F h = absurd (let z : ⊥ = omega (arith, F .0, F .1 .0, h) in z)
+ended-written (Writing.wrote b) room v out w n before points F h = record { glyph = ap (λ (j : ℕ). record { number = 0; len = j; width = w; ran = n }) (F .1 .0); bytes = F .1 .1 }

@@ -32,7 +32,6 @@ use Rattle.geometry.specs.declared.Matrix.{Matrix}
 use Rattle.type1_to_type2.specs.declared.Collected.{Collected}
 use Rattle.type1_to_type2.specs.declared.Writer.{Writer}
 use Rattle.type1.specs.declared.Interpreted.{Interpreted}
-use Rattle.type1_to_type2.specs.declared.Checked.{Checked}
 use Rattle.type1_to_type2.specs.declared.Plan.{Plan}
 use Rattle.type1.proofs.Stem as T
 use Rattle.geometry.proofs.Matrix as Z
@@ -44,30 +43,28 @@ use Rattle.type1_to_type2.proofs.Writer.Laws as R′
 use Rattle.type1_to_type2.proofs.Type2Glyph as G
 use Rattle.type1.proofs.Interpreted as I
 use Rattle.type1.proofs.Interpreted.Laws as I′
-use Rattle.type1_to_type2.proofs.Checked as Y
-use Rattle.type1_to_type2.proofs.Checked.Laws as Y′
 use Rattle.type1_to_type2.proofs.Plan as Q
 use Rattle.type1_to_type2.proofs.Plan.Laws as Q′
 use Rattle.type1.proofs.Lent.{at-list, Own}
 use Rattle.type1.proofs.Many.{at-one, OwnR, GotAll}
 use Rattle.type1.proofs.Locals.{machI}
-use Rattle.type1_to_type2.proofs.Locals.{machZ, machK, machR, machY, machQ}
+use Rattle.type1_to_type2.proofs.Locals.{machZ, machK, machR, machQ}
 use Prim.Native.Nat.{_*_}
 use Rattle.type1.specs.Small.{zeroStem}
 use Rattle.type1.specs.Sound.{All, OfCommand}
-use Rattle.type1.specs.Memory.{Good, commandIn}
-use Rattle.folding.specs.Folding.{isIdentity}
+use Rattle.type1.specs.Memory.{Good, commandIn, drawnIn}
+use Rattle.folding.specs.Folding.{isIdentity, foldedList, finiteList}
 use Rattle.type1_to_type2.specs.Streaming.{resumedAll}
 use Rattle.type1_to_type2.specs.Collecting.{Counted}
 use Rattle.type1_to_type2.specs.Passes.{Gathers, both, stemsTo, cmdsFrom, Stored}
 use Rattle.geometry.specs.Transform.{identity}
 use Rattle.type1.specs.Interpret.{outcome, Leaves}
 use Rattle.type1_to_type2.specs.Convert.{writes, convert}
-use Rattle.type1_to_type2.specs.Entry.{Blank, Checks, noneOf, Planned, Opens, firstNumber, fromRun, Answers, Converts}
+use Rattle.type1_to_type2.specs.Entry.{Blank, groupCount, noneOf, Planned, Opens, firstNumber, fromRun, settles, Answers, Converts}
 use Rattle.folding.proofs.is_identity as is-identity-f
 use Rattle.folding.proofs.is_identity.Symbol.{name as #folding·is-identity}
-use Rattle.type1_to_type2.proofs.check_entries as check-entries-f
-use Rattle.type1_to_type2.proofs.check_entries.Symbol.{name as #type1-to-type2·check-entries}
+use Rattle.type1_to_type2.proofs.count_groups as count-groups-f
+use Rattle.type1_to_type2.proofs.count_groups.Symbol.{name as #type1-to-type2·count-groups}
 use Rattle.type1_to_type2.proofs.none_collected as none-collected-f
 use Rattle.type1_to_type2.proofs.none_collected.Symbol.{name as #type1-to-type2·none-collected}
 use Rattle.type1_to_type2.proofs.collect_all as collect-all-f
@@ -101,8 +98,8 @@ module _ {M : Type 1} (𝓤 : URA M) (H : Heap 𝓤) (A : Atoms 𝓤) (mem : Mem
   abbrev pub IsIdentityC : Contract 𝓤
   IsIdentityC = tripleOf 𝓤 H A is-identity-f.signature (is-identity-f.spec 𝓤 H A mem run′)
 
-  abbrev pub CheckEntriesC : Contract 𝓤
-  CheckEntriesC = tripleOf 𝓤 H A check-entries-f.signature (check-entries-f.spec 𝓤 H A mem run′)
+  abbrev pub CountGroupsC : Contract 𝓤
+  CountGroupsC = tripleOf 𝓤 H A count-groups-f.signature (count-groups-f.spec 𝓤 H A mem run′)
 
   abbrev pub NoneCollectedC : Contract 𝓤
   NoneCollectedC = tripleOf 𝓤 H A none-collected-f.signature (none-collected-f.spec 𝓤 H A mem run′)
@@ -153,17 +150,17 @@ module _ {M : Type 1} (𝓤 : URA M) (H : Heap 𝓤) (A : Atoms 𝓤) (mem : Mem
       let y : IsIdentityC 𝓤 H A mem run′ .Ghost = ((tt, tt, tt, (m, tt), (machZ m ∷ [], tt)), tt) in
       via 𝓤 (IsIdentityC 𝓤 H A mem run′ .pre y) (qed W ((‵ ftrue) ∷ []) ∵ nothing ! $ owned ! Z.the-row (Is Z.the-row) (LL.makes Z.the-type Z′.the-plain 𝓤 H A) m _ m-fits $ fjoin ! $ nothing ! $ join ! $ frame ! $ done !) (known y)
 
-  pub check-entries-as : Triple 𝓤 (C #type1-to-type2·check-entries) (CheckEntriesC 𝓤 H A mem run′) → (κcommands : Lft) (qcommands : Share) (xcommands : RefT (List ℕ)) (entries : ℕ) (m : Matrix) (identity : Bool) → entries < 2 ^ 64 → Is Z.the-row m (machZ m ∷ []) → (14 * entries ≤ length (xcommands .now)) × ((identity ≡ isIdentity m) × ((e : ℕ) → e < entries → All (OfCommand Good) (commandIn (xcommands .now) e)))
-      → ent 𝓤 (mean 𝓤 H A (‵ (flft κcommands qcommands) ⊛ ‵ (ShrSlice (named 0) κcommands u64 .own xcommands (sliceVal (xcommands .ptr) (length (xcommands .now)) ∷ [])))) (C #type1-to-type2·check-entries (sliceVal (xcommands .ptr) (length (xcommands .now)) ∷ vint w64 entries ∷ machZ m ∷ vbool identity ∷ []) (λ w. mean 𝓤 H A (GotAll 𝓤 Y.the-row (Unit {0} × (Unit {0} × (Unit {0} × (Unit {0} × Unit {0})))) (λ (r : Y.the-row .Denot) (lasts : (Unit {0} × (Unit {0} × (Unit {0} × (Unit {0} × Unit {0}))))). Checks m entries (xcommands .now) r) (λ (lasts : (Unit {0} × (Unit {0} × (Unit {0} × (Unit {0} × Unit {0}))))). (fsep ftrue (fsep ftrue (fsep ftrue (fsep ftrue ftrue))))) (‵ (flft κcommands qcommands) ⊛ ‵ ftrue) w)))
-  check-entries-as known κcommands qcommands xcommands entries m identity entries-fits m-fits need =
-      let y : CheckEntriesC 𝓤 H A mem run′ .Ghost = (((κcommands, tt), (qcommands, tt), tt, (xcommands, (entries, (m, (identity, tt)))), (sliceVal (xcommands .ptr) (length (xcommands .now)) ∷ [], (vint w64 entries ∷ [], (machZ m ∷ [], (vbool identity ∷ [], tt))))), tt) in
-      via 𝓤 (CheckEntriesC 𝓤 H A mem run′ .pre y) (qed W ((‵ (flft κcommands qcommands) ⊛ ‵ (ShrSlice (named 0) κcommands u64 .own xcommands (sliceVal (xcommands .ptr) (length (xcommands .now)) ∷ []))) ∷ []) ∵ says ! need $ split ! $ nothing ! $ owned ! bool (Is bool) (bool-makes 𝓤 H A W) identity _ refl $ fjoin ! $ owned ! Z.the-row (Is Z.the-row) (LL.makes Z.the-type Z′.the-plain 𝓤 H A) m _ m-fits $ fjoin ! $ owned ! usize (Is usize) (uint-makes 𝓤 H A W w64) entries _ (refl, entries-fits) $ fjoin ! $ move ! (2 ∷ 0 ∷ []) $ fjoin ! $ nothing ! $ move ! (2 ∷ 0 ∷ []) $ join ! $ frame ! $ done !) (known y)
+  pub count-groups-as : Triple 𝓤 (C #type1-to-type2·count-groups) (CountGroupsC 𝓤 H A mem run′) → (κcommands : Lft) (qcommands : Share) (xcommands : RefT (List ℕ)) (entries : ℕ) → entries < 2 ^ 64 → 14 * entries ≤ length (xcommands .now)
+      → ent 𝓤 (mean 𝓤 H A (‵ (flft κcommands qcommands) ⊛ ‵ (ShrSlice (named 0) κcommands u64 .own xcommands (sliceVal (xcommands .ptr) (length (xcommands .now)) ∷ [])))) (C #type1-to-type2·count-groups (sliceVal (xcommands .ptr) (length (xcommands .now)) ∷ vint w64 entries ∷ []) (λ w. mean 𝓤 H A (GotAll 𝓤 usize (Unit {0} × (Unit {0} × Unit {0})) (λ (r : usize .Denot) (lasts : (Unit {0} × (Unit {0} × Unit {0}))). r ≡ groupCount entries (xcommands .now)) (λ (lasts : (Unit {0} × (Unit {0} × Unit {0}))). (fsep ftrue (fsep ftrue ftrue))) (‵ (flft κcommands qcommands) ⊛ ‵ ftrue) w)))
+  count-groups-as known κcommands qcommands xcommands entries entries-fits need =
+      let y : CountGroupsC 𝓤 H A mem run′ .Ghost = (((κcommands, tt), (qcommands, tt), tt, (xcommands, (entries, tt)), (sliceVal (xcommands .ptr) (length (xcommands .now)) ∷ [], (vint w64 entries ∷ [], tt))), tt) in
+      via 𝓤 (CountGroupsC 𝓤 H A mem run′ .pre y) (qed W ((‵ (flft κcommands qcommands) ⊛ ‵ (ShrSlice (named 0) κcommands u64 .own xcommands (sliceVal (xcommands .ptr) (length (xcommands .now)) ∷ []))) ∷ []) ∵ says ! need $ split ! $ nothing ! $ owned ! usize (Is usize) (uint-makes 𝓤 H A W w64) entries _ (refl, entries-fits) $ fjoin ! $ move ! (2 ∷ 0 ∷ []) $ fjoin ! $ nothing ! $ move ! (2 ∷ 0 ∷ []) $ join ! $ frame ! $ done !) (known y)
 
-  pub none-collected-as : Triple 𝓤 (C #type1-to-type2·none-collected) (NoneCollectedC 𝓤 H A mem run′) → (k : Checked) → Is Y.the-row k (machY k ∷ [])
-      → ent 𝓤 (mean 𝓤 H A (‵ ftrue)) (C #type1-to-type2·none-collected (machY k ∷ []) (λ w. mean 𝓤 H A (GotAll 𝓤 K.the-row (Unit {0} × Unit {0}) (λ (r : K.the-row .Denot) (lasts : (Unit {0} × Unit {0})). r ≡ noneOf k) (λ (lasts : (Unit {0} × Unit {0})). (fsep ftrue ftrue)) (‵ ftrue) w)))
-  none-collected-as known k k-fits =
-      let y : NoneCollectedC 𝓤 H A mem run′ .Ghost = ((tt, tt, tt, (k, tt), (machY k ∷ [], tt)), tt) in
-      via 𝓤 (NoneCollectedC 𝓤 H A mem run′ .pre y) (qed W ((‵ ftrue) ∷ []) ∵ nothing ! $ owned ! Y.the-row (Is Y.the-row) (LL.makes Y.the-type Y′.the-plain 𝓤 H A) k _ k-fits $ fjoin ! $ nothing ! $ join ! $ frame ! $ done !) (known y)
+  pub none-collected-as : Triple 𝓤 (C #type1-to-type2·none-collected) (NoneCollectedC 𝓤 H A mem run′) → (groups : ℕ) → groups < 2 ^ 64
+      → ent 𝓤 (mean 𝓤 H A (‵ ftrue)) (C #type1-to-type2·none-collected (vint w64 groups ∷ []) (λ w. mean 𝓤 H A (GotAll 𝓤 K.the-row (Unit {0} × Unit {0}) (λ (r : K.the-row .Denot) (lasts : (Unit {0} × Unit {0})). r ≡ noneOf groups) (λ (lasts : (Unit {0} × Unit {0})). (fsep ftrue ftrue)) (‵ ftrue) w)))
+  none-collected-as known groups groups-fits =
+      let y : NoneCollectedC 𝓤 H A mem run′ .Ghost = ((tt, tt, tt, (groups, tt), (vint w64 groups ∷ [], tt)), tt) in
+      via 𝓤 (NoneCollectedC 𝓤 H A mem run′ .pre y) (qed W ((‵ ftrue) ∷ []) ∵ nothing ! $ owned ! usize (Is usize) (uint-makes 𝓤 H A W w64) groups _ (refl, groups-fits) $ fjoin ! $ nothing ! $ join ! $ frame ! $ done !) (known y)
 
   pub collect-all-as : Triple 𝓤 (C #type1-to-type2·collect-all) (CollectAllC 𝓤 H A mem run′) → (κstems : Lft) (qstems : Share) (mstems bstems ostems : ℕ) (γstems : GName) (ysstems : List Stem) (κcommands : Lft) (qcommands : Share) (xcommands : RefT (List ℕ)) (κacross : Lft) (qacross : Share) (bacross oacross : ℕ) (γacross : GName) (ysacross : List Float) (κupright : Lft) (qupright : Share) (bupright oupright : ℕ) (γupright : GName) (ysupright : List Float) (entries : ℕ) (m : Matrix) (identity : Bool) (c : Collected) → entries < 2 ^ 64 → Is Z.the-row m (machZ m ∷ []) → Is K.the-row c (machK c ∷ []) → Stored entries (xcommands .now) ysstems × ((identity ≡ isIdentity m) × Counted c)
       → ent 𝓤 (mean 𝓤 H A ((‵ (flft κstems qstems) ⊛ ‵ (Own T.the-row mstems bstems ostems κstems γstems ysstems)) ⊛ ((‵ (flft κcommands qcommands) ⊛ ‵ (ShrSlice (named 0) κcommands u64 .own xcommands (sliceVal (xcommands .ptr) (length (xcommands .now)) ∷ []))) ⊛ ((‵ (flft κacross qacross) ⊛ ‵ (OwnR (Array f64 192) bacross oacross κacross γacross ysacross)) ⊛ (‵ (flft κupright qupright) ⊛ ‵ (OwnR (Array f64 192) bupright oupright κupright γupright ysupright)))))) (C #type1-to-type2·collect-all (sliceVal (bstems, ostems) mstems ∷ sliceVal (xcommands .ptr) (length (xcommands .now)) ∷ vint w64 entries ∷ machZ m ∷ vbool identity ∷ machK c ∷ vptr bacross oacross ∷ vptr bupright oupright ∷ []) (λ w. mean 𝓤 H A (GotAll 𝓤 K.the-row (List Stem × (Unit {0} × (Unit {0} × (Unit {0} × (Unit {0} × (Unit {0} × (List Float × (List Float × Unit {0})))))))) (λ (r : K.the-row .Denot) (lasts : (List Stem × (Unit {0} × (Unit {0} × (Unit {0} × (Unit {0} × (Unit {0} × (List Float × (List Float × Unit {0}))))))))). (lasts .0 ≡ ysstems) × Gathers (stemsTo m (xcommands .now) ysstems entries) c ysacross ysupright r (lasts .1 .1 .1 .1 .1 .1 .0) (lasts .1 .1 .1 .1 .1 .1 .1 .0)) (λ (lasts : (List Stem × (Unit {0} × (Unit {0} × (Unit {0} × (Unit {0} × (Unit {0} × (List Float × (List Float × Unit {0}))))))))). (fsep (fsep (finally T.the-row γstems (lasts .0)) (feq ℕ (length (lasts .0)) (length ysstems))) (fsep ftrue (fsep ftrue (fsep ftrue (fsep ftrue (fsep ftrue (fsep (fres γacross ((Array f64 192) .coded .code (lasts .1 .1 .1 .1 .1 .1 .0))) (fsep (fres γupright ((Array f64 192) .coded .code (lasts .1 .1 .1 .1 .1 .1 .1 .0))) ftrue))))))))) (‵ (flft κstems qstems) ⊛ (‵ (flft κcommands qcommands) ⊛ (‵ (flft κacross qacross) ⊛ (‵ (flft κupright qupright) ⊛ ‵ ftrue)))) w)))
@@ -171,11 +168,11 @@ module _ {M : Type 1} (𝓤 : URA M) (H : Heap 𝓤) (A : Atoms 𝓤) (mem : Mem
       let y : CollectAllC 𝓤 H A mem run′ .Ghost = (((κstems, (κcommands, (κacross, (κupright, tt)))), (qstems, (qcommands, (qacross, (qupright, tt)))), tt, (at-list T.the-row mstems bstems ostems γstems ysstems, (xcommands, (entries, (m, (identity, (c, (at-one (Array f64 192) bacross oacross γacross ysacross, (at-one (Array f64 192) bupright oupright γupright ysupright, tt)))))))), (sliceVal (bstems, ostems) mstems ∷ [], (sliceVal (xcommands .ptr) (length (xcommands .now)) ∷ [], (vint w64 entries ∷ [], (machZ m ∷ [], (vbool identity ∷ [], (machK c ∷ [], (vptr bacross oacross ∷ [], (vptr bupright oupright ∷ [], tt))))))))), tt) in
       via 𝓤 (CollectAllC 𝓤 H A mem run′ .pre y) (qed W (((‵ (flft κstems qstems) ⊛ ‵ (Own T.the-row mstems bstems ostems κstems γstems ysstems)) ⊛ ((‵ (flft κcommands qcommands) ⊛ ‵ (ShrSlice (named 0) κcommands u64 .own xcommands (sliceVal (xcommands .ptr) (length (xcommands .now)) ∷ []))) ⊛ ((‵ (flft κacross qacross) ⊛ ‵ (OwnR (Array f64 192) bacross oacross κacross γacross ysacross)) ⊛ (‵ (flft κupright qupright) ⊛ ‵ (OwnR (Array f64 192) bupright oupright κupright γupright ysupright))))) ∷ []) ∵ says ! need $ split ! $ move ! (1 ∷ []) $ split ! $ move ! (1 ∷ []) $ split ! $ move ! (3 ∷ []) $ split ! $ move ! (4 ∷ []) $ split ! $ move ! (4 ∷ []) $ split ! $ move ! (6 ∷ []) $ split ! $ nothing ! $ move ! (2 ∷ 0 ∷ []) $ fjoin ! $ move ! (3 ∷ 0 ∷ []) $ fjoin ! $ owned ! K.the-row (Is K.the-row) (LL.makes K.the-type K′.the-plain 𝓤 H A) c _ c-fits $ fjoin ! $ owned ! bool (Is bool) (bool-makes 𝓤 H A W) identity _ refl $ fjoin ! $ owned ! Z.the-row (Is Z.the-row) (LL.makes Z.the-type Z′.the-plain 𝓤 H A) m _ m-fits $ fjoin ! $ owned ! usize (Is usize) (uint-makes 𝓤 H A W w64) entries _ (refl, entries-fits) $ fjoin ! $ move ! (4 ∷ 0 ∷ []) $ fjoin ! $ move ! (5 ∷ 0 ∷ []) $ fjoin ! $ nothing ! $ move ! (2 ∷ 0 ∷ []) $ join ! $ move ! (2 ∷ 0 ∷ []) $ join ! $ move ! (2 ∷ 0 ∷ []) $ join ! $ move ! (2 ∷ 0 ∷ []) $ join ! $ frame ! $ done !) (known y)
 
-  pub make-plan-as : Triple 𝓤 (C #type1-to-type2·make-plan) (MakePlanC 𝓤 H A mem run′) → (number : ℕ) (k : Checked) (c : Collected) (m : Matrix) (ri : Interpreted) → number < 2 ^ 64 → Is Y.the-row k (machY k ∷ []) → Is K.the-row c (machK c ∷ []) → Is Z.the-row m (machZ m ∷ []) → Is I.the-row ri (machI ri ∷ []) → Counted c
-      → ent 𝓤 (mean 𝓤 H A (‵ ftrue)) (C #type1-to-type2·make-plan (vint w64 number ∷ machY k ∷ machK c ∷ machZ m ∷ machI ri ∷ []) (λ w. mean 𝓤 H A (GotAll 𝓤 Q.the-row (Unit {0} × (Unit {0} × (Unit {0} × (Unit {0} × (Unit {0} × Unit {0}))))) (λ (r : Q.the-row .Denot) (lasts : (Unit {0} × (Unit {0} × (Unit {0} × (Unit {0} × (Unit {0} × Unit {0})))))). Planned number k c m (ri .width) r) (λ (lasts : (Unit {0} × (Unit {0} × (Unit {0} × (Unit {0} × (Unit {0} × Unit {0})))))). (fsep ftrue (fsep ftrue (fsep ftrue (fsep ftrue (fsep ftrue ftrue)))))) (‵ ftrue) w)))
-  make-plan-as known number k c m ri number-fits k-fits c-fits m-fits ri-fits need =
-      let y : MakePlanC 𝓤 H A mem run′ .Ghost = ((tt, tt, tt, (number, (k, (c, (m, (ri, tt))))), (vint w64 number ∷ [], (machY k ∷ [], (machK c ∷ [], (machZ m ∷ [], (machI ri ∷ [], tt)))))), tt) in
-      via 𝓤 (MakePlanC 𝓤 H A mem run′ .pre y) (qed W ((‵ ftrue) ∷ []) ∵ says ! need $ nothing ! $ owned ! I.the-row (Is I.the-row) (LL.makes I.the-type I′.the-plain 𝓤 H A) ri _ ri-fits $ fjoin ! $ owned ! Z.the-row (Is Z.the-row) (LL.makes Z.the-type Z′.the-plain 𝓤 H A) m _ m-fits $ fjoin ! $ owned ! K.the-row (Is K.the-row) (LL.makes K.the-type K′.the-plain 𝓤 H A) c _ c-fits $ fjoin ! $ owned ! Y.the-row (Is Y.the-row) (LL.makes Y.the-type Y′.the-plain 𝓤 H A) k _ k-fits $ fjoin ! $ owned ! u64 (Is u64) (uint-makes 𝓤 H A W w64) number _ (refl, number-fits) $ fjoin ! $ nothing ! $ move ! (2 ∷ []) $ drop ! $ frame ! $ done !) (known y)
+  pub make-plan-as : Triple 𝓤 (C #type1-to-type2·make-plan) (MakePlanC 𝓤 H A mem run′) → (number : ℕ) (c : Collected) (m : Matrix) (ri : Interpreted) → number < 2 ^ 64 → Is K.the-row c (machK c ∷ []) → Is Z.the-row m (machZ m ∷ []) → Is I.the-row ri (machI ri ∷ []) → Counted c
+      → ent 𝓤 (mean 𝓤 H A (‵ ftrue)) (C #type1-to-type2·make-plan (vint w64 number ∷ machK c ∷ machZ m ∷ machI ri ∷ []) (λ w. mean 𝓤 H A (GotAll 𝓤 Q.the-row (Unit {0} × (Unit {0} × (Unit {0} × (Unit {0} × Unit {0})))) (λ (r : Q.the-row .Denot) (lasts : (Unit {0} × (Unit {0} × (Unit {0} × (Unit {0} × Unit {0}))))). Planned number c m (ri .width) r) (λ (lasts : (Unit {0} × (Unit {0} × (Unit {0} × (Unit {0} × Unit {0}))))). (fsep ftrue (fsep ftrue (fsep ftrue (fsep ftrue ftrue))))) (‵ ftrue) w)))
+  make-plan-as known number c m ri number-fits c-fits m-fits ri-fits need =
+      let y : MakePlanC 𝓤 H A mem run′ .Ghost = ((tt, tt, tt, (number, (c, (m, (ri, tt)))), (vint w64 number ∷ [], (machK c ∷ [], (machZ m ∷ [], (machI ri ∷ [], tt))))), tt) in
+      via 𝓤 (MakePlanC 𝓤 H A mem run′ .pre y) (qed W ((‵ ftrue) ∷ []) ∵ says ! need $ nothing ! $ owned ! I.the-row (Is I.the-row) (LL.makes I.the-type I′.the-plain 𝓤 H A) ri _ ri-fits $ fjoin ! $ owned ! Z.the-row (Is Z.the-row) (LL.makes Z.the-type Z′.the-plain 𝓤 H A) m _ m-fits $ fjoin ! $ owned ! K.the-row (Is K.the-row) (LL.makes K.the-type K′.the-plain 𝓤 H A) c _ c-fits $ fjoin ! $ owned ! u64 (Is u64) (uint-makes 𝓤 H A W w64) number _ (refl, number-fits) $ fjoin ! $ nothing ! $ move ! (2 ∷ []) $ drop ! $ frame ! $ done !) (known y)
 
   pub begin-program-as : Triple 𝓤 (C #type1-to-type2·begin-program) (BeginProgramC 𝓤 H A mem run′) → (κacross : Lft) (qacross : Share) (xacross : RefT (List Float)) (κupright : Lft) (qupright : Share) (xupright : RefT (List Float)) (κout : Lft) (qout : Share) (mout bout oout : ℕ) (γout : GName) (ysout : List ℕ) (p : Plan) → Is Q.the-row p (machQ p ∷ []) → p .across + p .upright ≤ 96
       → ent 𝓤 (mean 𝓤 H A ((‵ (flft κacross qacross) ⊛ ‵ (ShrRef (named 0) κacross (Array f64 192) .own xacross (vptr (xacross .ptr .0) (xacross .ptr .1) ∷ []))) ⊛ ((‵ (flft κupright qupright) ⊛ ‵ (ShrRef (named 0) κupright (Array f64 192) .own xupright (vptr (xupright .ptr .0) (xupright .ptr .1) ∷ []))) ⊛ (‵ (flft κout qout) ⊛ ‵ (Own u8 mout bout oout κout γout ysout))))) (C #type1-to-type2·begin-program (machQ p ∷ vptr (xacross .ptr .0) (xacross .ptr .1) ∷ vptr (xupright .ptr .0) (xupright .ptr .1) ∷ sliceVal (bout, oout) mout ∷ []) (λ w. mean 𝓤 H A (GotAll 𝓤 R.the-row (Unit {0} × (Unit {0} × (Unit {0} × (List ℕ × Unit {0})))) (λ (r : R.the-row .Denot) (lasts : (Unit {0} × (Unit {0} × (Unit {0} × (List ℕ × Unit {0}))))). Opens p (xacross .now) (xupright .now) (length ysout) r (lasts .1 .1 .1 .0)) (λ (lasts : (Unit {0} × (Unit {0} × (Unit {0} × (List ℕ × Unit {0}))))). (fsep ftrue (fsep ftrue (fsep ftrue (fsep (fsep (finally u8 γout (lasts .1 .1 .1 .0)) (feq ℕ (length (lasts .1 .1 .1 .0)) (length ysout))) ftrue))))) (‵ (flft κacross qacross) ⊛ (‵ (flft κupright qupright) ⊛ (‵ (flft κout qout) ⊛ ‵ ftrue))) w)))
@@ -189,11 +186,11 @@ module _ {M : Type 1} (𝓤 : URA M) (H : Heap 𝓤) (A : Atoms 𝓤) (mem : Mem
       let y : WriteAllC 𝓤 H A mem run′ .Ghost = (((κstems, (κcommands, (κacross, (κupright, (κmask, (κout, tt)))))), (qstems, (qcommands, (qacross, (qupright, (qmask, (qout, tt)))))), tt, (at-list T.the-row mstems bstems ostems γstems ysstems, (xcommands, (entries, (m, (identity, (masked, (na, (nu, (xacross, (xupright, (at-one (Array bool 96) bmask omask γmask ysmask, (wr, (at-list u8 mout bout oout γout ysout, tt))))))))))))), (sliceVal (bstems, ostems) mstems ∷ [], (sliceVal (xcommands .ptr) (length (xcommands .now)) ∷ [], (vint w64 entries ∷ [], (machZ m ∷ [], (vbool identity ∷ [], (vbool masked ∷ [], (vint w64 na ∷ [], (vint w64 nu ∷ [], (vptr (xacross .ptr .0) (xacross .ptr .1) ∷ [], (vptr (xupright .ptr .0) (xupright .ptr .1) ∷ [], (vptr bmask omask ∷ [], (machR wr ∷ [], (sliceVal (bout, oout) mout ∷ [], tt)))))))))))))), tt) in
       via 𝓤 (WriteAllC 𝓤 H A mem run′ .pre y) (qed W (((‵ (flft κstems qstems) ⊛ ‵ (Own T.the-row mstems bstems ostems κstems γstems ysstems)) ⊛ ((‵ (flft κcommands qcommands) ⊛ ‵ (ShrSlice (named 0) κcommands u64 .own xcommands (sliceVal (xcommands .ptr) (length (xcommands .now)) ∷ []))) ⊛ ((‵ (flft κacross qacross) ⊛ ‵ (ShrRef (named 0) κacross (Array f64 192) .own xacross (vptr (xacross .ptr .0) (xacross .ptr .1) ∷ []))) ⊛ ((‵ (flft κupright qupright) ⊛ ‵ (ShrRef (named 0) κupright (Array f64 192) .own xupright (vptr (xupright .ptr .0) (xupright .ptr .1) ∷ []))) ⊛ ((‵ (flft κmask qmask) ⊛ ‵ (OwnR (Array bool 96) bmask omask κmask γmask ysmask)) ⊛ (‵ (flft κout qout) ⊛ ‵ (Own u8 mout bout oout κout γout ysout))))))) ∷ []) ∵ says ! need $ split ! $ move ! (1 ∷ []) $ split ! $ move ! (1 ∷ []) $ split ! $ move ! (1 ∷ []) $ split ! $ move ! (1 ∷ []) $ split ! $ move ! (5 ∷ []) $ split ! $ move ! (6 ∷ []) $ split ! $ move ! (7 ∷ []) $ split ! $ move ! (8 ∷ []) $ split ! $ move ! (8 ∷ []) $ split ! $ move ! (10 ∷ []) $ split ! $ nothing ! $ move ! (2 ∷ 0 ∷ []) $ fjoin ! $ owned ! R.the-row (Is R.the-row) (LL.makes R.the-type R′.the-plain 𝓤 H A) wr _ wr-fits $ fjoin ! $ move ! (3 ∷ 0 ∷ []) $ fjoin ! $ move ! (4 ∷ 0 ∷ []) $ fjoin ! $ move ! (5 ∷ 0 ∷ []) $ fjoin ! $ owned ! usize (Is usize) (uint-makes 𝓤 H A W w64) nu _ (refl, nu-fits) $ fjoin ! $ owned ! usize (Is usize) (uint-makes 𝓤 H A W w64) na _ (refl, na-fits) $ fjoin ! $ owned ! bool (Is bool) (bool-makes 𝓤 H A W) masked _ refl $ fjoin ! $ owned ! bool (Is bool) (bool-makes 𝓤 H A W) identity _ refl $ fjoin ! $ owned ! Z.the-row (Is Z.the-row) (LL.makes Z.the-type Z′.the-plain 𝓤 H A) m _ m-fits $ fjoin ! $ owned ! usize (Is usize) (uint-makes 𝓤 H A W w64) entries _ (refl, entries-fits) $ fjoin ! $ move ! (6 ∷ 0 ∷ []) $ fjoin ! $ move ! (7 ∷ 0 ∷ []) $ fjoin ! $ nothing ! $ move ! (2 ∷ 0 ∷ []) $ join ! $ move ! (2 ∷ 0 ∷ []) $ join ! $ move ! (2 ∷ 0 ∷ []) $ join ! $ move ! (2 ∷ 0 ∷ []) $ join ! $ move ! (2 ∷ 0 ∷ []) $ join ! $ move ! (2 ∷ 0 ∷ []) $ join ! $ frame ! $ done !) (known y)
 
-  pub end-program-as : Triple 𝓤 (C #type1-to-type2·end-program) (EndProgramC 𝓤 H A mem run′) → (κout : Lft) (qout : Share) (mout bout oout : ℕ) (γout : GName) (ysout : List ℕ) (p : Plan) (ri : Interpreted) (wr : Writer) → Is Q.the-row p (machQ p ∷ []) → Is I.the-row ri (machI ri ∷ []) → Is R.the-row wr (machR wr ∷ [])
-      → ent 𝓤 (mean 𝓤 H A (‵ (flft κout qout) ⊛ ‵ (Own u8 mout bout oout κout γout ysout))) (C #type1-to-type2·end-program (machQ p ∷ machI ri ∷ machR wr ∷ sliceVal (bout, oout) mout ∷ []) (λ w. mean 𝓤 H A (GotAll 𝓤 G.the-row (Unit {0} × (Unit {0} × (Unit {0} × (List ℕ × Unit {0})))) (λ (r : G.the-row .Denot) (lasts : (Unit {0} × (Unit {0} × (Unit {0} × (List ℕ × Unit {0}))))). Answers (writes (p .width) (ri .ran) (resumedAll false [] wr ysout [])) (length ysout) r (lasts .1 .1 .1 .0)) (λ (lasts : (Unit {0} × (Unit {0} × (Unit {0} × (List ℕ × Unit {0}))))). (fsep ftrue (fsep ftrue (fsep ftrue (fsep (fsep (finally u8 γout (lasts .1 .1 .1 .0)) (feq ℕ (length (lasts .1 .1 .1 .0)) (length ysout))) ftrue))))) (‵ (flft κout qout) ⊛ ‵ ftrue) w)))
-  end-program-as known κout qout mout bout oout γout ysout p ri wr p-fits ri-fits wr-fits =
-      let y : EndProgramC 𝓤 H A mem run′ .Ghost = (((κout, tt), (qout, tt), tt, (p, (ri, (wr, (at-list u8 mout bout oout γout ysout, tt)))), (machQ p ∷ [], (machI ri ∷ [], (machR wr ∷ [], (sliceVal (bout, oout) mout ∷ [], tt))))), tt) in
-      via 𝓤 (EndProgramC 𝓤 H A mem run′ .pre y) (qed W ((‵ (flft κout qout) ⊛ ‵ (Own u8 mout bout oout κout γout ysout)) ∷ []) ∵ split ! $ nothing ! $ move ! (2 ∷ 0 ∷ []) $ fjoin ! $ owned ! R.the-row (Is R.the-row) (LL.makes R.the-type R′.the-plain 𝓤 H A) wr _ wr-fits $ fjoin ! $ owned ! I.the-row (Is I.the-row) (LL.makes I.the-type I′.the-plain 𝓤 H A) ri _ ri-fits $ fjoin ! $ owned ! Q.the-row (Is Q.the-row) (LL.makes Q.the-type Q′.the-plain 𝓤 H A) p _ p-fits $ fjoin ! $ nothing ! $ move ! (2 ∷ 0 ∷ []) $ join ! $ join ! $ frame ! $ done !) (known y)
+  pub end-program-as : Triple 𝓤 (C #type1-to-type2·end-program) (EndProgramC 𝓤 H A mem run′) → (κcommands : Lft) (qcommands : Share) (xcommands : RefT (List ℕ)) (κout : Lft) (qout : Share) (mout bout oout : ℕ) (γout : GName) (ysout : List ℕ) (p : Plan) (ri : Interpreted) (wr : Writer) (m : Matrix) (identity : Bool) → Is Q.the-row p (machQ p ∷ []) → Is I.the-row ri (machI ri ∷ []) → Is R.the-row wr (machR wr ∷ []) → Is Z.the-row m (machZ m ∷ []) → (14 * ri .entries ≤ length (xcommands .now)) × ((identity ≡ isIdentity m) × ((e : ℕ) → e < ri .entries → All (OfCommand Good) (commandIn (xcommands .now) e)))
+      → ent 𝓤 (mean 𝓤 H A ((‵ (flft κcommands qcommands) ⊛ ‵ (ShrSlice (named 0) κcommands u64 .own xcommands (sliceVal (xcommands .ptr) (length (xcommands .now)) ∷ []))) ⊛ (‵ (flft κout qout) ⊛ ‵ (Own u8 mout bout oout κout γout ysout)))) (C #type1-to-type2·end-program (machQ p ∷ machI ri ∷ machR wr ∷ sliceVal (xcommands .ptr) (length (xcommands .now)) ∷ machZ m ∷ vbool identity ∷ sliceVal (bout, oout) mout ∷ []) (λ w. mean 𝓤 H A (GotAll 𝓤 G.the-row (Unit {0} × (Unit {0} × (Unit {0} × (Unit {0} × (Unit {0} × (Unit {0} × (List ℕ × Unit {0}))))))) (λ (r : G.the-row .Denot) (lasts : (Unit {0} × (Unit {0} × (Unit {0} × (Unit {0} × (Unit {0} × (Unit {0} × (List ℕ × Unit {0})))))))). Answers (settles (p .number) (finiteList (foldedList m (drawnIn (ri .entries) (xcommands .now)))) (writes (p .width) (ri .ran) (resumedAll false [] wr ysout []))) (length ysout) r (lasts .1 .1 .1 .1 .1 .1 .0)) (λ (lasts : (Unit {0} × (Unit {0} × (Unit {0} × (Unit {0} × (Unit {0} × (Unit {0} × (List ℕ × Unit {0})))))))). (fsep ftrue (fsep ftrue (fsep ftrue (fsep ftrue (fsep ftrue (fsep ftrue (fsep (fsep (finally u8 γout (lasts .1 .1 .1 .1 .1 .1 .0)) (feq ℕ (length (lasts .1 .1 .1 .1 .1 .1 .0)) (length ysout))) ftrue)))))))) (‵ (flft κcommands qcommands) ⊛ (‵ (flft κout qout) ⊛ ‵ ftrue)) w)))
+  end-program-as known κcommands qcommands xcommands κout qout mout bout oout γout ysout p ri wr m identity p-fits ri-fits wr-fits m-fits need =
+      let y : EndProgramC 𝓤 H A mem run′ .Ghost = (((κcommands, (κout, tt)), (qcommands, (qout, tt)), tt, (p, (ri, (wr, (xcommands, (m, (identity, (at-list u8 mout bout oout γout ysout, tt))))))), (machQ p ∷ [], (machI ri ∷ [], (machR wr ∷ [], (sliceVal (xcommands .ptr) (length (xcommands .now)) ∷ [], (machZ m ∷ [], (vbool identity ∷ [], (sliceVal (bout, oout) mout ∷ [], tt)))))))), tt) in
+      via 𝓤 (EndProgramC 𝓤 H A mem run′ .pre y) (qed W (((‵ (flft κcommands qcommands) ⊛ ‵ (ShrSlice (named 0) κcommands u64 .own xcommands (sliceVal (xcommands .ptr) (length (xcommands .now)) ∷ []))) ⊛ (‵ (flft κout qout) ⊛ ‵ (Own u8 mout bout oout κout γout ysout))) ∷ []) ∵ says ! need $ split ! $ split ! $ move ! (2 ∷ []) $ split ! $ nothing ! $ move ! (2 ∷ 0 ∷ []) $ fjoin ! $ owned ! bool (Is bool) (bool-makes 𝓤 H A W) identity _ refl $ fjoin ! $ owned ! Z.the-row (Is Z.the-row) (LL.makes Z.the-type Z′.the-plain 𝓤 H A) m _ m-fits $ fjoin ! $ move ! (3 ∷ 0 ∷ []) $ fjoin ! $ owned ! R.the-row (Is R.the-row) (LL.makes R.the-type R′.the-plain 𝓤 H A) wr _ wr-fits $ fjoin ! $ owned ! I.the-row (Is I.the-row) (LL.makes I.the-type I′.the-plain 𝓤 H A) ri _ ri-fits $ fjoin ! $ owned ! Q.the-row (Is Q.the-row) (LL.makes Q.the-type Q′.the-plain 𝓤 H A) p _ p-fits $ fjoin ! $ nothing ! $ move ! (2 ∷ 0 ∷ []) $ join ! $ move ! (2 ∷ 0 ∷ []) $ join ! $ frame ! $ done !) (known y)
 
   pub first-number-as : Triple 𝓤 (C #type1-to-type2·first-number) (FirstNumberC 𝓤 H A mem run′) → (m : Matrix) (number : ℕ) → Is Z.the-row m (machZ m ∷ []) → number < 2 ^ 64
       → ent 𝓤 (mean 𝓤 H A (‵ ftrue)) (C #type1-to-type2·first-number (machZ m ∷ vint w64 number ∷ []) (λ w. mean 𝓤 H A (GotAll 𝓤 u64 (Unit {0} × (Unit {0} × Unit {0})) (λ (r : u64 .Denot) (lasts : (Unit {0} × (Unit {0} × Unit {0}))). r ≡ firstNumber m number) (λ (lasts : (Unit {0} × (Unit {0} × Unit {0}))). (fsep ftrue (fsep ftrue ftrue))) (‵ ftrue) w)))

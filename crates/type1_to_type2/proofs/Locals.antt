@@ -6,7 +6,6 @@ use Rattle.geometry.specs.declared.Matrix.{Matrix}
 use Rattle.type1_to_type2.specs.declared.Collected.{Collected}
 use Rattle.type1_to_type2.specs.declared.Writer.{Writer}
 use Rattle.type1_to_type2.specs.declared.Type2Glyph.{Type2Glyph}
-use Rattle.type1_to_type2.specs.declared.Checked.{Checked}
 use Rattle.type1_to_type2.specs.declared.Plan.{Plan}
 use Rattle.geometry.proofs.Matrix as Z
 use Rattle.geometry.proofs.Matrix.Laws as Z′
@@ -16,8 +15,6 @@ use Rattle.type1_to_type2.proofs.Writer as R
 use Rattle.type1_to_type2.proofs.Writer.Laws as R′
 use Rattle.type1_to_type2.proofs.Type2Glyph as G
 use Rattle.type1_to_type2.proofs.Type2Glyph.Laws as G′
-use Rattle.type1_to_type2.proofs.Checked as Y
-use Rattle.type1_to_type2.proofs.Checked.Laws as Y′
 use Rattle.type1_to_type2.proofs.Plan as Q
 use Rattle.type1_to_type2.proofs.Plan.Laws as Q′
 
@@ -44,9 +41,6 @@ machR h = LL.tuple-val R.the-type R′.the-laws (R.the-type .to h)
 
 abbrev pub machG : Type2Glyph → Val
 machG h = LL.tuple-val G.the-type G′.the-laws (G.the-type .to h)
-
-abbrev pub machY : Checked → Val
-machY h = LL.tuple-val Y.the-type Y′.the-laws (Y.the-type .to h)
 
 abbrev pub machQ : Plan → Val
 machQ h = LL.tuple-val Q.the-type Q′.the-laws (Q.the-type .to h)

@@ -2,7 +2,7 @@
 use mathlib.Core.Path.{_≡_, refl, sym, _∙_, ap, ap₂, subst}
 use Prim.Native.Nat.{ℕ, zero, suc, _<_}
 use native.Mathlib.Omega.{arith}
-use mathlib.Core.Bool.{Bool, true, false, not, _&&_}
+use mathlib.Core.Bool.{Bool, true, false, not, _&&_, cond, true≢false}
 use mathlib.Core.List.{List, [], _∷_, _++_}
 use lib.ListN.{length, replicate}
 use lib.Dec.{T, eqb, eqb·suc-zero, ltb, ltb→lt, nltb→le}
@@ -18,12 +18,12 @@ use Rattle.type1.specs.Interpret.{outcome, Left, refusedWith, Leaves}
 use Rattle.type1.specs.Sound.{All, OfCommand}
 use Rattle.type1.specs.Small.{zeroStem}
 use Rattle.type1.specs.Memory.{Good, commandIn, drawnIn, groupsIn}
-use Rattle.type1_to_type2.specs.declared.Checked.{Checked}
 use Rattle.type1_to_type2.specs.declared.Collected.{Collected}
 use Rattle.type1_to_type2.specs.declared.Plan.{Plan}
 use Rattle.type1_to_type2.specs.declared.Writer.{Writer}
 use Rattle.type1_to_type2.specs.declared.Type2Glyph.{Type2Glyph}
-use Rattle.folding.specs.Folding.{finiteMatrix, foldedWidth, foldedList, foldedGroups, finiteList, finiteGroups, foldsFinite}
+use Rattle.folding.specs.Folding.{finiteMatrix, foldedWidth, foldedList, foldedGroups, finiteList, finiteGroups, foldsFinite, refusal}
+use Rattle.type2.specs.Bools.{yes}
 use Rattle.type1_to_type2.specs.Stems.{Declared, declared, allStems}
 use Rattle.type1_to_type2.specs.Emission.{Cmd, items, commands, program}
 use Rattle.type1_to_type2.specs.Writing as Writing
@@ -33,33 +33,41 @@ use Rattle.type1_to_type2.specs.Convert.{Conversion, instructions, write
 use Rattle.type1_to_type2.specs.Collecting.{Collects, Counted, noneCollected}
 use Rattle.type1_to_type2.specs.Streaming.{resumedAll}
 use Rattle.type1_to_type2.specs.Passes.{both, Gathers, stemsTo, cmdsFrom, Stored}
-use Rattle.type1_to_type2.specs.Entry.{Checks, noneOf, tables, Planned, opens, Opens, leftState, fromRun, Answers, Converts, firstNumber}
+use Rattle.type1_to_type2.specs.Entry.{groupCount, noneOf, tables, Planned, opens, Opens, leftState, fromRun, settles, Answers, Converts, firstNumber}
+use Rattle.type1_to_type2.specs.Fine.{written-finite}
 use Rattle.type1_to_type2.specs.Nonzero.{write-nonzero}
 use Rattle.type1_to_type2.proofs.Folds.{finite-all}
 use Rattle.type1_to_type2.proofs.Ordering.{collects-first, collects-group}
 use Rattle.type1_to_type2.proofs.EntryLaws.{commands-are, stems-are, count-is}
 
-and-right : (a b c : Bool) → (a && (b && c)) ≡ true → c ≡ true
-and-right true true c e = e
-and-right true false true e = refl
-and-right true false false e = e
-and-right false b true e = refl
-and-right false b false e = e
+and-right : (a b : Bool) → (a && b) ≡ true → b ≡ true
+and-right true b e = e
+and-right false true e = refl
+and-right false false e = e
 
 nothing-left : (masked : Bool) (ss : List Stem) (w : Writer) (out : List ℕ) → resumedAll false [] w out [] ≡ resumedAll masked ss w out []
 unfolding items
 nothing-left true ss w out = refl
 nothing-left false ss w out = refl
 
-pub few-none : (k : Checked) (c : Collected) → c ≡ noneOf k → Counted c
+pub few-none : (k : ℕ) (c : Collected) → c ≡ noneOf k → Counted c
 few-none k c e = subst Counted (sym e) (record { across = omega arith; upright = omega arith })
 
--- by the number so far, and by whether all is finite
-chosen : (b f : Bool) (n p : ℕ) (x y : Written) (w : Float) (k : ℕ) → eqb n 0 ≡ b → p ≡ pick b (pick f 0 14) n → (b ≡ true → f ≡ true → x ≡ y)
-    → writes w k (pick (eqb p 0) x (Writing.refused p)) ≡ pick b (pick f (writes w k y) (Convert.refused 14)) (Convert.refused n)
-chosen true true n p x y w k e q h = ap (λ (j : ℕ). writes w k (pick (eqb j 0) x (Writing.refused j))) q ∙ ap (writes w k) (h refl refl)
-chosen true false n p x y w k e q h = ap (λ (j : ℕ). writes w k (pick (eqb j 0) x (Writing.refused j))) q
-chosen false f n p x y w k e q h = ap (λ (j : ℕ). writes w k (pick (eqb j 0) x (Writing.refused j))) q ∙ ap (λ (b : Bool). writes w k (pick b x (Writing.refused n))) e
+-- by the number so far, whether the width and the stems are finite (f and s), and whether the points are: then what is written was not refused
+settled : (b f s points : Bool) (n p : ℕ) (x y : Written) (w : Float) (k : ℕ) → eqb n 0 ≡ b → p ≡ pick b (pick (f && s) 0 14) n → ((f && s) ≡ true → x ≡ y) → ((c : List ℕ) → y ≡ Writing.wrote c → points ≡ true)
+    → settles p points (writes w k (pick (eqb p 0) x (Writing.refused p))) ≡ pick b (pick (f && (points && s)) (writes w k y) (Convert.refused 14)) (Convert.refused n)
+unfolding refusal
+settled false f s points n p x y w k e q h g = ap (λ (j : ℕ). settles j points (writes w k (pick (eqb j 0) x (Writing.refused j)))) q ∙ ap (λ (z : Bool). settles n points (writes w k (pick z x (Writing.refused n)))) e ∙ ap (λ (z : Bool). Convert.refused (cond z (cond points n 14) n)) e
+settled true true true points n p x y w k e q h g = ap (λ (j : ℕ). settles j points (writes w k (pick (eqb j 0) x (Writing.refused j)))) q ∙ ap (λ (z : Written). settles 0 points (writes w k z)) (h refl) ∙ late points y g
+  where
+    late : (points : Bool) (y : Written) → ((c : List ℕ) → y ≡ Writing.wrote c → points ≡ true) → settles 0 points (writes w k y) ≡ pick (points && true) (writes w k y) (Convert.refused 14)
+    late true (Writing.refused j) g = refl
+    late true (Writing.wrote c) g = refl
+    late false (Writing.refused j) g = refl
+    late false (Writing.wrote c) g = absurd (true≢false (sym (g c refl)))
+settled true true false true n p x y w k e q h g = ap (λ (j : ℕ). settles j true (writes w k (pick (eqb j 0) x (Writing.refused j)))) q
+settled true true false false n p x y w k e q h g = ap (λ (j : ℕ). settles j false (writes w k (pick (eqb j 0) x (Writing.refused j)))) q
+settled true false s points n p x y w k e q h g = ap (λ (j : ℕ). settles j points (writes w k (pick (eqb j 0) x (Writing.refused j)))) q
 
 module _ (number : ℕ) (m : Matrix) (r : Interpreted) (c : List ℕ) (z : List Stem) (room : ℕ) where
   abbrev gs : List Group
@@ -69,24 +77,24 @@ module _ (number : ℕ) (m : Matrix) (r : Interpreted) (c : List ℕ) (z : List 
   unfolding fromRun folded foldsFinite instructions
   is-run = refl
 
-  pub run-answers : (k : Checked) (c₀ cc : Collected) (ta tu ta₁ tu₁ : List Float) (p : Plan) (w v : Writer) (out₁ out₂ out₃ : List ℕ) (g : Type2Glyph) (z′ : List Stem)
-      → length ta ≡ 192 → length tu ≡ 192 → Checks m (r .entries) c k → c₀ ≡ noneOf k → Gathers (stemsTo m c z (r .entries)) c₀ ta tu cc ta₁ tu₁ → Planned number k cc m (r .width) p → Opens p ta₁ tu₁ room w out₁ → z′ ≡ z
+  pub run-answers : (k : ℕ) (c₀ cc : Collected) (ta tu ta₁ tu₁ : List Float) (p : Plan) (w v : Writer) (out₁ out₂ out₃ : List ℕ) (g : Type2Glyph) (z′ : List Stem)
+      → length ta ≡ 192 → length tu ≡ 192 → k ≡ groupCount (r .entries) c → c₀ ≡ noneOf k → Gathers (stemsTo m c z (r .entries)) c₀ ta tu cc ta₁ tu₁ → Planned number cc m (r .width) p → Opens p ta₁ tu₁ room w out₁ → z′ ≡ z
       → resumedAll (p .masked) (both (p .across) (p .upright) ta₁ tu₁) v out₂ [] ≡ resumedAll (p .masked) (both (p .across) (p .upright) ta₁ tu₁) w out₁ (cmdsFrom m c z′ 0 (r .entries)) → length out₂ ≡ room
-      → Answers (writes (p .width) (r .ran) (resumedAll false [] v out₂ [])) (length out₂) g out₃ → Answers (fromRun number m room r c z) room g out₃
+      → Answers (settles (p .number) (finiteList (foldedList m (drawnIn (r .entries) c))) (writes (p .width) (r .ran) (resumedAll false [] v out₂ []))) (length out₂) g out₃ → Answers (fromRun number m room r c z) room g out₃
   run-answers k c₀ cc ta tu ta₁ tu₁ p w v out₁ out₂ out₃ g z′ la lu K e₀ G P B ez e l A =
-      let C : Collects (stemsTo m c z (r .entries)) cc ta₁ tu₁ = G .0 [] (subst (λ (x : Collected). Collects [] x ta tu) (sym e₀) (collects-group noneCollected (k .groups) ta tu [] (collects-first ta tu la lu))) in
+      let C : Collects (stemsTo m c z (r .entries)) cc ta₁ tu₁ = G .0 [] (subst (λ (x : Collected). Collects [] x ta tu) (sym e₀) (collects-group noneCollected k ta tu [] (collects-first ta tu la lu))) in
       let C′ : Collects (allStems gs) cc ta₁ tu₁ = subst (λ (x : List Stem). Collects x cc ta₁ tu₁) (stems-are m c z (r .entries)) C in
       let fw = finite (foldedWidth m (r .width)) in
       let ds = foldedList m (drawnIn (r .entries) c) in
-      let F = fw && (finiteList ds && finiteGroups gs) in
-      let same : (fw && (k .finite && cc .finite)) ≡ F = ap₂ (λ (x y : Bool). fw && (x && y)) (K .points) (C′ .fine ∙ sym (finite-all gs)) in
-      let counted : cc .groups ≡ length gs = G .1 .0 ∙ ap (λ (x : Collected). x .groups) e₀ ∙ K .groups ∙ count-is m c z (r .entries) in
+      let same : (fw && cc .finite) ≡ (fw && finiteGroups gs) = ap (λ (x : Bool). fw && x) (C′ .fine ∙ sym (finite-all gs)) in
+      let counted : cc .groups ≡ length gs = G .1 .0 ∙ ap (λ (x : Collected). x .groups) e₀ ∙ K ∙ count-is m c z (r .entries) in
       let left = nothing-left (p .masked) (both (p .across) (p .upright) ta₁ tu₁) v out₂ ∙ e ∙ ap (λ (x : List Stem). resumedAll (p .masked) (both (p .across) (p .upright) ta₁ tu₁) w out₁ (cmdsFrom m c x 0 (r .entries))) ez ∙ B .more (cmdsFrom m c z 0 (r .entries)) ∙ opens-is p ta₁ tu₁ room (cmdsFrom m c z 0 (r .entries)) in
-      let x : writes (p .width) (r .ran) (resumedAll false [] v out₂ []) ≡ fromRun number m room r c z =
-      ap₂ (λ (a : Float) (b : Written). writes a (r .ran) b) (P .width-is) left
-      ∙ chosen (eqb number 0) F number (p .number) (write (program (tables p ta₁ tu₁) (cmdsFrom m c z 0 (r .entries))) room) (write (program (declared gs) (commands 0 gs ds)) room) (foldedWidth m (r .width)) (r .ran) refl
+      let x : settles (p .number) (finiteList ds) (writes (p .width) (r .ran) (resumedAll false [] v out₂ [])) ≡ fromRun number m room r c z =
+      ap₂ (λ (a : Float) (b : Written). settles (p .number) (finiteList ds) (writes a (r .ran) b)) (P .width-is) left
+      ∙ settled (eqb number 0) fw (finiteGroups gs) (finiteList ds) number (p .number) (write (program (tables p ta₁ tu₁) (cmdsFrom m c z 0 (r .entries))) room) (write (program (declared gs) (commands 0 gs ds)) room) (foldedWidth m (r .width)) (r .ran) refl
       (P .number-is ∙ ap (λ (b : Bool). pick (eqb number 0) (pick b 0 14) number) same)
-      (λ _ f. ap₂ (λ (d : Declared) (cs : List Cmd). write (program d cs) room) (sym (P .stems gs ta₁ tu₁ C′ counted (and-right fw (k .finite) (cc .finite) (same ∙ f)))) (commands-are m c z (r .entries)))
+      (λ f. ap₂ (λ (d : Declared) (cs : List Cmd). write (program d cs) room) (sym (P .stems gs ta₁ tu₁ C′ counted (and-right fw (cc .finite) (same ∙ f)))) (commands-are m c z (r .entries)))
+      (λ b q. yes (finiteList ds) (written-finite (declared gs) gs ds room b q))
       ∙ sym is-run in
       record { glyph = A .glyph ∙ ap answer x; bytes = A .bytes ∙ ap₂ output l x }
     where

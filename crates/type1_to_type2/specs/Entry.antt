@@ -2,7 +2,7 @@
 use Prim.Native.Nat.{ℕ, zero, suc, _+_, _≤_}
 use mathlib.Core.Path.{_≡_}
 use mathlib.Core.Bool.{Bool, true, false, _&&_}
-use mathlib.Core.List.{List, [], _∷_}
+use mathlib.Core.List.{List, []}
 use lib.Dec.{eqb}
 use lib.ListN.{length, replicate}
 use lib.Ieee.{Float}
@@ -10,21 +10,20 @@ use lib.Ieee.Scale.{finite}
 use Rattle.geometry.specs.declared.Matrix.{Matrix}
 use Rattle.type1.specs.declared.Stem.{Stem}
 use Rattle.type1.specs.declared.Interpreted.{Interpreted}
-use Rattle.type1.specs.State.{Group, State, plusZero, origin, start}
+use Rattle.type1.specs.State.{Group, State, origin, start}
 use Rattle.type1.specs.Run.{pick}
 use Rattle.type1.specs.Small.{zeroStem}
 use Rattle.type1.specs.Memory.{word, drawnIn, groupsIn}
-use Rattle.type1_to_type2.specs.declared.Checked.{Checked}
 use Rattle.type1_to_type2.specs.declared.Collected.{Collected}
 use Rattle.type1_to_type2.specs.declared.Plan.{Plan}
 use Rattle.type1_to_type2.specs.declared.Writer.{Writer}
 use Rattle.type1_to_type2.specs.declared.Type2Glyph.{Type2Glyph}
-use Rattle.folding.specs.Folding.{finiteMatrix, foldedList, foldedWidth, finiteList}
+use Rattle.folding.specs.Folding.{finiteMatrix, foldedWidth, refusal}
 use Rattle.type1_to_type2.specs.Stems.{Declared, declared, allStems}
 use Rattle.type1_to_type2.specs.Emission.{Cmd, program}
 use Rattle.type1_to_type2.specs.Writing.{Written, refused, write}
 use Rattle.type1_to_type2.specs.Convert as Convert
-use Rattle.type1_to_type2.specs.Convert.{Conversion, writes, folded, answer, output}
+use Rattle.type1_to_type2.specs.Convert.{Conversion, folded, answer, output}
 use Rattle.type1_to_type2.specs.Table.{tableStems}
 use Rattle.type1_to_type2.specs.Collecting.{Collects}
 use Rattle.type1_to_type2.specs.Streaming.{resumedAll}
@@ -35,22 +34,17 @@ unfoldable pub groupCount : ℕ → List ℕ → ℕ
 groupCount zero c = 0
 groupCount (suc n) c = groupCount n c + pick (eqb (word c n 0) 5) 1 0
 
--- the first n entries: whether their folded points are finite, and how many start a group
-pub record Checks (m : Matrix) (n : ℕ) (c : List ℕ) (k : Checked) : Type 0 where
-  pub points : k .finite ≡ finiteList (foldedList m (drawnIn n c))
-  pub groups : k .groups ≡ groupCount n c
-
 -- nothing collected yet, of so many groups
-abbrev pub noneOf : Checked → Collected
-noneOf k = record { finite = true; across = 0; upright = 0; groups = k .groups }
+abbrev pub noneOf : ℕ → Collected
+noneOf groups = record { finite = true; across = 0; upright = 0; groups = groups }
 
 -- the stems that two tables hold, as they are declared
 abbrev pub tables : Plan → List Float → List Float → Declared
 tables p ta tu = record { across = tableStems true (p .across) ta; upright = tableStems false (p .upright) tu; masked = p .masked }
 
--- what is to be written: the number, 14 where a folded value is not finite, and the stems that are declared
-pub record Planned (number : ℕ) (k : Checked) (c : Collected) (m : Matrix) (width : Float) (p : Plan) : Type 0 where
-  pub number-is : p .number ≡ pick (eqb number 0) (pick (finite (foldedWidth m width) && (k .finite && c .finite)) 0 14) number
+-- what is to be written: the number, 14 where the folded width or a folded stem is not finite, and the stems that are declared
+pub record Planned (number : ℕ) (c : Collected) (m : Matrix) (width : Float) (p : Plan) : Type 0 where
+  pub number-is : p .number ≡ pick (eqb number 0) (pick (finite (foldedWidth m width) && c .finite) 0 14) number
   pub width-is : p .width ≡ foldedWidth m width
   pub few : p .across + p .upright ≤ 96
   pub stems : (gs : List Group) (ta tu : List Float) → Collects (allStems gs) c ta tu → c .groups ≡ length gs → c .finite ≡ true → declared gs ≡ tables p ta tu
@@ -73,6 +67,11 @@ firstNumber m n = pick (finiteMatrix m) n 1
 -- from what a run has left, with the number so far
 unfoldable pub fromRun : ℕ → Matrix → ℕ → Interpreted → List ℕ → List Stem → Conversion
 fromRun number m room r c z = pick (eqb number 0) (folded m room (leftState r c z)) (Convert.refused number)
+
+-- a conversion, with the number before writing and whether the folded points are finite
+abbrev pub settles : ℕ → Bool → Conversion → Conversion
+settles before points (Convert.refused n) = Convert.refused (refusal before n points)
+settles before points (Convert.converted b w n) = Convert.converted b w n
 
 -- an answer and an output that are a conversion's
 pub record Answers (x : Conversion) (room : ℕ) (g : Type2Glyph) (out : List ℕ) : Type 0 where

@@ -11,3 +11,4 @@ pub mod Entry
 pub mod FinishAnswer
 pub mod FinishLaws
 pub mod Nonzero
+pub mod Fine

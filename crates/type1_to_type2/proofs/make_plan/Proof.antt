@@ -27,7 +27,7 @@ needs-masks-requires c κs = search needs
 -- src/lib.rt:765:1
 returns : tie.Need-returns
 returns c =
-    planned _ _ _ _ _ _ _ _ _ (c .before .before .before .before .pre) (c .before .before .before .fold-width .ensures) (c .before .before .dropped .ensures) (c .before .plan-number .ensures) (c .needs-masks .ensures)
+    planned _ _ _ _ _ _ _ _ (c .before .before .before .before .pre) (c .before .before .before .fold-width .ensures) (c .before .before .dropped .ensures) (c .before .plan-number .ensures) (c .needs-masks .ensures)
 
 pub make-plan-spec : {M : Type 1} → statement M
 make-plan-spec =

@@ -1,42 +1,32 @@
 use lib.Ieee.Scale.{finite}
 use mathlib.Core.Bool.{_&&_}
-use mathlib.Core.Path.{refl, ap, sym, _∙_}
 use Rattle.type1_to_type2.proofs.Checking.{refused-already, all-fine, not-fine}
 use borrow.Author.Needs.{needs}
 use Rattle.type1_to_type2.proofs.plan_number.Statement.{statement}
 use Rattle.type1_to_type2.proofs.plan_number.Tie as tie
-use Rattle.type1_to_type2.proofs.plan_number.Reads as reads
-use Rattle.type1_to_type2.proofs.plan_number.Lts as lts
-use Rattle.binary64.proofs.is_finite.Reads as is-finite-reads
-use Rattle.type1_to_type2.proofs.and.Reads as and-reads
 
--- src/lib.rt:755:9
+-- src/lib.rt:1146:9
 returns : tie.Need-returns
 returns c =
-    refused-already (c .before .args .number) (finite (c .before .args .width) && (c .before .args .points && c .before .args .stems)) (c .if1 .taken)
+    refused-already (c .before .args .number) (finite (c .before .args .width) && c .before .args .stems) (c .if1 .taken)
 
--- src/lib.rt:757:12
+-- src/lib.rt:1148:12
 is-finite-requires : tie.Need-is-finite-requires
 is-finite-requires c κs = search needs
 
--- src/lib.rt:757:40
+-- src/lib.rt:1148:8
 and-requires : tie.Need-and-requires
 and-requires c κs = search needs
 
--- src/lib.rt:757:8
-and-requires-2 : tie.Need-and-requires-2
-and-requires-2 c κs = search needs
-
--- src/lib.rt:751:1
+-- src/lib.rt:1142:1
 returns-2 : tie.Need-returns-2
 returns-2 c =
-    all-fine (c .before .before .before .before .before .args .number) _ (c .before .before .before .before .before .args .points) (c .before .before .before .before .before .args .stems) _ _ (c .before .before .before .before .before .args .width) (c .before .before .before .before .if1 .left) (c .before .before .before .is-finite .ensures) (c .before .before .and .ensures) (c .before .and2 .ensures) (c .if2 .taken)
+    all-fine (c .before .before .before .before .args .number) _ (c .before .before .before .before .args .stems) _ (c .before .before .before .before .args .width) (c .before .before .before .if1 .left) (c .before .before .is-finite .ensures) (c .before .and .ensures) (c .if2 .taken)
 
--- src/lib.rt:751:1
+-- src/lib.rt:1142:1
 returns-3 : tie.Need-returns-3
 returns-3 c =
-    not-fine (c .before .before .before .before .before .args .number) _ (c .before .before .before .before .before .args .points) (c .before .before .before .before .before .args .stems) _ _ (c .before .before .before .before .before .args .width) (c .before .before .before .before .if1 .left) (c .before .before .before .is-finite .ensures) (c .before .before .and .ensures) (c .before .and2 .ensures) (c .if2 .left)
+    not-fine (c .before .before .before .before .args .number) _ (c .before .before .before .before .args .stems) _ (c .before .before .before .before .args .width) (c .before .before .before .if1 .left) (c .before .before .is-finite .ensures) (c .before .and .ensures) (c .if2 .left)
 
 pub plan-number-spec : {M : Type 1} → statement M
-plan-number-spec =
-    tie.close (tie.spec returns is-finite-requires and-requires and-requires-2 returns-2 returns-3)
+plan-number-spec = tie.close (tie.spec returns is-finite-requires and-requires returns-2 returns-3)
