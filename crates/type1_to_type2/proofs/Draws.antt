@@ -145,6 +145,10 @@ goes-one {w} {r} {s} {b} {a} {z} {p} {ps} x y = record {
   held = y .held ∙ x .held;
 }
 
+pub goes-none : (w : Writer) (b : List ℕ) → Goes [] w b w b
+unfolding deltas arrives putNumbers
+goes-none w b = record { puts = record { then = λ f. refl; same = refl }; at = λ e. refl; waits = refl; held = refl }
+
 -- ---- a command's items
 pub items-shape : (m : Bool) (ss : List Stem) (at : Point) (e : Command) (cs : List Cmd) → items m ss at (shape e ∷ cs) ≡ go (kindOf e) (deltas at (pointsOf e) ++ heightOf e) ∷ items m ss (arrives at (pointsOf e)) cs
 unfolding items
@@ -163,6 +167,14 @@ draws {g} {w} {r} {b} {a} e p q h masked ss = record {
   same = p .same;
 }
 
+-- no points draw nothing
+pub nothing-drawn : {w r : Writer} {b a : List ℕ} → Goes [] w b r a → (masked : Bool) (ss : List Stem) (ds : List Cmd) → resumedAll masked ss r a ds ≡ resumedAll masked ss w b ds
+unfolding deltas arrives putNumbers
+nothing-drawn {w} {r} {b} {a} g masked ss ds =
+    at-either (r .number) (r .next) a (pointOf r) (pointOf w) (λ x. streamed (items masked ss x ds) (r .waits) (r .held)) (g .at)
+    ∙ g .puts .then (streamed (items masked ss (pointOf w) ds) (r .waits) (r .held))
+    ∙ ap₂ (λ (k n : ℕ). resumed (w .number) (w .next) b (streamed (items masked ss (pointOf w) ds) k n)) (g .waits) (g .held)
+
 -- ---- lines and curves
 joins : (j : Kind) (op count : ℕ) → codeOf j ≡ op → (l : List ℤ) → length l ≡ count → (k n room : ℕ) (f : ℕ → ℕ → ℕ → Written) (more t : Bool) → leb (n + count) (most j) ≡ more → (eqb k op && more) ≡ t →
     pick t (putNumbers l room (f op (pick t (n + count) count))) (closed k room (λ left. putNumbers l left (f op (pick t (n + count) count)))) ≡ joined j l k n room f
@@ -174,28 +186,31 @@ joins j op count c l e k n room f more t m h = rw (c, e, m, h) (both t)
     both false = refl
 
 -- one law for both: op is the kind's operator
-pub batch-draws : (e : Command) (j : Kind) (op count : ℕ) → heightOf e ≡ [] → codeOf j ≡ op → ((at : Point) → length (deltas at (pointsOf e)) ≡ count) →
+batch-draws : (e : Command) (j : Kind) (op count : ℕ) → heightOf e ≡ [] → codeOf j ≡ op → ((at : Point) → length (deltas at (pointsOf e)) ≡ count) →
     ((l : List ℤ) (is : List Item) (k n left : ℕ) → joined j l k n left (streamed is) ≡ streamed (go (kindOf e) l ∷ is) k n left) →
-    {w r s : Writer} {b a z : List ℕ} (more : Bool) → more ≡ takes j (w .held) count → Batched op count more w b r a → Goes (pointsOf e) r a s z → (masked : Bool) (ss : List Stem) → Draws masked ss (shape e ∷ []) w b s z
-batch-draws e j op count flat c len st {w} {r} {s} {b} {a} {z} more m x y =
+    {w r s : Writer} {b a z : List ℕ} → Batched op count (takes j (w .held) count) w b r a → Goes (pointsOf e) r a s z → (masked : Bool) (ss : List Stem) → Draws masked ss (shape e ∷ []) w b s z
+batch-draws e j op count flat c len st {w} {r} {s} {b} {a} {z} x y =
     draws e (in-turn (x .puts) (y .puts)) (λ z. y .at z ∙ ap (λ (q : Point). arrives q (pointsOf e)) (x .at))
     (λ is left.
     ap (λ (q : Point). part is left q (s .waits) (s .held)) (x .at)
     ∙ ap₂ (λ (k n : ℕ). part is left (pointOf w) k n) (y .waits ∙ x .waits) (y .held ∙ x .held)
-    ∙ joins j op count c (deltas (pointOf w) (pointsOf e)) (len (pointOf w)) (w .waits) (w .held) left (streamed is) more (shares op more w) (sym m) refl
+    ∙ joins j op count c (deltas (pointOf w) (pointsOf e)) (len (pointOf w)) (w .waits) (w .held) left (streamed is) more (shares op more w) refl refl
     ∙ st (deltas (pointOf w) (pointsOf e)) is (w .waits) (w .held) left
     ∙ ap (λ (l : List ℤ). streamed (go (kindOf e) l ∷ is) (w .waits) (w .held) left) (sym (ap (λ (l : List ℤ). deltas (pointOf w) (pointsOf e) ++ l) flat ∙ append-nil (deltas (pointOf w) (pointsOf e)))))
   where
+    more : Bool
+    more = takes j (w .held) count
+
     part : List Item → ℕ → Point → ℕ → ℕ → Written
     part is left q k n = pick (shares op more w) (putNumbers (deltas q (pointsOf e)) left (streamed is k n)) (closed (w .waits) left (λ l. putNumbers (deltas q (pointsOf e)) l (streamed is k n)))
 
-pub line-drawn : {w r s : Writer} {b a z : List ℕ} (p : Point) (more : Bool) → more ≡ takes lines (w .held) 2 → Batched 5 2 more w b r a → Goes (p ∷ []) r a s z → (masked : Bool) (ss : List Stem) → Draws masked ss (shape (line p) ∷ []) w b s z
+pub line-drawn : {w r s : Writer} {b a z : List ℕ} (p : Point) → Batched 5 2 (takes lines (w .held) 2) w b r a → Goes (p ∷ []) r a s z → (masked : Bool) (ss : List Stem) → Draws masked ss (shape (line p) ∷ []) w b s z
 unfolding deltas streamed
-line-drawn p more m x y = batch-draws (line p) lines 5 2 refl refl (λ at. refl) (λ l is k n left. refl) more m x y
+line-drawn p x y = batch-draws (line p) lines 5 2 refl refl (λ at. refl) (λ l is k n left. refl) x y
 
-pub curve-drawn : {w r s : Writer} {b a z : List ℕ} (p q t : Point) (more : Bool) → more ≡ takes curves (w .held) 6 → Batched 8 6 more w b r a → Goes (p ∷ q ∷ t ∷ []) r a s z → (masked : Bool) (ss : List Stem) → Draws masked ss (shape (curve p q t) ∷ []) w b s z
+pub curve-drawn : {w r s : Writer} {b a z : List ℕ} (p q t : Point) → Batched 8 6 (takes curves (w .held) 6) w b r a → Goes (p ∷ q ∷ t ∷ []) r a s z → (masked : Bool) (ss : List Stem) → Draws masked ss (shape (curve p q t) ∷ []) w b s z
 unfolding deltas streamed
-curve-drawn p q t more m x y = batch-draws (curve p q t) curves 8 6 refl refl (λ at. refl) (λ l is k n left. refl) more m x y
+curve-drawn p q t x y = batch-draws (curve p q t) curves 8 6 refl refl (λ at. refl) (λ l is k n left. refl) x y
 
 -- ---- moves and flexes: the waiting operator first
 pub puts-to : {g : (ℕ → Written) → ℕ → Written} {w r s : Writer} {b a : List ℕ} → Puts g w b r a → s .number ≡ r .number → s .next ≡ r .next → Puts g w b s a
@@ -265,21 +280,23 @@ move-drawn {w} px py dx dy i e d m p k0 n0 q sx sy ks ns =
     (λ z. ap₂ pointAt (sx ∙ ap (add binary64 (w .x)) e) (sy ∙ ap (add binary64 (w .y)) d)) ks ns
     (λ is k n left. ap (λ (j : Instr). closed k left (λ l. putInstr j l (streamed is 0 0))) (sym m ∙ ap₂ (λ (x y : Float). moveInstr (units x) (units y)) e d))
 
-pub flex-drawn : {w r s t u v : Writer} {b a z y x o : List ℕ} (p1 p2 p3 p4 p5 p6 : Point) (h : Float) → Flushed w b r a → Goes (p1 ∷ p2 ∷ p3 ∷ p4 ∷ p5 ∷ p6 ∷ []) r a s z →
-    Puts (λ f left. putNumbers (units h ∷ []) left f) s z t y × (Still s t × (written h ≡ units h)) → Puts (λ f left. put left (12 ∷ []) f) t y u x × Still t u → Puts (λ f left. put left (35 ∷ []) f) u x v o × Still u v →
-    (masked : Bool) (ss : List Stem) → Draws masked ss (shape (flex p1 p2 p3 p4 p5 p6 h) ∷ []) w b v o
+-- a number and two bytes
+pub number-bytes : (h : Float) (c d : ℕ) {w r s t : Writer} {b a z y : List ℕ} → Puts (λ f left. putNumbers (units h ∷ []) left f) w b r a → written h ≡ units h → Puts (λ f left. put left (c ∷ []) f) r a s z → Puts (λ f left. put left (d ∷ []) f) s z t y →
+    Puts (λ f left. putNumbers (written h ∷ []) left (λ l. put l (c ∷ d ∷ []) f)) w b t y
+number-bytes h c d num e p q =
+    as-put _ (in-turn num (in-turn p q))
+    (λ f left. ap₂ (λ (u : ℤ) (g : ℕ → Written). putNumbers (u ∷ []) left g) (sym e) (fun-ext (λ l. put-cons l c (d ∷ []) f)))
+
+pub flex-drawn : {w r s t : Writer} {b a z y : List ℕ} (p1 p2 p3 p4 p5 p6 : Point) (h : Float) → Flushed w b r a → Goes (p1 ∷ p2 ∷ p3 ∷ p4 ∷ p5 ∷ p6 ∷ []) r a s z → Puts (λ f left. putNumbers (written h ∷ []) left (λ l. put l (12 ∷ 35 ∷ []) f)) s z t y × Still s t →
+    (masked : Bool) (ss : List Stem) → Draws masked ss (shape (flex p1 p2 p3 p4 p5 p6 h) ∷ []) w b t y
 unfolding deltas streamed putNumbers
-flex-drawn {w} {r} {s} {t} {u} {v} p1 p2 p3 p4 p5 p6 h fl ds num esc op =
-    closed-draws (flex p1 p2 p3 p4 p5 p6 h) (fl .puts) (fl .waits) (fl .held) (in-turn (ds .puts) (in-turn (num .0) (in-turn (esc .0) (op .0))))
-    (λ z. ap₂ pointAt (op .1 .x ∙ esc .1 .x ∙ num .1 .0 .x) (op .1 .y ∙ esc .1 .y ∙ num .1 .0 .y) ∙ ds .at (was-fine (num .0) (was-fine (esc .0) (was-fine (op .0) z))) ∙ ap (λ (q : Point). arrives q (p1 ∷ p2 ∷ p3 ∷ p4 ∷ p5 ∷ p6 ∷ [])) (fl .at))
-    (op .1 .waits ∙ esc .1 .waits ∙ num .1 .0 .waits ∙ ds .waits)
-    (op .1 .held ∙ esc .1 .held ∙ num .1 .0 .held ∙ ds .held)
+flex-drawn {w} {r} {s} {t} p1 p2 p3 p4 p5 p6 h fl ds op =
+    closed-draws (flex p1 p2 p3 p4 p5 p6 h) (fl .puts) (fl .waits) (fl .held) (in-turn (ds .puts) (op .0))
+    (λ z. ap₂ pointAt (op .1 .x) (op .1 .y) ∙ ds .at (was-fine (op .0) z) ∙ ap (λ (q : Point). arrives q (p1 ∷ p2 ∷ p3 ∷ p4 ∷ p5 ∷ p6 ∷ [])) (fl .at))
+    (op .1 .waits ∙ ds .waits)
+    (op .1 .held ∙ ds .held)
     (λ is k n left.
-    ap (λ (q : Point). closed k left (λ l. putNumbers (deltas q six) l (λ m. putNumbers (units h ∷ []) m (λ o. put o (12 ∷ []) (λ x. put x (35 ∷ []) (streamed is 0 0)))))) (fl .at)
-    ∙ ap₂ (λ (c : ℤ) (g : ℕ → Written). closed k left (λ l. putNumbers (deltas (pointOf w) six) l (λ m. putNumbers (c ∷ []) m g))) (sym (num .1 .1)) (fun-ext (λ o. put-cons o 12 (35 ∷ []) (streamed is 0 0))))
-  where
-    six : List Point
-    six = p1 ∷ p2 ∷ p3 ∷ p4 ∷ p5 ∷ p6 ∷ []
+    ap (λ (q : Point). closed k left (λ l. putNumbers (deltas q (p1 ∷ p2 ∷ p3 ∷ p4 ∷ p5 ∷ p6 ∷ [])) l (λ m. putNumbers (written h ∷ []) m (λ o. put o (12 ∷ 35 ∷ []) (streamed is 0 0))))) (fl .at))
 
 -- ---- the end
 pub ended : {w r s : Writer} {b a z : List ℕ} → Flushed w b r a → Puts (λ f left. put left (14 ∷ []) f) r a s z → (masked : Bool) (ss : List Stem) → resumed (s .number) (s .next) z (λ left. wrote []) ≡ resumedAll masked ss w b []

@@ -10,17 +10,17 @@ use lib.Ieee.{Float}
 use Rattle.geometry.specs.declared.Point.{Point}
 use Rattle.geometry.specs.declared.Matrix.{Matrix}
 use Rattle.type1.specs.declared.Stem.{Stem}
-use Rattle.type1.specs.State.{Command, curve, flex, plusZero}
+use Rattle.type1.specs.State.{Command, plusZero}
 use Rattle.type1.specs.Run.{pick}
-use Rattle.type1.specs.Memory.{word, coordinate, pointIn, commandIn}
+use Rattle.type1.specs.Memory.{word, pointIn, commandIn}
 use Rattle.type2.specs.Machine.{Kind, moves, lines, curves, flexes}
 use Rattle.type2.specs.Instruction.{Instr, instr, maskBytes}
 use Rattle.type1_to_type2.specs.declared.Writer.{Writer}
 use Rattle.type1_to_type2.specs.declared.StemWriter.{StemWriter}
-use Rattle.folding.specs.Folding.{foldedCommand}
+use Rattle.folding.specs.Folding.{foldedPoint, foldedCommand}
 use Rattle.type1_to_type2.specs.Stems.{maskOf}
-use Rattle.type2.specs.Path.{most}
-use Rattle.type1_to_type2.specs.Emission.{Cmd, hints, shape, Item, mask, go, items, codeOf, moveOf, pair, secondEdge, deltas, arrives}
+use Rattle.type2.specs.Path.{most, takes}
+use Rattle.type1_to_type2.specs.Emission.{Cmd, hints, shape, Item, mask, go, items, codeOf, moveOf, pair, secondEdge, deltas, arrives, written}
 use Rattle.type1_to_type2.specs.Writing.{Written, refused, wrote, thenWrite, put, putNumbers}
 
 -- ---- the bytes p are written, of an output of so many bytes; f says what follows, by the room left
@@ -72,18 +72,24 @@ resumedAll masked ss w out cs = resumedItems w out (items masked ss (pointOf w) 
 
 -- ---- the commands of entry e of the command store: the group g where it is a group's start
 
-abbrev pub curveIn : List ℕ → ℕ → Command
-curveIn c e = curve (pointIn c e 1) (pointIn c e 3) (pointIn c e 5)
-
-abbrev pub flexIn : List ℕ → ℕ → Command
-flexIn c e = flex (pointIn c e 1) (pointIn c e 3) (pointIn c e 5) (pointIn c e 7) (pointIn c e 9) (pointIn c e 11) (coordinate c e 13)
-
 abbrev pub shapes : Matrix → List Command → List Cmd
 shapes m [] = []
 shapes m (c ∷ l) = shape (foldedCommand m c) ∷ shapes m l
 
 unfoldable pub cmdsIn : Matrix → List ℕ → ℕ → List Stem → List Cmd
 cmdsIn m c e g = pick (eqb (word c e 0) 5) (hints g ∷ []) (shapes m (commandIn c e))
+
+-- ---- its points: n of them, from word i on, and how many it has by its kind
+unfoldable pub pointsIn : List ℕ → ℕ → ℕ → ℕ → List Point
+pointsIn c e i zero = []
+pointsIn c e i (suc n) = pointIn c e i ∷ pointsIn c e (i + 2) n
+
+unfoldable pub foldedPoints : Matrix → List Point → List Point
+foldedPoints m [] = []
+foldedPoints m (p ∷ ps) = foldedPoint m p ∷ foldedPoints m ps
+
+abbrev pub pointCount : ℕ → ℕ
+pointCount kind = pick (eqb kind 3) 3 (pick (eqb kind 2) 1 (pick (eqb kind 4) 6 0))
 
 -- ---- what a function has written: g of what follows
 
@@ -121,6 +127,18 @@ pub record Goes (ps : List Point) (w : Writer) (before : List ℕ) (r : Writer) 
   pub at : r .number ≡ 0 → pointOf r ≡ arrives (pointOf w) ps
   pub waits : r .waits ≡ w .waits
   pub held : r .held ≡ w .held
+
+-- before the points of an entry of a kind: a curve or a line shares an operator that takes it, before a flex the waiting one is written
+pub record EntryBegins (kind : ℕ) (w : Writer) (before : List ℕ) (r : Writer) (after : List ℕ) : Type 0 where
+  pub curve : kind ≡ 3 → Batched 8 6 (takes curves (w .held) 6) w before r after
+  pub line : kind ≡ 2 → Batched 5 2 (takes lines (w .held) 2) w before r after
+  pub flex : kind ≡ 4 → Flushed w before r after
+  pub other : (kind ≡ 3 → ⊥) → (kind ≡ 2 → ⊥) → (kind ≡ 4 → ⊥) → (r ≡ w) × (after ≡ before)
+
+-- after them: a flex has its height and its operator
+pub record EntryEnds (kind : ℕ) (height : Float) (w : Writer) (before : List ℕ) (r : Writer) (after : List ℕ) : Type 0 where
+  pub flex : kind ≡ 4 → Puts (λ f left. putNumbers (written height ∷ []) left (λ l. put l (12 ∷ 35 ∷ []) f)) w before r after × Still w r
+  pub other : (kind ≡ 4 → ⊥) → (r ≡ w) × (after ≡ before)
 
 -- the commands cs are written
 pub record Draws (masked : Bool) (ss : List Stem) (cs : List Cmd) (w : Writer) (before : List ℕ) (r : Writer) (after : List ℕ) : Type 0 where

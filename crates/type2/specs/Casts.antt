@@ -1,14 +1,14 @@
--- Laws: what `push_delta` computes from a double that is in range: its units above -2 ^ 32 as a `u64`, and a whole number above -65536 as a `u32`.
+-- Laws: what `push_far` and `push_delta` compute from a double that is in range: its units above -2 ^ 32 as a `u64`, a whole number above -65536 as a `u32`, one between -108 and 108 above -139 as a `u8`.
 use mathlib.Core.Path.{_≡_, refl, sym, ap, ap₂, _∙_, subst}
 use Prim.Native.Nat.{ℕ, suc, _+_, _-_, _*_, _/_, _%_, _^_, _≤_, _<_, min}
-use native.Mathlib.Nat.{le-trans, lt-of-lt-of-le, lt-of-le-of-lt, mul-div-cancel, mul-mod-left, mul-right-comm, mul-assoc, eq-of-mul-eq-mul-right, mul-le-mul-right, add-mul}
+use native.Mathlib.Nat.{le-trans, lt-of-lt-of-le, lt-of-le-of-lt, mul-div-cancel, mul-mod-left, mul-right-comm, mul-assoc, eq-of-mul-eq-mul-right, mul-le-mul-right, lt-of-mul-lt-mul-right, add-mul}
 use native.Mathlib.Omega.{arith}
 use mathlib.Core.Bool.{Bool, true, false, not, _&&_, cond, true≢false}
-use mathlib.Core.List.{List}
+use mathlib.Core.List.{List, [], _∷_}
 use lib.Dec.{T, leb, ltb, eqb, ltb→lt, lt→ltb, le→leb, lit<, lit≤}
-use lib.IntN.{ℤ, subℕ}
+use lib.IntN.{ℤ, pos, subℕ}
 use lib.Pow.{pow-pos, pow-add}
-use lib.Ieee.{Float, nan, inf, fin, Format, binary64, low, up, down, add, sub, mul, div, eq, fits, whole, inUnsigned, toUnsigned}
+use lib.Ieee.{Float, nan, inf, fin, Format, binary64, low, up, down, add, sub, mul, div, eq, lt, fits, whole, inUnsigned, toUnsigned}
 use lib.Ieee.Fits.{and-i, down-pos, eq→eqb, mul-fits, add-fits}
 use lib.Ieee.Exact.{HasValue}
 use lib.Ieee.Scale.{finite}
@@ -21,12 +21,23 @@ use Rattle.binary64.specs.Away.{up-half, away-fits}
 use Rattle.type2.specs.Number.{zp, zm, quantized, units, inRange, numberBytes, gave, put, pushNumber}
 use Rattle.type2.specs.Bools.{yes, and-both}
 use Rattle.type2.specs.Signed.{sub-is}
-use Rattle.type2.specs.Whole.{whole-count, middle, is-whole}
+use Rattle.type2.specs.Whole.{whole-count, middle, is-whole, between-finite, between-size}
 use Rattle.type2.specs.Quantize.{scaled, rounded-once, quantized-fixed}
 use Rattle.type2.specs.Fixed.{count, units-parts, below-count}
+use Rattle.type2.specs.Forms.{one-form}
 
 abbrev F : Format
 F = binary64
+
+-- 139, and -108 and 108, between which a whole number is one byte: that and 139
+abbrev pub byteMiddle : Float
+byteMiddle = fin false 139 (pos 0)
+
+abbrev pub byteTop : Float
+byteTop = fin false 27 (pos 2)
+
+abbrev pub byteBottom : Float
+byteBottom = fin true 27 (pos 2)
 
 -- the cast of a float that is n exactly
 cast-whole : (b : ℕ) (x : Float) (n : ℕ) → n < 2 ^ b → n ≤ 2 ^ 53 → HasValue x false (n * 2 ^ low F) (2 ^ low F) → T (inUnsigned F b x) × (toUnsigned b x ≡ n)
@@ -67,25 +78,34 @@ in-range-small v r =
     half : (A W : ℕ) → A * 2 + W < 2147483649 * W * 2 → A ≤ 4294967298 * W
     half A W h = omega arith
 
-lit-fits : T (fits F (two 32)) × T (fits F (two 16))
+lit-fits : T (fits F (two 32)) × T (fits F (two 16)) × T (fits F byteMiddle)
 unfolding fits
-lit-fits = (tt, tt)
+lit-fits = (tt, tt, tt)
 
-lit-mag : (mag F (two 32) ≡ 4294967296 * 2 ^ 1074) × (mag F (two 16) ≡ 65536 * 2 ^ 1074)
+lit-mag : (mag F (two 32) ≡ 4294967296 * 2 ^ 1074) × (mag F (two 16) ≡ 65536 * 2 ^ 1074) × (mag F byteMiddle ≡ 139 * 2 ^ 1074)
 unfolding mag
-lit-mag = (refl, refl)
+lit-mag = (refl, refl, refl)
 
--- the whole number p - m, and K more, which is 2 ^ t: exact, and its cast
-above-cast : (b t K : ℕ) (x : Float) (p m : ℕ) → T (fits F (two t)) → mag F (two t) ≡ K * 2 ^ 1074 → K ≤ 4294967296 → K + K ≤ 2 ^ b → T (fits F x) → T (finite x) → Multiple F 1074 x
-    → pl F x ≡ p * 2 ^ 1074 → mi F x ≡ m * 2 ^ 1074 → p < K → m < K → T (inUnsigned F b (add F x (two t))) × (toUnsigned b (add F x (two t)) ≡ p + K - m)
+byte-fits : T (fits F byteTop) × T (fits F byteBottom)
+unfolding fits
+byte-fits = (tt, tt)
+
+byte-mag : (mag F byteTop ≡ 108 * 2 ^ 1074) × (mag F byteBottom ≡ 108 * 2 ^ 1074)
+unfolding mag
+byte-mag = (refl, refl)
+
+-- the whole number p - m, and K more, which is d * 2 ^ i: exact, and its cast
+above-cast : (b d : ℕ) (i : ℤ) (K : ℕ) (x : Float) (p m : ℕ) → T (fits F (fin false d i)) → mag F (fin false d i) ≡ K * 2 ^ 1074 → K ≤ 4294967296 → p + K < 2 ^ b → T (fits F x) → T (finite x) → Multiple F 1074 x
+    → pl F x ≡ p * 2 ^ 1074 → mi F x ≡ m * 2 ^ 1074 → p < K → m < K → T (inUnsigned F b (add F x (fin false d i))) × (toUnsigned b (add F x (fin false d i)) ≡ p + K - m)
 unfolding Multiple
-above-cast b t K x p m ft mt few bits fx bx mx ep em lo hi =
+above-cast b d i K x p m ft mt few bits fx bx mx ep em lo hi =
     let L = 2 ^ 1074 in
-    let z = add F x (two t) in
-    let D : dist (pl F x + pl F (two t)) (mi F x + mi F (two t)) < 2 ^ 1127 = lt-of-lt-of-le (apart L (pl F x) (mi F x) (mag F (two t)) ep em mt (pow-pos 1074)) (lit≤ tt) in
-    let E = add-multiples F 1074 x (two t) fx bx ft tt mx (K, mt) D (lit≤ tt) in
-    let q = total (sign z) (mag F z) L (pl F x) (mi F x) (mag F (two t)) ep em mt (pow-pos 1074) (E .balance) in
-    let g = own F z (add-fits F x (two t)) (E .fine) in
+    let c = fin false d i in
+    let z = add F x c in
+    let D : dist (pl F x + pl F c) (mi F x + mi F c) < 2 ^ 1127 = lt-of-lt-of-le (apart L (pl F x) (mi F x) (mag F c) ep em mt (pow-pos 1074)) (lit≤ tt) in
+    let E = add-multiples F 1074 x c fx bx ft tt mx (K, mt) D (lit≤ tt) in
+    let q = total (sign z) (mag F z) L (pl F x) (mi F x) (mag F c) ep em mt (pow-pos 1074) (E .balance) in
+    let g = own F z (add-fits F x c) (E .fine) in
     cast-whole b z (p + K - m) (omega arith) room (subst (λ (k : ℕ). HasValue z false k (2 ^ low F)) (q .1) (subst (λ (s : Bool). HasValue z s (mag F z) (2 ^ low F)) (q .0) g))
   where
     room : p + K - m ≤ 2 ^ 53
@@ -135,13 +155,13 @@ raised-is v a r =
     let sn : sign n ≡ sign v = sign-of n (sign v) (N * L) (2 ^ low F) h in
     let p : pl F n ≡ zp u * L = ap₂ (λ (s : Bool) (k : ℕ). cond s 0 k) sn mn ∙ times (sign v) N L .0 ∙ ap (λ (k : ℕ). k * L) (sym (x .0)) in
     let m : mi F n ≡ zm u * L = ap₂ (λ (s : Bool) (k : ℕ). cond s k 0) sn mn ∙ times (sign v) N L .1 ∙ ap (λ (k : ℕ). k * L) (sym (x .1)) in
-    above-cast 64 32 4294967296 n (zp u) (zm u) (lit-fits .0) (lit-mag .0) (lit≤ tt) (lit≤ tt) fn bn (N, mn) p m (omega arith) (omega arith)
+    above-cast 64 1 (pos 32) 4294967296 n (zp u) (zm u) (lit-fits .0) (lit-mag .0) (lit≤ tt) (omega arith) fn bn (N, mn) p m (omega arith) (omega arith)
 
 -- the same of what rounding gave
 pub raised-by : (v n : Float) → T (fits F v) → T (inRange (units v)) → n ≡ roundAway (mul F v (two 16)) → T (inUnsigned F 64 (add F n (two 32))) × (toUnsigned 64 (add F n (two 32)) ≡ above (units v))
 raised-by v n a r e = subst (λ (x : Float). T (inUnsigned F 64 (add F x (two 32))) × (toUnsigned 64 (add F x (two 32)) ≡ above (units v))) (sym e) (raised-is v a r)
 
--- ---- what `push_delta` returns, with what its tests and its callees gave
+-- ---- what `push_far` returns, with what its tests and its callees gave
 pub delta-value : (v n : Float) → T (fits F v) → T (inRange (units v)) → n ≡ roundAway (mul F v (two 16)) → div F n (two 16) ≡ quantized v
 delta-value v n a r e = ap (λ (x : Float). div F x (two 16)) e ∙ rounded-once v a (in-range-finite v r) (le-trans (in-range-small v r) (lit≤ tt))
 
@@ -171,17 +191,40 @@ refused out at v e = rw e
 in-units : (k : ℕ) → k * 2 ^ 1074 ≡ k * 65536 * 2 ^ 1058
 in-units k = ap (λ (x : ℕ). k * x) (pow-add 2 16 1058) ∙ sym (mul-assoc k 65536 (2 ^ 1058))
 
+-- ---- v is k or -k
+module _ (v : Float) (a : T (fits F v)) (b : T (finite v)) (k : ℕ) (e : mag F v ≡ k * 2 ^ 1074) where
+  abbrev plus : ℕ
+  plus = cond (sign v) 0 k
+
+  abbrev minus : ℕ
+  minus = cond (sign v) k 0
+
+  whole-units : (zp (units v) ≡ plus * 65536) × (zm (units v) ≡ minus * 65536)
+  whole-units =
+      let s = sign v in
+      let c : count v ≡ k * 65536 = ap (up-half (2 ^ 1058)) (e ∙ in-units k) ∙ whole-count (k * 65536) (2 ^ 1058) (pow-pos 1058) in
+      let x = units-parts v b in
+      (x .0 ∙ ap (λ (n : ℕ). cond s 0 n) c ∙ times s k 65536 .0, x .1 ∙ ap (λ (n : ℕ). cond s n 0) c ∙ times s k 65536 .1)
+
+  whole-same : v ≡ quantized v
+  unfolding Multiple
+  whole-same = sym (quantized-fixed v a b (k * 65536, e ∙ in-units k))
+
+  whole-above : (n d : ℕ) (i : ℤ) (K : ℕ) → T (fits F (fin false d i)) → mag F (fin false d i) ≡ K * 2 ^ 1074 → K ≤ 4294967296 → plus + K < 2 ^ n → plus < K → minus < K → T (inUnsigned F n (add F v (fin false d i))) × (toUnsigned n (add F v (fin false d i)) ≡ plus + K - minus)
+  unfolding Multiple
+  whole-above n d i K f g few bits lo hi =
+      let s = sign v in
+      let L = 2 ^ 1074 in
+      above-cast n d i K v plus minus f g few bits a b (k, e) (ap (λ (n : ℕ). cond s 0 n) e ∙ times s k L .0) (ap (λ (n : ℕ). cond s n 0) e ∙ times s k L .1) lo hi
+
 -- ---- a whole number in range, and 65536 more
 module _ (v : Float) (a : T (fits F v)) (r : T (inRange (units v))) (back : eq (sub F (add F v middle) middle) v ≡ true) where
   as-ones : Multiple F 1074 v
   as-ones = is-whole v a (in-range-finite v r) (lt-of-le-of-lt (in-range-small v r) (lit< tt)) back
 
-  as-units : Multiple F 1058 v
-  unfolding Multiple
-  as-units = let (k, e) = as-ones in (k * 65536, e ∙ in-units k)
-
   pub whole-value : v ≡ quantized v
-  whole-value = sym (quantized-fixed v a (in-range-finite v r) as-units)
+  unfolding Multiple
+  whole-value = let (k, e) = as-ones in whole-same v a (in-range-finite v r) k e
 
   pub whole-cast : T (inUnsigned F 32 (add F v (two 16))) × (toUnsigned 32 (add F v (two 16)) * 65536 ≡ above (units v))
   unfolding Multiple
@@ -189,23 +232,55 @@ module _ (v : Float) (a : T (fits F v)) (r : T (inRange (units v))) (back : eq (
       let u = units v in
       let b = in-range-finite v r in
       let w = and-both (ltb (zp u) 2147483648) (ltb (zm u) 2147483649) r in
-      let lo = ltb→lt (zp u) 2147483648 (w .0) in
-      let hi = ltb→lt (zm u) 2147483649 (w .1) in
       let (k, e) = as-ones in
-      let L = 2 ^ 1074 in
-      let s = sign v in
-      let c : count v ≡ k * 65536 = ap (up-half (2 ^ 1058)) (e ∙ in-units k) ∙ whole-count (k * 65536) (2 ^ 1058) (pow-pos 1058) in
-      let x = units-parts v b in
-      let p : zp u ≡ cond s 0 k * 65536 = x .0 ∙ ap (λ (n : ℕ). cond s 0 n) c ∙ times s k 65536 .0 in
-      let m : zm u ≡ cond s k 0 * 65536 = x .1 ∙ ap (λ (n : ℕ). cond s n 0) c ∙ times s k 65536 .1 in
-      let g = above-cast 32 16 65536 v (cond s 0 k) (cond s k 0) (lit-fits .1) (lit-mag .1) (lit≤ tt) (lit≤ tt) a b (k, e) (ap (λ (n : ℕ). cond s 0 n) e ∙ times s k L .0) (ap (λ (n : ℕ). cond s n 0) e ∙ times s k L .1) (low-side (zp u) (cond s 0 k) p lo) (high-side (zm u) (cond s k 0) m hi) in
-      (g .0, fit (cond s 0 k) (cond s k 0) (zp u) (zm u) (toUnsigned 32 (add F v (two 16))) p m (g .1))
+      let x = whole-units v a b k e in
+      let y = small (zp u) (zm u) (plus v a b k e) (minus v a b k e) (x .0) (x .1) (ltb→lt (zp u) 2147483648 (w .0)) (ltb→lt (zm u) 2147483649 (w .1)) in
+      let g = whole-above v a b k e 32 1 (pos 16) 65536 (lit-fits .1) (lit-mag .1) (lit≤ tt) (y .0) (y .1) (y .2) in
+      (g .0, fit (plus v a b k e) (minus v a b k e) (zp u) (zm u) (toUnsigned 32 (add F v (two 16))) (x .0) (x .1) (g .1))
     where
-      low-side : (z p : ℕ) → z ≡ p * 65536 → z < 2147483648 → p < 65536
-      low-side z p e h = omega arith
-
-      high-side : (z m : ℕ) → z ≡ m * 65536 → z < 2147483649 → m < 65536
-      high-side z m e h = omega arith
+      small : (y z p m : ℕ) → y ≡ p * 65536 → z ≡ m * 65536 → y < 2147483648 → z < 2147483649 → (p + 65536 < 4294967296) × (p < 65536) × (m < 65536)
+      small y z p m e f g h = (omega arith, omega arith, omega arith)
 
       fit : (p m y z w : ℕ) → y ≡ p * 65536 → z ≡ m * 65536 → w ≡ p + 65536 - m → w * 65536 ≡ y + 4294967296 - z
       fit p m y z w e f g = omega arith
+
+-- ---- a whole number between -108 and 108: its byte is 139 more
+module _ (v : Float) (a : T (fits F v)) (hi : lt v byteTop ≡ true) (lo : lt byteBottom v ≡ true) (back : eq (sub F (add F v middle) middle) v ≡ true) where
+  short-finite : T (finite v)
+  short-finite = between-finite 27 (pos 2) v a hi lo
+
+  short-size : mag F v < 108 * 2 ^ 1074
+  short-size = between-size 27 (pos 2) v a hi lo (108 * 2 ^ 1074) (byte-fits .0) (byte-fits .1) (byte-mag .0) (byte-mag .1)
+
+  as-short : (k : ℕ) × (mag F v ≡ k * 2 ^ 1074) × (k < 108)
+  unfolding Multiple
+  as-short =
+      let (k, e) = is-whole v a short-finite (lt-of-lt-of-le short-size (lit≤ tt)) back in
+      (k, e, lt-of-mul-lt-mul-right (2 ^ 1074) (subst (λ (n : ℕ). n < 108 * 2 ^ 1074) e short-size))
+
+  pub short-value : v ≡ quantized v
+  short-value = let (k, e, l) = as-short in whole-same v a short-finite k e
+
+  short-above : T (inUnsigned F 8 (add F v byteMiddle)) × (p m : ℕ) × (toUnsigned 8 (add F v byteMiddle) ≡ p + 139 - m) × (zp (units v) ≡ p * 65536) × (zm (units v) ≡ m * 65536) × (p < 108) × (m < 108)
+  short-above =
+      let (k, e, l) = as-short in
+      let (lp, lm) = sides (sign v) k l in
+      let c = whole-above v a short-finite k e 8 139 (pos 0) 139 (lit-fits .2) (lit-mag .2) (lit≤ tt) (omega arith) (omega arith) (omega arith) in
+      let x = whole-units v a short-finite k e in
+      (c .0, plus v a short-finite k e, minus v a short-finite k e, c .1, x .0, x .1, lp, lm)
+    where
+      sides : (s : Bool) (k : ℕ) → k < 108 → (cond s 0 k < 108) × (cond s k 0 < 108)
+      sides true k l = (lit< tt, l)
+      sides false k l = (l, lit< tt)
+
+  pub short-cast : T (inUnsigned F 8 (add F v byteMiddle))
+  short-cast = short-above .0
+
+  pub short-pushed : (out : List ℕ) (at : ℕ) → put out at (toUnsigned 8 (add F v byteMiddle) ∷ []) ≡ pushNumber out at v
+  short-pushed out at =
+      let (c, p, m, e, x, y, lp, lm) = short-above in
+      let u = units v in
+      let w = p + 65536 - m in
+      let d : p + 139 - m ≡ w - 65397 = omega arith in
+      let r = and-i (ltb (zp u) 2147483648) (ltb (zm u) 2147483649) (lt→ltb (zp u) 2147483648 (omega arith)) (lt→ltb (zm u) 2147483649 (omega arith)) in
+      ap (λ (b : ℕ). put out at (b ∷ [])) (e ∙ d) ∙ ap (put out at) (sym (one-form w (omega arith) (omega arith) (omega arith) (omega arith))) ∙ accepted out at v (w * 65536) r (omega arith)

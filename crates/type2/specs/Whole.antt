@@ -4,7 +4,7 @@ use Prim.Native.Nat.{ℕ, suc, _+_, _-_, _*_, _^_, _≤_, _<_}
 use native.Mathlib.Nat.{le-trans, le-of-eq, le-of-suc-le-suc, lt-of-le-of-lt, lt-of-lt-of-le, lt-of-not-le, lt-of-mul-lt-mul-right, mul-lt-mul-of-pos-right, mul-assoc}
 use native.Mathlib.Omega.{arith}
 use mathlib.Core.Bool.{Bool, true, false, _||_, Bool·beq, cond, true≢false}
-use lib.IntN.{pos}
+use lib.IntN.{ℤ, pos}
 use lib.Dec.{T, eqb, eqb→eq, lit≤}
 use lib.Pow.{pow-add, pow-pos, pow-mono}
 use lib.Ieee.{Float, nan, inf, fin, Format, binary64, low, size, add, sub, eq, lt, fits}
@@ -120,26 +120,28 @@ module _ (v : Float) (a : T (fits F v)) (b : T (finite v)) (under : mag F v < 2 
           small : (k : ℕ) → k ≤ 2 ^ 53 → dist k (3 * 2 ^ 51) < 2 ^ 53
           small k l = omega arith
 
-module _ (v : Float) (a : T (fits F v)) (lo : lt v (two 51) ≡ true) (hi : lt below v ≡ true) where
-  is-finite : T (finite v)
-  is-finite = go v lo hi
+-- ---- between -t and t, where t is m * 2 ^ e
+module _ (m : ℕ) (e : ℤ) (v : Float) (a : T (fits F v)) (hi : lt v (fin false m e) ≡ true) (lo : lt (fin true m e) v ≡ true) where
+  pub between-finite : T (finite v)
+  between-finite = go v hi lo
     where
-      go : (x : Float) → lt x (two 51) ≡ true → lt below x ≡ true → T (finite x)
+      go : (x : Float) → lt x (fin false m e) ≡ true → lt (fin true m e) x ≡ true → T (finite x)
       go nan p q = unfold lt in absurd (true≢false (sym p))
       go (inf true) p q = unfold lt in absurd (true≢false (sym q))
       go (inf false) p q = unfold lt in absurd (true≢false (sym p))
-      go (fin s m e) p q = tt
+      go (fin s n d) p q = tt
 
-  size-below : mag F v < 2 ^ 51 * 2 ^ 1074
-  size-below =
-      let p = lt→balance F v (two 51) a is-finite (lit-fits .1) tt (subst T (sym lo) tt) in
-      let q = lt→balance F below v (lit-fits .2) tt a is-finite (subst T (sym hi) tt) in
-      go (sign v) (mag F v) (mag F (two 51)) (mag F below) (2 ^ 51 * 2 ^ 1074) (lit-mag .1) (lit-mag .2) p q
+  pub between-size : (Q : ℕ) → T (fits F (fin false m e)) → T (fits F (fin true m e)) → mag F (fin false m e) ≡ Q → mag F (fin true m e) ≡ Q → mag F v < Q
+  between-size Q f g h k =
+      go (sign v) (mag F v) (mag F (fin false m e)) (mag F (fin true m e)) h k (lt→balance F v (fin false m e) a between-finite f tt (subst T (sym hi) tt)) (lt→balance F (fin true m e) v g tt a between-finite (subst T (sym lo) tt))
     where
-      go : (s : Bool) (m x y Q : ℕ) → x ≡ Q → y ≡ Q → cond s 0 m + 0 < cond s m 0 + x → 0 + cond s m 0 < y + cond s 0 m → m < Q
-      go true m x y Q e f p q = omega arith
-      go false m x y Q e f p q = omega arith
+      go : (s : Bool) (n x y : ℕ) → x ≡ Q → y ≡ Q → cond s 0 n + 0 < cond s n 0 + x → 0 + cond s n 0 < y + cond s 0 n → n < Q
+      go true n x y e f p q = omega arith
+      go false n x y e f p q = omega arith
 
-  pub came-back : eq (sub F (add F v middle) middle) v ≡ true → v ≡ roundAway v
-  unfolding Multiple
-  came-back t = let (k, e) = is-whole v a is-finite size-below t in whole-kept F v k a is-finite e
+pub came-back : (v : Float) → T (fits F v) → lt v (two 51) ≡ true → lt below v ≡ true → eq (sub F (add F v middle) middle) v ≡ true → v ≡ roundAway v
+unfolding Multiple
+came-back v a hi lo t =
+    let b = between-finite 1 (pos 51) v a hi lo in
+    let (k, e) = is-whole v a b (between-size 1 (pos 51) v a hi lo (2 ^ 51 * 2 ^ 1074) (lit-fits .1) (lit-fits .2) (lit-mag .1) (lit-mag .2)) t in
+    whole-kept F v k a b e

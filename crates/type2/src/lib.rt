@@ -177,7 +177,7 @@ struct Delta {
 // two tests decide half of 1/65536 further out, and with 18 where `out` has no room; `out` is then as it was.
 // `value` is `quantize(v)`: by `Quantize.rounded-once`, one rounding gives both. A whole number, which the sum
 // with 1.5 * 2 ^ 52 gives back as it was, is pushed at once.
-fn push_delta(out: &mut [u8], at: usize, v: f64) -> Delta
+fn push_far(out: &mut [u8], at: usize, v: f64) -> Delta
     ensures { λ r. ⌜ gave (r .number) (r .next) (now (out .exit)) ≡ pushNumber (now (out .entry)) at v ⌝ }
     ensures { λ r. ⌜ r .value ≡ quantized v ⌝ }
 {
@@ -207,11 +207,31 @@ fn push_delta(out: &mut [u8], at: usize, v: f64) -> Delta
     }
 }
 
-// The push that `push_delta` makes, without the value.
+// The same, which pushes a whole number between -108 and 108 at once: its byte is 139 more.
+fn push_delta(out: &mut [u8], at: usize, v: f64) -> Delta
+    ensures { λ r. ⌜ gave (r .number) (r .next) (now (out .exit)) ≡ pushNumber (now (out .entry)) at v ⌝ }
+    ensures { λ r. ⌜ r .value ≡ quantized v ⌝ }
+{
+    if -108.0 < v {
+        if v < 108.0 {
+            if (v + 6755399441055744.0) - 6755399441055744.0 == v {
+                let q = put1(out, at, (v + 139.0) as u8);
+                return Delta {
+                    number: q.number as u64,
+                    next: q.next,
+                    value: v,
+                };
+            }
+        }
+    }
+    push_far(out, at, v)
+}
+
+// The push that `push_far` makes, without the value.
 pub fn push_number(out: &mut [u8], at: usize, v: f64) -> Pushed
     ensures { λ r. ⌜ gave (r .number) (r .next) (now (out .exit)) ≡ pushNumber (now (out .entry)) at v ⌝ }
 {
-    let d = push_delta(out, at, v);
+    let d = push_far(out, at, v);
     Pushed {
         number: d.number as u32,
         next: d.next,
