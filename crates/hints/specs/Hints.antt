@@ -1,9 +1,9 @@
--- Definitions: the stems in force and those of the last group, in arrays, and when a new group is refused. Document 01, "Hints" and "Numbers the board logs".
--- Stem i is a place of `across` (whether it is horizontal) and two of `edges` (its first edge and its width). The stems in force begin at 0, those of the last group at 256.
+-- Definitions: the stems in force, in arrays, and when a new group is refused. Document 01, "Hints" and "Numbers the board logs".
+-- Stem i is a place of `across` (whether it is horizontal) and two of `edges` (its first edge and its width).
 use Prim.Native.Nat.{ℕ, zero, suc, _+_, _*_}
 use mathlib.Core.Bool.{Bool, true, false, cond, _&&_, _||_, Bool·beq}
 use mathlib.Core.List.{List}
-use lib.Dec.{eqb, leb, ltb}
+use lib.Dec.{leb, ltb}
 use lib.ListN.{getD}
 use lib.Ieee.{Float, nan, eq}
 
@@ -20,11 +20,6 @@ unfoldable pub isAmong : ℕ → List Float → List Bool → Bool → Float →
 isAmong zero e a h p w = false
 isAmong (suc n) e a h p w = isAmong n e a h p w || sameAt e a n h p w
 
--- the first n of the last group are the first n in force, in the same order
-unfoldable pub sameFirst : ℕ → List Float → List Bool → Bool
-sameFirst zero e a = true
-sameFirst (suc n) e a = sameFirst n e a && sameAt e a (256 + n) (getD a n false) (getD e (2 * n) nan) (getD e (2 * n + 1) nan)
-
 -- 256 stems are in force at the most
 abbrev pub cut : ℕ → ℕ
 cut n = cond (ltb n 256) n 256
@@ -32,10 +27,6 @@ cut n = cond (ltb n 256) n 256
 -- "A stem equal to one in force is not added": whether there is one among so many
 unfoldable pub inForce : ℕ → List Float → List Bool → Bool → Float → Float → Bool
 inForce count e a h p w = isAmong (cut count) e a h p w
-
--- "unless they are the last group's in the same order": of so many groups, with so many stems in the last one and so many in force
-unfoldable pub isLast : ℕ → ℕ → ℕ → List Float → List Bool → Bool
-isLast groups last count e a = ltb 0 groups && (eqb last count && sameFirst (cut count) e a)
 
 -- the number with which a new group of n stems is refused, or 0: 16 for a 257th group, or where a stem store of so many records has no room beyond those used; then 17 where a command store of so many words has no room for an entry, of 14 words, more
 unfoldable pub newGroup : ℕ → ℕ → ℕ → ℕ → ℕ → ℕ → ℕ

@@ -1,10 +1,8 @@
 -- Laws: stems in arrays, one by one.
 --     among-more, among-at       none of the first i is the stem, nor is the one at i; the one at i is
---     same-more, same-not        the first i are the same, and so are those at i; those at i differ
 --     cut-below                  256 or fewer are not cut
 --     other-way, same-way, other-edge      two stems, field by field
 --     force-at, force-none       what `inForce` is when the stems have been gone through
---     last-none, last-count, last-differs, last-same      what `isLast` is, likewise
 --     group-number               16 or 17, by the two tests
 use Prim.Native.Nat.{ℕ, zero, suc, _+_, _*_, _≤_, _<_}
 use native.Mathlib.Nat.{pos-of-ne-zero}
@@ -18,7 +16,7 @@ use lib.Dec.{eqb, leb, ltb}
 use lib.Arith.{lt-of-le-ne}
 use lib.ListN.{getD}
 use lib.Ieee.{Float, nan, eq}
-use Rattle.hints.specs.Hints.{sameStem, sameAt, isAmong, sameFirst, cut, inForce, isLast, newGroup}
+use Rattle.hints.specs.Hints.{sameStem, sameAt, isAmong, cut, inForce, newGroup}
 
 or-true : (b : Bool) → (b || true) ≡ true
 or-true true = refl
@@ -67,23 +65,6 @@ module _ (e : List Float) (a : List Bool) where
         split true q rec = ap (λ (x : Bool). isAmong n e a h p w || x) (ap (λ (j : ℕ). sameAt e a j h p w) (sym (eqb-true i n q)) ∙ k) ∙ or-true (isAmong n e a h p w)
         split false q rec = let g : i ≤ n = omega arith in ap (λ (x : Bool). x || sameAt e a n h p w) (rec (lt-of-le-ne g (eqb-false i n q)))
 
-  -- those at i
-  abbrev pub sameBoth : ℕ → Bool
-  sameBoth i = sameAt e a (256 + i) (getD a i false) (getD e (2 * i) nan) (getD e (2 * i + 1) nan)
-
-  pub same-more : (i : ℕ) → sameFirst i e a ≡ true → sameBoth i ≡ true → sameFirst (i + 1) e a ≡ true
-  unfolding sameFirst
-  same-more i l k = ap (λ (n : ℕ). sameFirst n e a) (add-one i) ∙ ap₂ (λ (x y : Bool). x && y) l k
-
-  pub same-not : (i n : ℕ) → i < n → sameBoth i ≡ false → sameFirst n e a ≡ false
-  unfolding sameFirst
-  same-not i zero l k = absurd (let z : ⊥ = omega arith in z)
-  same-not i (suc n) l k = split (eqb i n) refl (λ b. same-not i n b k)
-    where
-      split : (b : Bool) → eqb i n ≡ b → (i < n → sameFirst n e a ≡ false) → (sameFirst n e a && sameBoth n) ≡ false
-      split true q rec = ap (λ (x : Bool). sameFirst n e a && x) (ap sameBoth (sym (eqb-true i n q)) ∙ k) ∙ and-false (sameFirst n e a)
-      split false q rec = let g : i ≤ n = omega arith in ap (λ (x : Bool). x && sameBoth n) (rec (lt-of-le-ne g (eqb-false i n q)))
-
   -- ---- of so many, cut at 256
   module _ (h : Bool) (p w : Float) (count n : ℕ) (is : n ≡ cut count) where
     pub force-at : (i : ℕ) → i < n → sameAt e a i h p w ≡ true → true ≡ inForce count e a h p w
@@ -93,29 +74,6 @@ module _ (e : List Float) (a : List Bool) where
     pub force-none : (i : ℕ) → i ≤ n → n ≤ i → isAmong i e a h p w ≡ false → false ≡ inForce count e a h p w
     unfolding inForce
     force-none i l m k = sym (ap (λ (j : ℕ). isAmong j e a h p w) (let z : cut count ≡ i = omega arith in z) ∙ k)
-
-  module _ (g last count : ℕ) where
-    pub last-none : g ≡ 0 → false ≡ isLast g last count e a
-    unfolding isLast
-    last-none z = sym (ap (λ (b : Bool). b && (eqb last count && sameFirst (cut count) e a)) (le-ltb 0 g (omega arith)))
-
-    module _ (some : g ≡ 0 → ⊥) where
-      last-some : isLast g last count e a ≡ (eqb last count && sameFirst (cut count) e a)
-      unfolding isLast
-      last-some = ap (λ (b : Bool). b && (eqb last count && sameFirst (cut count) e a)) (lt-ltb 0 g (pos-of-ne-zero some))
-
-      pub last-count : (last ≡ count → ⊥) → false ≡ isLast g last count e a
-      last-count z = sym (last-some ∙ ap (λ (b : Bool). b && sameFirst (cut count) e a) (ne-eqb last count z))
-
-      module _ (many : last ≡ count) (n : ℕ) (is : n ≡ cut count) where
-        last-many : isLast g last count e a ≡ sameFirst n e a
-        last-many = last-some ∙ ap₂ (λ (b : Bool) (j : ℕ). b && sameFirst j e a) (eq-eqb last count many) (sym is)
-
-        pub last-differs : (i : ℕ) → i < n → sameBoth i ≡ false → false ≡ isLast g last count e a
-        last-differs i l k = sym (last-many ∙ same-not i n l k)
-
-        pub last-same : (i : ℕ) → i ≤ n → n ≤ i → sameFirst i e a ≡ true → true ≡ isLast g last count e a
-        last-same i l m k = sym (last-many ∙ ap (λ (j : ℕ). sameFirst j e a) (let z : n ≡ i = omega arith in z) ∙ k)
 
 -- ---- a new group
 pub group-number : (groups records used n words entries : ℕ) (b d : Bool) → (leb (groups + 1) 256 && leb (used + n) records) ≡ b → leb (14 * (entries + 1)) words ≡ d → newGroup groups records used n words entries ≡ cond b (cond d 0 17) 16

@@ -1,18 +1,16 @@
-// Stem hints: the stems in force and those of the last group, and when a new group is refused.
+// Stem hints: the stems in force, and when a new group is refused.
 ghost use mathlib.Core.Path.{_≡_};
 ghost use Prim.Native.Nat.{_≤_};
-ghost use Rattle.hints.specs.Hints.{sameStem, cut, inForce, isLast, newGroup};
+ghost use Rattle.hints.specs.Hints.{sameStem, cut, inForce, newGroup};
 
 // Groups, and stems in force, at the most.
 const MOST: usize = 256;
 
-// Where the last group's stems begin.
-const LAST: usize = 256;
-
 // Words of an entry of the command store.
 const ENTRY: usize = 14;
 
-fn same_stem(h: bool, p: f64, w: f64, horizontal: bool, pos: f64, width: f64) -> bool
+// Whether two stems are equal, as numbers.
+pub fn same_stem(h: bool, p: f64, w: f64, horizontal: bool, pos: f64, width: f64) -> bool
     ensures { λ r. ⌜ r ≡ sameStem h p w horizontal pos width ⌝ }
 {
     if h {
@@ -37,8 +35,8 @@ pub fn in_force(
     pos: f64,
     width: f64,
     count: usize,
-    edges: &[f64; 1024],
-    across: &[bool; 512],
+    edges: &[f64; 512],
+    across: &[bool; 256],
 ) -> bool
     ensures { λ r. ⌜ r ≡ inForce count (now (edges .entry)) (now (across .entry)) horizontal pos width ⌝ }
 {
@@ -58,41 +56,6 @@ pub fn in_force(
         i += 1;
     }
     false
-}
-
-// Whether the stems in force are the last group's, in the same order. With no group they are not.
-pub fn is_last(
-    groups: usize,
-    last: usize,
-    count: usize,
-    edges: &[f64; 1024],
-    across: &[bool; 512],
-) -> bool
-    ensures { λ r. ⌜ r ≡ isLast groups last count (now (edges .entry)) (now (across .entry)) ⌝ }
-{
-    if groups == 0 {
-        return false;
-    }
-    if last != count {
-        return false;
-    }
-    let n = at_most(count);
-    let mut i = 0;
-    while i < n {
-        let j = LAST + i;
-        if !same_stem(
-            across[j],
-            edges[2 * j],
-            edges[2 * j + 1],
-            across[i],
-            edges[2 * i],
-            edges[2 * i + 1],
-        ) {
-            return false;
-        }
-        i += 1;
-    }
-    true
 }
 
 // The number with which a new group of n stems is refused, 0 where it is not: of so many groups, with so many records

@@ -15,7 +15,7 @@ use Rattle.type1.specs.Operator as op
 use Rattle.type1.specs.Operator.{Operator, ofByte, ofEscape}
 use Rattle.type1.specs.State.{State, withOpen}
 use Rattle.type1.specs.Run.{Limits, within, Outcome, going, returning, ending, refused, cleared, stems3, divD, popD, callOtherSubr, operate, pointAt}
-use Rattle.type1.specs.Memory.{Mem, Holds, Meets, operatorOf, after, withOps, withPs, withCells, withHints, withPath}
+use Rattle.type1.specs.Memory.{Mem, Holds, Meets, operatorOf, after, withOps, withPs, withCells, withCmds, withHints, withPath, Told}
 use Rattle.type1.specs.Reading.{withCount}
 use Rattle.type1.specs.Small.{ranOf, closedRan, withOpened, Space}
 use Rattle.type1.proofs.Stacks.{cleared-holds, from-cleared}
@@ -50,36 +50,37 @@ module _ (lim : Limits) (n : ℕ) (s : State) (r : NoneOf (Unit {0}) keys n) whe
       split false q = two-bytes q
 
 -- ---- what `plain` says, arm by arm
-abbrev Answers : St → List Float → List Float → List Float → List Float → List Bool → List ℕ → ℕ → ℕ → List Float → List Float → List Float → List Float → List Bool → List ℕ → Ran → Type 0
-Answers t o ps x e a c room n o' ps' x' e' a' c' r = ((m : Mem) (s : State) → length (m .stems) ≡ room → Holds t (withOps o (withPs ps (withCells x (withPath e a c m)))) s → Meets r (withOps o' (withPs ps' (withCells x' (after t r e' a' c' m)))) (operate (within room (length c)) (refused 6) (operatorOf n) s)) × Space t (r .st) room
+-- what `plain` says of an answer r
+abbrev Answers : Bool → St → List Float → List Float → List Float → List Float → List Bool → List ℕ → ℕ → ℕ → List Float → List Float → List Float → List Float → List Bool → List ℕ → Ran → Type 0
+Answers same t o ps x e a c room n o' ps' x' e' a' c' r = ((m : Mem) (s : State) → length (m .stems) ≡ room → Told same s → Holds t (withOps o (withPs ps (withCells x (withPath e a c m)))) s → Meets r (withOps o' (withPs ps' (withCells x' (after t r c' (withHints e' a' m))))) (operate (within room (length c)) (refused 6) (operatorOf n) s)) × Space t (r .st) room
 
-module _ (t : St) (r : Ran) (o ps x e : List Float) (a : List Bool) (c : List ℕ) (room n k : ℕ) (w : Operator) (key : n ≡ k) (is : operatorOf k ≡ w) where
+module _ (same : Bool) (t : St) (r : Ran) (o ps x e : List Float) (a : List Bool) (c : List ℕ) (room n k : ℕ) (w : Operator) (key : n ≡ k) (is : operatorOf k ≡ w) where
   named : operatorOf n ≡ w
   named = ap operatorOf key ∙ is
 
   abbrev Does : List Float → List Float → List Float → List Float → List Bool → List ℕ → Type 0
-  Does o' ps' x' e' a' c' = Answers t o ps x e a c room n o' ps' x' e' a' c' r
+  Does o' ps' x' e' a' c' = Answers same t o ps x e a c room n o' ps' x' e' a' c' r
 
   -- the answer v is r once more
-  kept-arm : (v : Ran) (o' ps' x' e' : List Float) (a' : List Bool) (c' : List ℕ) → v ≡ r → Does o' ps' x' e' a' c' → Answers t o ps x e a c room n o' ps' x' e' a' c' v
-  kept-arm v o' ps' x' e' a' c' q = subst (Answers t o ps x e a c room n o' ps' x' e' a' c') (sym q)
+  kept-arm : (v : Ran) (o' ps' x' e' : List Float) (a' : List Bool) (c' : List ℕ) → v ≡ r → Does o' ps' x' e' a' c' → Answers same t o ps x e a c room n o' ps' x' e' a' c' v
+  kept-arm v o' ps' x' e' a' c' q = subst (Answers same t o ps x e a c room n o' ps' x' e' a' c') (sym q)
 
   arm : (o' ps' x' e' : List Float) (a' : List Bool) (c' : List ℕ) → Space t (r .st) room
-      → ((m : Mem) (s : State) → length (m .stems) ≡ room → Holds t (withOps o (withPs ps (withCells x (withPath e a c m)))) s → Meets r (withOps o' (withPs ps' (withCells x' (after t r e' a' c' m)))) (operate (within room (length c)) (refused 6) w s))
+      → ((m : Mem) (s : State) → length (m .stems) ≡ room → Told same s → Holds t (withOps o (withPs ps (withCells x (withPath e a c m)))) s → Meets r (withOps o' (withPs ps' (withCells x' (after t r c' (withHints e' a' m))))) (operate (within room (length c)) (refused 6) w s))
       → Does o' ps' x' e' a' c'
-  arm o' ps' x' e' a' c' p f = (λ m s q H. subst (λ (v : Operator). Meets r (withOps o' (withPs ps' (withCells x' (after t r e' a' c' m)))) (operate (within room (length c)) (refused 6) v s)) (sym named) (f m s q H), p)
+  arm o' ps' x' e' a' c' p f = (λ m s q d H. subst (λ (v : Operator). Meets r (withOps o' (withPs ps' (withCells x' (after t r c' (withHints e' a' m))))) (operate (within room (length c)) (refused 6) v s)) (sym named) (f m s q d H), p)
 
   -- no group is made
   quiet : (o' ps' x' e' : List Float) (a' : List Bool) → r .st .groups ≡ t .groups
       → ((m : Mem) (s : State) → Holds t (withOps o (withPs ps (withCells x (withPath e a c m)))) s → Meets r (withOps o' (withPs ps' (withCells x' (withPath e' a' c m)))) (operate (within room (length c)) (refused 6) w s))
       → Does o' ps' x' e' a' c
-  quiet o' ps' x' e' a' g f = arm o' ps' x' e' a' c (λ z. absurd (z g)) (λ m s q H. after-none t r e' a' c (withOps o' (withPs ps' (withCells x' m))) (operate (within room (length c)) (refused 6) w s) g (f m s H))
+  quiet o' ps' x' e' a' g f = arm o' ps' x' e' a' c (λ z. absurd (z g)) (λ m s q d H. after-none t r c (withOps o' (withPs ps' (withCells x' (withHints e' a' m)))) (operate (within room (length c)) (refused 6) w s) g (f m s H))
 
   -- a path command
-  pub path-arm : (e' : List Float) (a' : List Bool) (c' : List ℕ) (v : Ran) → v ≡ r
-      → ((m : Mem) (s : State) (d : Outcome) → length (m .stems) ≡ room → Holds t (withOps o (withPath e a c m)) s → Meets r (withOps o (after t r e' a' c' m)) (operate (within room (length c)) d w s))
-      → Space t (r .st) room → Answers t o ps x e a c room n o ps x e' a' c' v
-  path-arm e' a' c' v same f p = kept-arm v o ps x e' a' c' same (arm o ps x e' a' c' p (λ m s q H. f (withPs ps (withCells x m)) s (refused 6) q H))
+  pub path-arm : (c' : List ℕ) (v : Ran) → v ≡ r
+      → ((m : Mem) (s : State) (d : Outcome) → length (m .stems) ≡ room → Told same s → Holds t (withOps o (withCmds c m)) s → Meets r (withOps o (after t r c' m)) (operate (within room (length c)) d w s))
+      → Space t (r .st) room → Answers same t o ps x e a c room n o ps x e a c' v
+  path-arm c' v k f p = kept-arm v o ps x e a c' k (arm o ps x e a c' p (λ m s q d H. f (withPs ps (withCells x (withHints e a m))) s (refused 6) q d H))
 
   -- a stem
   pub stem-arm : (e' : List Float) (a' : List Bool)
@@ -97,9 +98,9 @@ module _ (t : St) (r : Ran) (o ps x e : List Float) (a : List Bool) (c : List �
   pub stems3-arm : (h : Bool) (from : Float) (e' : List Float) (a' : List Bool) (v : Ran) → v ≡ r
       → ((s : State) (lim : Limits) → s .bearing ≡ pointAt (getD x 16 nan) (getD x 17 nan) → operate lim (refused 6) w s ≡ stems3 lim h from s)
       → ((m : Mem) (s : State) (room words : ℕ) → Holds t (withOps o (withHints e a m)) s → Meets r (withOps o (withHints e' a' m)) (stems3 (within room words) h from s))
-      → r .st .groups ≡ t .groups → Answers t o ps x e a c room n o ps x e' a' c v
-  stems3-arm h from e' a' v same b f g =
-      kept-arm v o ps x e' a' c same (quiet o ps x e' a' g (λ m s H. subst (Meets r (withOps o (withPs ps (withCells x (withPath e' a' c m))))) (sym (b s (within room (length c)) (bearing-is t _ s H))) (f (withPs ps (withCells x (withPath e a c m))) s room (length c) H)))
+      → r .st .groups ≡ t .groups → Answers same t o ps x e a c room n o ps x e' a' c v
+  stems3-arm h from e' a' v k b f g =
+      kept-arm v o ps x e' a' c k (quiet o ps x e' a' g (λ m s H. subst (Meets r (withOps o (withPs ps (withCells x (withPath e' a' c m))))) (sym (b s (within room (length c)) (bearing-is t _ s H))) (f (withPs ps (withCells x (withPath e a c m))) s room (length c) H)))
 
   pub div-arm : (o' : List Float) → ((s : State) (lim : Limits) → operate lim (refused 6) w s ≡ divD s) → ((m : Mem) (s : State) → Holds t (withOps o m) s → Meets r (withOps o' m) (divD s)) → r .st .groups ≡ t .groups → Does o' ps x e a c
   div-arm o' b f g = quiet o' ps x e a g (λ m s H. subst (Meets r (withOps o' (withPs ps (withCells x (withPath e a c m))))) (sym (b s (within room (length c)))) (f (withPs ps (withCells x (withPath e a c m))) s H))
@@ -107,8 +108,8 @@ module _ (t : St) (r : Ran) (o ps x e : List Float) (a : List Bool) (c : List �
   pub pop-arm : (o' : List Float) → ((s : State) (lim : Limits) → operate lim (refused 6) w s ≡ popD lim s) → ((m : Mem) (s : State) (room words : ℕ) → Holds t (withOps o (withPs ps m)) s → Meets r (withOps o' (withPs ps m)) (popD (within room words) s)) → r .st .groups ≡ t .groups → Does o' ps x e a c
   pop-arm o' b f g = quiet o' ps x e a g (λ m s H. subst (Meets r (withOps o' (withPs ps (withCells x (withPath e a c m))))) (sym (b s (within room (length c)))) (f (withCells x (withPath e a c m)) s room (length c) H))
 
-  pub other-arm : (ps' x' e' : List Float) (a' : List Bool) (c' : List ℕ) (v : Ran) → v ≡ r → ((s : State) (lim : Limits) → operate lim (refused 6) w s ≡ callOtherSubr lim s) → Others t r o ps x e a c ps' x' e' a' c' room → Space t (r .st) room → Answers t o ps x e a c room n o ps' x' e' a' c' v
-  other-arm ps' x' e' a' c' v same b f p = kept-arm v o ps' x' e' a' c' same (arm o ps' x' e' a' c' p (λ m s q H. subst (Meets r (withOps o (withPs ps' (withCells x' (after t r e' a' c' m))))) (sym (b s (within room (length c)))) (f m s q H)))
+  pub other-arm : (ps' x' : List Float) (c' : List ℕ) (v : Ran) → v ≡ r → ((s : State) (lim : Limits) → operate lim (refused 6) w s ≡ callOtherSubr lim s) → Others same t r o ps x c ps' x' c' room → Space t (r .st) room → Answers same t o ps x e a c room n o ps' x' e a c' v
+  other-arm ps' x' c' v k b f p = kept-arm v o ps' x' e a c' k (arm o ps' x' e a c' p (λ m s q d H. subst (Meets r (withOps o (withPs ps' (withCells x' (after t r c' (withHints e a m)))))) (sym (b s (within room (length c)))) (f (withHints e a m) s q d H)))
 
   -- what changes no array: the state u is left, and the run's outcome says so
   pub state-arm : (out : State → Outcome) (u : St) (f : ℕ) → r ≡ ranOf u f → u .groups ≡ t .groups → ((s : State) (lim : Limits) → operate lim (refused 6) w s ≡ out s) → ((m : Mem) (s : State) → Holds t m s → Meets (ranOf u f) m (out s)) → Does o ps x e a c
@@ -118,6 +119,6 @@ pub closes : (t : St) (m : Mem) (s : State) → Holds t m s → Meets (closedRan
 closes t m s H = (refl, opens (withCount 0 t) m (cleared s) false (cleared-holds t m s H))
 
 -- no key
-pub rest-arm : (t : St) (r : Ran) (o ps x e : List Float) (a : List Bool) (c : List ℕ) (room n : ℕ) → r ≡ ranOf t 6 → NoneOf (Unit {0}) keys n
-    → Answers t o ps x e a c room n o ps x e a c r
-rest-arm t r o ps x e a c room n p z = (λ m s q H. subst (Meets r (withOps o (withPs ps (withCells x (after t r e a c m))))) (sym (no-operator (within room (length c)) n s z)) (ap (λ (v : Ran). v .flow) p, lit≤ tt), λ y. absurd (y (ap (λ (v : Ran). v .st .groups) p)))
+pub rest-arm : (same : Bool) (t : St) (r : Ran) (o ps x e : List Float) (a : List Bool) (c : List ℕ) (room n : ℕ) → r ≡ ranOf t 6 → NoneOf (Unit {0}) keys n
+    → Answers same t o ps x e a c room n o ps x e a c r
+rest-arm same t r o ps x e a c room n p z = (λ m s q d H. subst (Meets r (withOps o (withPs ps (withCells x (after t r c (withHints e a m)))))) (sym (no-operator (within room (length c)) n s z)) (ap (λ (v : Ran). v .flow) p, lit≤ tt), λ y. absurd (y (ap (λ (v : Ran). v .st .groups) p)))

@@ -15,11 +15,11 @@ use Rattle.type1.specs.Operator as op
 use Rattle.type1.specs.Operator.{Operator}
 use Rattle.type1.specs.State.{Command, line, curve, State, plusZero}
 use Rattle.type1.specs.Run.{Limits, within, Outcome, refused, pointAt, isFinite, enter, list, lineBy, curveBy, operate}
-use Rattle.type1.specs.Memory.{Mem, Holds, Meets, operatorOf, withOps, withCmds, withPath, withStems, pointCommand}
+use Rattle.type1.specs.Memory.{Mem, Holds, Meets, operatorOf, withOps, withCmds, withStems, pointCommand}
 use Rattle.type1.specs.Small.{ranOf}
 use Rattle.type1.specs.Reading.{placed, drawnTo, isDrawn, Stores, Adds, Draws}
 use Rattle.type1.proofs.Store.{withEntries, enter-full, wrote-3, wrote-7, point-entered, curve-entered}
-use Rattle.type1.proofs.Groups.{Step, kept-none, commits-none}
+use Rattle.type1.proofs.Groups.{Step, kept-none, commits-none, quiet-told}
 use Rattle.type1.proofs.Paths.{lists-on, lines-listed, line-open, curves-listed, curve-open}
 use Rattle.type1.proofs.Operands.{Operates, does-rlineto, does-hlineto, does-vlineto, does-rrcurveto, does-vhcurveto, does-hvcurveto}
 
@@ -67,22 +67,22 @@ abbrev drawnOf : Float → Float → Drawn
 drawnOf x y = record { x = x; y = y; done = true }
 
 -- ---- an entry, after a commit that has nothing to do
-module _ (X : Command) (x y : Float) (k : ℕ) (c d : List ℕ) (b : Bool) (S : Stores X k c b d) (z : b ≡ true) (t : St) (e : List Float) (a : List Bool) (room : ℕ) (ch : t .changed ≡ false) where
+module _ (X : Command) (x y : Float) (k : ℕ) (c d : List ℕ) (b : Bool) (S : Stores X k c b d) (z : b ≡ true) (same : Bool) (t : St) (room : ℕ) (ch : t .changed ≡ false) where
   abbrev at : St
   at = placed 0 x y k t
 
   abbrev next : Ran
   next = ranOf (placed 0 x y (k + 1) t) 0
 
-  lists : Step at next e a c e a d room (λ lim. list lim X)
-  lists = lists-on at (ranOf at 0) next e e a a c c d room X (commits-none at (ranOf at 0) e a c room refl ch) refl refl (λ m s n H. S .done z at m s n refl H) (record { hints = refl; changed = refl; last = refl; groups = refl; stems = refl })
+  lists : Step same at next c d room (λ lim. list lim X)
+  lists = lists-on same at (ranOf at 0) next c c d room X (commits-none same at (ranOf at 0) c room refl ch) refl refl (λ m s n H. S .done z at m s n refl H) (record { hints = refl; changed = refl; last = refl; groups = refl; stems = refl })
 
 pub line-added : (dx dy x y : Float) (k : ℕ) (c d : List ℕ) (b : Bool) → isFinite (pointAt (add binary64 x dx) (add binary64 y dy)) ≡ true → Stores (line (pointAt (add binary64 x dx) (add binary64 y dy))) k c b d → b ≡ true → Adds (λ lim. lineBy lim dx dy) x y k c (drawnOf (add binary64 x dx) (add binary64 y dy)) d
 line-added dx dy x y k c d b f S z = record {
-  done = λ w t e a room o ch.
+  done = λ w t room o ch m s q H.
       let T0 = placed 0 x y k t in
       let r = ranOf (placed 0 (add binary64 x dx) (add binary64 y dy) (k + 1) t) 0 in
-      line-open T0 e e a a c d room dx dy r o (lines-listed T0 (placed 0 (add binary64 x dx) (add binary64 y dy) k t) r r e e a a c d room dx dy refl f (lists (line (pointAt (add binary64 x dx) (add binary64 y dy))) (add binary64 x dx) (add binary64 y dy) k c d b S z t e a room ch));
+      line-open false T0 c d room dx dy r o (lines-listed false T0 (placed 0 (add binary64 x dx) (add binary64 y dy) k t) r r c d room dx dy refl f (lists (line (pointAt (add binary64 x dx) (add binary64 y dy))) (add binary64 x dx) (add binary64 y dy) k c d b S z false t room ch)) m s q (quiet-told false T0 (withCmds c m) s H ch) H;
   space = λ w. S .space z;
   none = λ w. absurd (true≢false w);
   same = S .same;
@@ -91,10 +91,10 @@ line-added dx dy x y k c d b f S z = record {
 pub curve-added : (x y dx1 dy1 dx2 dy2 dx3 dy3 x1 y1 x2 y2 x3 y3 : Float) (k : ℕ) (c d : List ℕ) (b : Bool) → (x1 ≡ add binary64 x dx1) × ((y1 ≡ add binary64 y dy1) × ((x2 ≡ add binary64 x1 dx2) × ((y2 ≡ add binary64 y1 dy2) × ((x3 ≡ add binary64 x2 dx3) × (y3 ≡ add binary64 y2 dy3)))))
     → (isFinite (pointAt x1 y1) && (isFinite (pointAt x2 y2) && isFinite (pointAt x3 y3))) ≡ true → Stores (curve (pointAt x1 y1) (pointAt x2 y2) (pointAt x3 y3)) k c b d → b ≡ true → Adds (λ lim. curveBy lim dx1 dy1 dx2 dy2 dx3 dy3) x y k c (drawnOf x3 y3) d
 curve-added x y dx1 dy1 dx2 dy2 dx3 dy3 x1 y1 x2 y2 x3 y3 k c d b is f S z = record {
-  done = λ w t e a room o ch.
+  done = λ w t room o ch m s q H.
       let T0 = placed 0 x y k t in
       let r = ranOf (placed 0 x3 y3 (k + 1) t) 0 in
-      curve-open T0 e e a a c d room dx1 dy1 dx2 dy2 dx3 dy3 r o (curves-listed T0 x1 y1 x2 y2 x3 y3 dx1 dy1 dx2 dy2 dx3 dy3 is (placed 0 x3 y3 k t) r e e a a c d room refl f (lists (curve (pointAt x1 y1) (pointAt x2 y2) (pointAt x3 y3)) x3 y3 k c d b S z t e a room ch));
+      curve-open false T0 c d room dx1 dy1 dx2 dy2 dx3 dy3 r o (curves-listed T0 x1 y1 x2 y2 x3 y3 dx1 dy1 dx2 dy2 dx3 dy3 is false (placed 0 x3 y3 k t) r c d room refl f (lists (curve (pointAt x1 y1) (pointAt x2 y2) (pointAt x3 y3)) x3 y3 k c d b S z false t room ch)) m s q (quiet-told false T0 (withCmds c m) s H ch) H;
   space = λ w. S .space z;
   none = λ w. absurd (true≢false w);
   same = S .same;
@@ -103,15 +103,15 @@ curve-added x y dx1 dy1 dx2 dy2 dx3 dy3 x1 y1 x2 y2 x3 y3 k c d b is f S z = rec
 -- ---- the operators
 module _ (v n : ℕ) (x y : Float) (k : ℕ) (ops : List Float) (c : List ℕ) (r : Drawn) (d : List ℕ) where
   drawn-by : (o : Operator) → operatorOf v ≡ o → T (isDrawn o) → (v ≡ 12 → ⊥) → (E : Limits → State → Outcome)
-      → ((t : St) (e : List Float) (a : List Bool) (room : ℕ) → Step (placed 0 x y k t) (ranOf (drawnTo r k t) 0) e a c e a d room E → Operates (placed n x y k t) (ranOf (drawnTo r k t) 0) ops e a c e a d room o)
+      → ((t : St) (room : ℕ) → Step false (placed 0 x y k t) (ranOf (drawnTo r k t) 0) c d room E → Operates false (placed n x y k t) (ranOf (drawnTo r k t) 0) ops c d room o)
       → Adds E x y k c r d → Draws v n x y k ops c r d
   drawn-by o is dr not-12 E does A = record {
     done = λ w t m s op ch H.
         let room = length (m .stems) in
         let q = ranOf (drawnTo r k t) 0 in
-        let got = does t (m .edges) (m .across) room (A .done w t (m .edges) (m .across) room op ch) m s (refused 6) refl H in
+        let got = does t room (λ n u q j K. A .done w t room op ch n u q K) m s (refused 6) refl (quiet-told false (placed n x y k t) (withOps ops (withCmds c m)) s H ch) H in
         subst (λ (z : Operator). Meets q (withOps ops (withCmds d m)) (operate (within room (length c)) (refused 6) z s)) (sym is)
-        (subst (λ (z : List Stem). Meets q (withOps ops (withPath (m .edges) (m .across) d (withStems z m))) (operate (within room (length c)) (refused 6) o s)) (kept-none (placed n x y k t) (drawnTo r k t) (m .edges) (m .across) (m .stems) refl) got);
+        (subst (λ (z : List Stem). Meets q (withOps ops (withCmds d (withStems z m))) (operate (within room (length c)) (refused 6) o s)) (kept-none (placed n x y k t) (drawnTo r k t) (m .edges) (m .across) (m .stems) refl) got);
     drawn = λ w. (subst (λ (z : Operator). T (isDrawn z)) (sym is) dr, not-12);
     space = A .space;
     none = A .none;
@@ -123,24 +123,24 @@ module _ (v n : ℕ) (x y : Float) (k : ℕ) (ops : List Float) (c : List ℕ) (
 
   pub rlineto-drawn : v ≡ 5 → 2 ≤ n → Adds (λ lim. lineBy lim (op-at 2) (op-at 1)) x y k c r d → Draws v n x y k ops c r d
   unfolding operatorOf op.ofByte
-  rlineto-drawn e h = drawn-by op.rlineto (ap operatorOf e) tt (λ q. let z : ⊥ = omega arith in z) (λ lim. lineBy lim (op-at 2) (op-at 1)) (λ t ed ac room S. does-rlineto (placed n x y k t) (placed 0 x y k t) _ ops ed ed ac ac c d room refl h S)
+  rlineto-drawn e h = drawn-by op.rlineto (ap operatorOf e) tt (λ q. let z : ⊥ = omega arith in z) (λ lim. lineBy lim (op-at 2) (op-at 1)) (λ t room S. does-rlineto false (placed n x y k t) (placed 0 x y k t) _ ops c d room refl h S)
 
   pub hlineto-drawn : v ≡ 6 → 1 ≤ n → Adds (λ lim. lineBy lim (op-at 1) plusZero) x y k c r d → Draws v n x y k ops c r d
   unfolding operatorOf op.ofByte
-  hlineto-drawn e h = drawn-by op.hlineto (ap operatorOf e) tt (λ q. let z : ⊥ = omega arith in z) (λ lim. lineBy lim (op-at 1) plusZero) (λ t ed ac room S. does-hlineto (placed n x y k t) (placed 0 x y k t) _ ops ed ed ac ac c d room refl h S)
+  hlineto-drawn e h = drawn-by op.hlineto (ap operatorOf e) tt (λ q. let z : ⊥ = omega arith in z) (λ lim. lineBy lim (op-at 1) plusZero) (λ t room S. does-hlineto false (placed n x y k t) (placed 0 x y k t) _ ops c d room refl h S)
 
   pub vlineto-drawn : v ≡ 7 → 1 ≤ n → Adds (λ lim. lineBy lim plusZero (op-at 1)) x y k c r d → Draws v n x y k ops c r d
   unfolding operatorOf op.ofByte
-  vlineto-drawn e h = drawn-by op.vlineto (ap operatorOf e) tt (λ q. let z : ⊥ = omega arith in z) (λ lim. lineBy lim plusZero (op-at 1)) (λ t ed ac room S. does-vlineto (placed n x y k t) (placed 0 x y k t) _ ops ed ed ac ac c d room refl h S)
+  vlineto-drawn e h = drawn-by op.vlineto (ap operatorOf e) tt (λ q. let z : ⊥ = omega arith in z) (λ lim. lineBy lim plusZero (op-at 1)) (λ t room S. does-vlineto false (placed n x y k t) (placed 0 x y k t) _ ops c d room refl h S)
 
   pub rrcurveto-drawn : v ≡ 8 → 6 ≤ n → Adds (λ lim. curveBy lim (op-at 6) (op-at 5) (op-at 4) (op-at 3) (op-at 2) (op-at 1)) x y k c r d → Draws v n x y k ops c r d
   unfolding operatorOf op.ofByte
-  rrcurveto-drawn e h = drawn-by op.rrcurveto (ap operatorOf e) tt (λ q. let z : ⊥ = omega arith in z) (λ lim. curveBy lim (op-at 6) (op-at 5) (op-at 4) (op-at 3) (op-at 2) (op-at 1)) (λ t ed ac room S. does-rrcurveto (placed n x y k t) (placed 0 x y k t) _ ops ed ed ac ac c d room refl h S)
+  rrcurveto-drawn e h = drawn-by op.rrcurveto (ap operatorOf e) tt (λ q. let z : ⊥ = omega arith in z) (λ lim. curveBy lim (op-at 6) (op-at 5) (op-at 4) (op-at 3) (op-at 2) (op-at 1)) (λ t room S. does-rrcurveto false (placed n x y k t) (placed 0 x y k t) _ ops c d room refl h S)
 
   pub vhcurveto-drawn : v ≡ 30 → 4 ≤ n → Adds (λ lim. curveBy lim plusZero (op-at 4) (op-at 3) (op-at 2) (op-at 1) plusZero) x y k c r d → Draws v n x y k ops c r d
   unfolding operatorOf op.ofByte
-  vhcurveto-drawn e h = drawn-by op.vhcurveto (ap operatorOf e) tt (λ q. let z : ⊥ = omega arith in z) (λ lim. curveBy lim plusZero (op-at 4) (op-at 3) (op-at 2) (op-at 1) plusZero) (λ t ed ac room S. does-vhcurveto (placed n x y k t) (placed 0 x y k t) _ ops ed ed ac ac c d room refl h S)
+  vhcurveto-drawn e h = drawn-by op.vhcurveto (ap operatorOf e) tt (λ q. let z : ⊥ = omega arith in z) (λ lim. curveBy lim plusZero (op-at 4) (op-at 3) (op-at 2) (op-at 1) plusZero) (λ t room S. does-vhcurveto false (placed n x y k t) (placed 0 x y k t) _ ops c d room refl h S)
 
   pub hvcurveto-drawn : v ≡ 31 → 4 ≤ n → Adds (λ lim. curveBy lim (op-at 4) plusZero (op-at 3) (op-at 2) plusZero (op-at 1)) x y k c r d → Draws v n x y k ops c r d
   unfolding operatorOf op.ofByte
-  hvcurveto-drawn e h = drawn-by op.hvcurveto (ap operatorOf e) tt (λ q. let z : ⊥ = omega arith in z) (λ lim. curveBy lim (op-at 4) plusZero (op-at 3) (op-at 2) plusZero (op-at 1)) (λ t ed ac room S. does-hvcurveto (placed n x y k t) (placed 0 x y k t) _ ops ed ed ac ac c d room refl h S)
+  hvcurveto-drawn e h = drawn-by op.hvcurveto (ap operatorOf e) tt (λ q. let z : ⊥ = omega arith in z) (λ lim. curveBy lim (op-at 4) plusZero (op-at 3) (op-at 2) plusZero (op-at 1)) (λ t room S. does-hvcurveto false (placed n x y k t) (placed 0 x y k t) _ ops c d room refl h S)

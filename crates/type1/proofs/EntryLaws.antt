@@ -149,7 +149,7 @@ above (suc n) h = omega arith
 refused-leaves : (o : Outcome) (n : ℕ) (r : Interpreted) (commands′ : List ℕ) (stems′ : List Stem) (commands : List ℕ) (stems : List Stem) → T (not (eqb n 0)) → o ≡ refused n → r ≡ refusedWith n → commands′ ≡ replicate (length commands) 0 → stems′ ≡ replicate (length stems) zeroStem → Leaves r commands′ stems′ commands stems o
 refused-leaves o n r commands′ stems′ commands stems h e er ec ez = subst (Leaves r commands′ stems′ commands stems) (sym e) (above n h, (er, (ec, ez)))
 
-zero-fit : (n : ℕ) (m : Mem) → n ≤ maxCharstringBytes → length (m .ops) ≡ 256 → length (m .ps) ≡ 256 → length (m .cells) ≡ 19 → length (m .edges) ≡ 1024 → length (m .across) ≡ 512 → Fit (zeroSt n) m
+zero-fit : (n : ℕ) (m : Mem) → n ≤ maxCharstringBytes → length (m .ops) ≡ 256 → length (m .ps) ≡ 256 → length (m .cells) ≡ 19 → length (m .edges) ≡ 512 → length (m .across) ≡ 256 → Fit (zeroSt n) m
 unfolding drawnIn groupsIn stemCount
 zero-fit n m h o p c e a = record {
   bounds = record { operands = omega arith; postscript = omega arith; points = omega arith; hints = omega arith; last = omega arith; groups = omega arith; entries = omega arith; ran = h };
@@ -190,7 +190,7 @@ module _ (charstring bank : List ℕ) (lenIV : ℕ) (b : Ran) (e : b ≡ ranOf (
     pub ready-start : Ready (b .st) (memOf o p c d a commands stems)
     ready-start = subst (λ (t : St). Ready t (memOf o p c d a commands stems)) (sym state-is) (record {
       fit = zero-fit (length charstring) (memOf o p c d a commands stems) few
-          (ap length (zero .ops) ∙ length-replicate 256 plusZero) (ap length (zero .ps) ∙ length-replicate 256 plusZero) (ap length (zero .cells) ∙ length-replicate 19 plusZero) (ap length (zero .edges) ∙ length-replicate 1024 plusZero) (ap length (zero .across) ∙ length-replicate 512 false);
+          (ap length (zero .ops) ∙ length-replicate 256 plusZero) (ap length (zero .ps) ∙ length-replicate 256 plusZero) (ap length (zero .cells) ∙ length-replicate 19 plusZero) (ap length (zero .edges) ∙ length-replicate 512 plusZero) (ap length (zero .across) ∙ length-replicate 256 false);
       sound = subst Sound (sym (held-start (length charstring) (memOf o p c d a commands stems) (zero .cells))) (sound-stable (within 0 0) .charged (length charstring) start few start-sound);
     })
 

@@ -18,7 +18,7 @@ use Rattle.type1.specs.declared.St.{St}
 use Rattle.type1.specs.declared.Ran.{Ran}
 use Rattle.type1.specs.State.{State, withPoint, withFlex}
 use Rattle.type1.specs.Run.{Limits, within, Outcome, refused, andThen, commit, enter, list, handBack, heightOf, endFlex, otherSubr0}
-use Rattle.type1.specs.Memory.{Mem, pointsAt, abs, Holds, Meets, kept, after, withPs, withCells, withCmds, withPath, withStems, Path}
+use Rattle.type1.specs.Memory.{Mem, pointsAt, abs, Holds, Meets, kept, after, withPs, withCells, withCmds, withStems, Told, Path}
 use Rattle.type1.specs.Small.{ranOf, withXY, cellPoint, flexOf, Space}
 use Rattle.type1.proofs.Stacks.{small, small-fit, flexing-is, points-length, withPostscripts, back-full, back-done}
 use Rattle.type1.proofs.Groups.{Step}
@@ -72,85 +72,85 @@ two l n y x h =
     ∙ append-assoc (take n l) (y ∷ []) (x ∷ [])
 
 -- ---- as the code says it
-abbrev pub Ends : St → Ran → List Float → List Float → List Float → List Bool → List ℕ → List Float → List Float → List Bool → List ℕ → ℕ → Float → Type 0
-Ends t r ps x e a c ps' e' a' c' room h = (m : Mem) (s : State) (args : List Float) → h ≡ heightOf args → length (m .stems) ≡ room → Holds t (withPs ps (withCells x (withPath e a c m))) s → Meets r (withPs ps' (withCells x (after t r e' a' c' m))) (otherSubr0 (within room (length c)) args s)
+abbrev pub Ends : Bool → St → Ran → List Float → List Float → List ℕ → List Float → List ℕ → ℕ → Float → Type 0
+Ends same t r ps x c ps' c' room h = (m : Mem) (s : State) (args : List Float) → h ≡ heightOf args → length (m .stems) ≡ room → Told same s → Holds t (withPs ps (withCells x (withCmds c m))) s → Meets r (withPs ps' (withCells x (after t r c' m))) (otherSubr0 (within room (length c)) args s)
 
 abbrev pub EntersFlex : St → Ran → List Float → List ℕ → List ℕ → Float → Type 0
 EntersFlex t r x c c' h = (m : Mem) (s : State) (room : ℕ) → Holds t (withCells x (withCmds c m)) s → Meets r (withCells x (withCmds c' m)) (enter (within room (length c)) (flexOf x h) s)
 
-module _ (t : St) (ps x : List Float) (e : List Float) (a : List Bool) (c : List ℕ) (room : ℕ) (h : Float) where
-  ends-none : (r : Ran) (ps' e' : List Float) (a' : List Bool) (c' : List ℕ) → r ≡ ranOf t 9 → t .flexing ≡ false → Ends t r ps x e a c ps' e' a' c' room h
-  ends-none r ps' e' a' c' p f m s args g q H = subst (Meets r (withPs ps' (withCells x (after t r e' a' c' m)))) (sym (no-flex (within room (length c)) args s (flexing-is t _ s H false f))) (ap (λ (z : Ran). z .flow) p, lit≤ tt)
+module _ (same : Bool) (t : St) (ps x : List Float) (c : List ℕ) (room : ℕ) (h : Float) where
+  ends-none : (r : Ran) (ps' : List Float) (c' : List ℕ) → r ≡ ranOf t 9 → t .flexing ≡ false → Ends same t r ps x c ps' c' room h
+  ends-none r ps' c' p f m s args g q w H = subst (Meets r (withPs ps' (withCells x (after t r c' m)))) (sym (no-flex (within room (length c)) args s (flexing-is t _ s H false f))) (ap (λ (z : Ran). z .flow) p, lit≤ tt)
 
   module _ (f : t .flexing ≡ true) where
-    ends-count : (r : Ran) (ps' e' : List Float) (a' : List Bool) (c' : List ℕ) → r ≡ ranOf t 9 → (t .points ≡ 7 → ⊥) → Ends t r ps x e a c ps' e' a' c' room h
-    ends-count r ps' e' a' c' p n m s args g q H =
-        subst (Meets r (withPs ps' (withCells x (after t r e' a' c' m)))) (sym (a-flex (within room (length c)) args s (pointsAt (t .points) x) (flexing-is t _ s H true f) ∙ end-not (within room (length c)) (heightOf args) (pointsAt (t .points) x) s (λ z. n (sym (points-length (t .points) x) ∙ z))))
+    ends-count : (r : Ran) (ps' : List Float) (c' : List ℕ) → r ≡ ranOf t 9 → (t .points ≡ 7 → ⊥) → Ends same t r ps x c ps' c' room h
+    ends-count r ps' c' p n m s args g q w H =
+        subst (Meets r (withPs ps' (withCells x (after t r c' m)))) (sym (a-flex (within room (length c)) args s (pointsAt (t .points) x) (flexing-is t _ s H true f) ∙ end-not (within room (length c)) (heightOf args) (pointsAt (t .points) x) s (λ z. n (sym (points-length (t .points) x) ∙ z))))
         (ap (λ (z : Ran). z .flow) p, lit≤ tt)
 
     module _ (seven : t .points ≡ 7) where
-      flex-is : (m : Mem) (s : State) (args : List Float) → h ≡ heightOf args → Holds t (withPs ps (withCells x (withPath e a c m))) s → otherSubr0 (within room (length c)) args s ≡ ended (within room (length c)) x h s
+      flex-is : (m : Mem) (s : State) (args : List Float) → h ≡ heightOf args → Holds t (withPs ps (withCells x (withCmds c m))) s → otherSubr0 (within room (length c)) args s ≡ ended (within room (length c)) x h s
       flex-is m s args g H =
           a-flex (within room (length c)) args s (pointsAt (t .points) x) (flexing-is t _ s H true f)
           ∙ ap₂ (λ (k : Float) (n : ℕ). endFlex (within room (length c)) k (pointsAt n x) s) (sym g) seven ∙ end-is (within room (length c)) h x s
 
       -- the mem after `commit`, with a command store that may be longer
-      abbrev told : Ran → List Float → List Bool → List ℕ → Mem → Mem
-      told d e' a' c' m = withPs ps (withCells x (withPath e' a' c' (withStems (kept t (d .st) e' a' (m .stems)) m)))
+      abbrev held : Ran → List ℕ → Mem → Mem
+      held d c' m = withPs ps (withCells x (withCmds c' (withStems (kept t (d .st) (m .edges) (m .across) (m .stems)) m)))
 
-      module _ (d : Ran) (e' : List Float) (a' : List Bool) (c' : List ℕ) (C : Step (flexOff t) d e a c e' a' c' room commit) where
-        committed : (m : Mem) (s : State) → length (m .stems) ≡ room → Holds t (withPs ps (withCells x (withPath e a c m))) s → Meets d (told d e' a' c' m) (commit (within room (length c)) (withFlex none s))
+      module _ (d : Ran) (c' : List ℕ) (C : Step same (flexOff t) d c c' room commit) where
+        committed : (m : Mem) (s : State) → length (m .stems) ≡ room → Told same s → Holds t (withPs ps (withCells x (withCmds c m))) s → Meets d (held d c' m) (commit (within room (length c)) (withFlex none s))
         unfolding kept
-        committed m s q H = C (withPs ps (withCells x m)) (withFlex none s) q (off-holds t _ s H)
+        committed m s q w H = C (withPs ps (withCells x m)) (withFlex none s) q w (off-holds t _ s H)
 
-        pub ends-commit : (d .flow ≡ 0 → ⊥) → Ends t d ps x e a c ps e' a' c' room h
-        ends-commit n m s args g q H =
+        pub ends-commit : (d .flow ≡ 0 → ⊥) → Ends same t d ps x c ps c' room h
+        ends-commit n m s args g q w H =
             let lim = within room (length c) in
-            subst (Meets d (told d e' a' c' m)) (sym (flex-is m s args g H))
-            (stop-then d (told d e' a' c' m) (andThen (commit lim (withFlex none s)) (enter lim (flexOf x h))) (λ (v : State). handBack lim (end x .y ∷ end x .x ∷ []) (withPoint (end x) v))
-            (stop-then d (told d e' a' c' m) (commit lim (withFlex none s)) (enter lim (flexOf x h)) (committed m s q H) n) n)
+            subst (Meets d (held d c' m)) (sym (flex-is m s args g H))
+            (stop-then d (held d c' m) (andThen (commit lim (withFlex none s)) (enter lim (flexOf x h))) (λ (v : State). handBack lim (end x .y ∷ end x .x ∷ []) (withPoint (end x) v))
+            (stop-then d (held d c' m) (commit lim (withFlex none s)) (enter lim (flexOf x h)) (committed m s q w H) n) n)
 
         module _ (z : d .flow ≡ 0) (len : length c' ≡ length c) (r : Ran) (c'' : List ℕ) (E : EntersFlex (d .st) r x c' c'' h) where
-          listed : (m : Mem) (s : State) → length (m .stems) ≡ room → Holds t (withPs ps (withCells x (withPath e a c m))) s → Meets r (told d e' a' c'' m) (andThen (commit (within room (length c)) (withFlex none s)) (enter (within room (length c)) (flexOf x h)))
-          listed m s q H =
-              then-goes (commit (within room (length c)) (withFlex none s)) d (told d e' a' c' m) (enter (within room (length c)) (flexOf x h)) r (told d e' a' c'' m) (committed m s q H) z
-              (λ v K. subst (λ (n : ℕ). Meets r (told d e' a' c'' m) (enter (within room n) (flexOf x h) v)) len (E (told d e' a' c' m) v room K))
+          listed : (m : Mem) (s : State) → length (m .stems) ≡ room → Told same s → Holds t (withPs ps (withCells x (withCmds c m))) s → Meets r (held d c'' m) (andThen (commit (within room (length c)) (withFlex none s)) (enter (within room (length c)) (flexOf x h)))
+          listed m s q w H =
+              then-goes (commit (within room (length c)) (withFlex none s)) d (held d c' m) (enter (within room (length c)) (flexOf x h)) r (held d c'' m) (committed m s q w H) z
+              (λ v K. subst (λ (n : ℕ). Meets r (held d c'' m) (enter (within room n) (flexOf x h) v)) len (E (held d c' m) v room K))
 
-          -- the stem store that r or a later state tells is the one that d told
-          tell : (u : Ran) (ps' : List Float) (m : Mem) (o : Outcome) → u .st .groups ≡ d .st .groups → Meets u (withPs ps' (told d e' a' c'' m)) o → Meets u (withPs ps' (withCells x (after t u e' a' c'' m))) o
-          tell u ps' m o p M = subst (λ (y : List Stem). Meets u (withPs ps' (withCells x (withPath e' a' c'' (withStems y m)))) o) (sym (kept-same t (u .st) (d .st) e' a' (m .stems) p)) M
+          -- the stem store that r or a later state tells is the one that d held
+          tell : (u : Ran) (ps' : List Float) (m : Mem) (o : Outcome) → u .st .groups ≡ d .st .groups → Meets u (withPs ps' (held d c'' m)) o → Meets u (withPs ps' (withCells x (after t u c'' m))) o
+          tell u ps' m o p M = subst (λ (y : List Stem). Meets u (withPs ps' (withCells x (withCmds c'' (withStems y m)))) o) (sym (kept-same t (u .st) (d .st) (m .edges) (m .across) (m .stems) p)) M
 
-          pub ends-enter : r .st .groups ≡ d .st .groups → (r .flow ≡ 0 → ⊥) → Ends t r ps x e a c ps e' a' c'' room h
-          ends-enter p n m s args g q H =
+          pub ends-enter : r .st .groups ≡ d .st .groups → (r .flow ≡ 0 → ⊥) → Ends same t r ps x c ps c'' room h
+          ends-enter p n m s args g q w H =
               let lim = within room (length c) in
               tell r ps m (otherSubr0 lim args s) p
-              (subst (Meets r (told d e' a' c'' m)) (sym (flex-is m s args g H))
-              (stop-then r (told d e' a' c'' m) (andThen (commit lim (withFlex none s)) (enter lim (flexOf x h))) (λ (v : State). handBack lim (end x .y ∷ end x .x ∷ []) (withPoint (end x) v)) (listed m s q H) n))
+              (subst (Meets r (held d c'' m)) (sym (flex-is m s args g H))
+              (stop-then r (held d c'' m) (andThen (commit lim (withFlex none s)) (enter lim (flexOf x h))) (λ (v : State). handBack lim (end x .y ∷ end x .x ∷ []) (withPoint (end x) v)) (listed m s q w H) n))
 
           module _ (p : r .st .groups ≡ d .st .groups) (y : r .flow ≡ 0) (u : Ran) where
-            ends-back : (ps' : List Float) → u .st .groups ≡ d .st .groups → ((n : Mem) (v : State) → Holds (r .st) (withPs ps n) v → Meets u (withPs ps' n) (handBack (within room (length c)) (end x .y ∷ end x .x ∷ []) (withPoint (end x) v))) → Ends t u ps x e a c ps' e' a' c'' room h
-            ends-back ps' k B m s args g q H =
+            ends-back : (ps' : List Float) → u .st .groups ≡ d .st .groups → ((n : Mem) (v : State) → Holds (r .st) (withPs ps n) v → Meets u (withPs ps' n) (handBack (within room (length c)) (end x .y ∷ end x .x ∷ []) (withPoint (end x) v))) → Ends same t u ps x c ps' c'' room h
+            ends-back ps' k B m s args g q w H =
                 let lim = within room (length c) in
                 tell u ps' m (otherSubr0 lim args s) k
-                (subst (Meets u (withPs ps' (told d e' a' c'' m))) (sym (flex-is m s args g H))
-                (then-goes (andThen (commit lim (withFlex none s)) (enter lim (flexOf x h))) r (told d e' a' c'' m) (λ (v : State). handBack lim (end x .y ∷ end x .x ∷ []) (withPoint (end x) v)) u (withPs ps' (told d e' a' c'' m)) (listed m s q H) y (λ v K. B (told d e' a' c'' m) v K)))
+                (subst (Meets u (withPs ps' (held d c'' m))) (sym (flex-is m s args g H))
+                (then-goes (andThen (commit lim (withFlex none s)) (enter lim (flexOf x h))) r (held d c'' m) (λ (v : State). handBack lim (end x .y ∷ end x .x ∷ []) (withPoint (end x) v)) u (withPs ps' (held d c'' m)) (listed m s q w H) y (λ v K. B (held d c'' m) v K)))
 
-            pub ends-full : u ≡ ranOf (r .st) 15 → 254 < r .st .postscript → Ends t u ps x e a c ps e' a' c'' room h
+            pub ends-full : u ≡ ranOf (r .st) 15 → 254 < r .st .postscript → Ends same t u ps x c ps c'' room h
             ends-full k l = ends-back ps (ap (λ (q : Ran). q .st .groups) k ∙ p) (λ n v K. back-full (withXY (end x .x) (end x .y) (r .st)) (withPs ps n) (withPoint (end x) v) (moved (r .st) (withPs ps n) v (end x .x) (end x .y) K) room (length c) (end x .y ∷ end x .x ∷ []) u (ap (λ (q : Ran). q .flow) k) (omega arith))
 
-            pub ends-done : u ≡ ranOf (withPostscripts (r .st .postscript + 2) (withXY (end x .x) (end x .y) (r .st))) 0 → r .st .postscript ≤ 254 → Ends t u ps x e a c (set (set ps (r .st .postscript) (end x .y)) (r .st .postscript + 1) (end x .x)) e' a' c'' room h
+            pub ends-done : u ≡ ranOf (withPostscripts (r .st .postscript + 2) (withXY (end x .x) (end x .y) (r .st))) 0 → r .st .postscript ≤ 254 → Ends same t u ps x c (set (set ps (r .st .postscript) (end x .y)) (r .st .postscript + 1) (end x .x)) c'' room h
             ends-done k l =
                 let w = r .st .postscript in
                 ends-back (set (set ps w (end x .y)) (w + 1) (end x .x)) (ap (λ (q : Ran). q .st .groups) k ∙ p)
                 (λ n v K. back-done (withXY (end x .x) (end x .y) (r .st)) (withPs ps n) (withPoint (end x) v) (moved (r .st) (withPs ps n) v (end x .x) (end x .y) K) room (length c) (end x .y ∷ end x .x ∷ []) (set (set ps w (end x .y)) (w + 1) (end x .x)) 2 u k refl (omega arith) (length-set (set ps w (end x .y)) (w + 1) (end x .x) ∙ length-set ps w (end x .y)) (two ps w (end x .y) (end x .x) (let b = K .fit .ps in omega arith)))
 
 -- as `othersubrs::is_whole_flex` refuses
-pub ends-not : (t : St) (ps x e : List Float) (a : List Bool) (c : List ℕ) (room : ℕ) (h : Float) (r : Ran) (ps' e' : List Float) (a' : List Bool) (c' : List ℕ) → r ≡ ranOf t 9 → wholeFlex (t .flexing) (t .points) ≡ false → Ends t r ps x e a c ps' e' a' c' room h
-ends-not t ps x e a c room h r ps' e' a' c' p w = by-flex (t .flexing) refl
+pub ends-not : (same : Bool) (t : St) (ps x : List Float) (c : List ℕ) (room : ℕ) (h : Float) (r : Ran) (ps' : List Float) (c' : List ℕ) → r ≡ ranOf t 9 → wholeFlex (t .flexing) (t .points) ≡ false → Ends same t r ps x c ps' c' room h
+ends-not same t ps x c room h r ps' c' p w = by-flex (t .flexing) refl
   where
-    by-flex : (b : Bool) → t .flexing ≡ b → Ends t r ps x e a c ps' e' a' c' room h
-    by-flex true f = ends-count t ps x e a c room h f r ps' e' a' c' p (eqb-false (t .points) 7 (sym (ap (λ (b : Bool). b && eqb (t .points) 7) f) ∙ w))
-    by-flex false f = ends-none t ps x e a c room h r ps' e' a' c' p f
+    by-flex : (b : Bool) → t .flexing ≡ b → Ends same t r ps x c ps' c' room h
+    by-flex true f = ends-count same t ps x c room h f r ps' c' p (eqb-false (t .points) 7 (sym (ap (λ (b : Bool). b && eqb (t .points) 7) f) ∙ w))
+    by-flex false f = ends-none same t ps x c room h r ps' c' p f
 
 -- a group that `commit` made has its room
 pub flex-space : (t : St) (d : Ran) (u : St) (room : ℕ) → Path (flexOff t) d room → u .groups ≡ d .st .groups → Space t u room

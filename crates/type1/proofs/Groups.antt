@@ -1,11 +1,12 @@
 -- Laws: the stems in force become a group.
 use mathlib.Core.Path.{_≡_, refl, sym, ap, ap₂, _∙_, subst}
 use Prim.Native.Nat.{ℕ, zero, suc, _+_, _-_, _*_, _≤_, _<_, min}
+use native.Mathlib.Nat.{pos-of-ne-zero}
 use native.Mathlib.Numerals.{add-one}
 use native.Mathlib.Omega.{arith}
 use mathlib.Core.Bool.{Bool, true, false, cond, _&&_, true≢false}
 use mathlib.Core.List.{List, [], _∷_, _++_, append-nil, append-assoc}
-use borrow.Author.Tests.{eq-eqb, ne-eqb, le-leb, leb-true, eqb-true, eqb-false, ltb-true, ltb-false}
+use borrow.Author.Tests.{eq-eqb, ne-eqb, le-leb, leb-true, eqb-true, eqb-false, lt-ltb, le-ltb, ltb-true, ltb-false}
 use lib.Dec.{eqb, leb, ltb, lit≤}
 use lib.Arith.{lt-of-le-ne}
 use lib.ListN.{length, take, drop, length-append, length-take}
@@ -18,10 +19,10 @@ use Rattle.type1.specs.declared.St.{St}
 use Rattle.type1.specs.declared.Ran.{Ran}
 use Rattle.type1.specs.State.{Command, Group, State, settled, stemCount, lastIs, sameStems}
 use Rattle.type1.specs.Run.{pick, Limits, within, Outcome, going, check, newGroup, commit}
-use Rattle.type1.specs.Memory.{Mem, word, commandIn, drawnIn, groupIn, groupsIn, stemAt, stemsAt, abs, Bounds, Fit, Holds, Meets, kept, after, withPath, withStems, Path}
-use Rattle.type1.specs.Small.{ranOf, Copied, Grown, Space}
+use Rattle.type1.specs.Memory.{Mem, word, commandIn, drawnIn, groupIn, groupsIn, stemsAt, abs, Bounds, Fit, Holds, Meets, kept, after, withCmds, withStems, Told, Path}
+use Rattle.type1.specs.Small.{ranOf, Grown, Space, mayBeLast}
 use Rattle.type1.proofs.Store.{Wrote, drawn-same, groups-same, entries-is}
-use Rattle.type1.proofs.Hints.{stems-same, stems-length}
+use Rattle.type1.proofs.Hints.{stems-length}
 
 -- ---- groups at the end of the list
 last-snoc : (gs : List Group) (g : Group) (l : List Stem) → lastIs (gs ++ (g ∷ [])) l ≡ sameStems (g .stems) l
@@ -86,7 +87,7 @@ group-command : (k : ℕ) (d : List ℕ) → word d k 0 ≡ 5 → commandIn d k 
 unfolding commandIn
 group-command k d e = simp e
 
-module _ (t : St) (m : Mem) (s : State) (H : Holds t m s) (c : List ℕ) (e : List Float) (a : List Bool) (W : Wrote (14 * t .entries) (5 ∷ t .stems ∷ t .hints ∷ []) (m .cmds) c) (C : Copied (t .hints) (m .edges) (m .across) e a)
+module _ (t : St) (m : Mem) (s : State) (H : Holds t m s) (c : List ℕ) (W : Wrote (14 * t .entries) (5 ∷ t .stems ∷ t .hints ∷ []) (m .cmds) c)
     (few : t .groups < 256) (room : t .stems + t .hints ≤ length (m .stems)) (space : 14 * (t .entries + 1) ≤ length (m .cmds)) where
   abbrev k : ℕ
   k = t .entries
@@ -95,23 +96,13 @@ module _ (t : St) (m : Mem) (s : State) (H : Holds t m s) (c : List ℕ) (e : Li
   n = t .hints
 
   abbrev S : List Stem
-  S = stemsAt 0 n e a
+  S = stemsAt 0 n (m .edges) (m .across)
 
   abbrev y : List Stem
   y = paste (m .stems) (t .stems) S n
 
-  hints-same : S ≡ stemsAt 0 n (m .edges) (m .across)
-  hints-same = stems-same 0 n e (m .edges) a (m .across) (λ i l. same i (let b = H .fit .bounds .hints in let z : i < 256 = omega arith in z))
-    where
-      same : (i : ℕ) → i < 256 → stemAt e a (0 + i) ≡ stemAt (m .edges) (m .across) (0 + i)
-      same i l =
-          let p = C .edges (2 * (0 + i)) (omega arith) in
-          let q = C .edges (2 * (0 + i) + 1) (omega arith) in
-          let r = C .across (0 + i) (omega arith) in
-          cc
-
   S-length : length S ≡ n
-  S-length = stems-length 0 n e a
+  S-length = stems-length 0 n (m .edges) (m .across)
 
   drawn-is : drawnIn (t .entries + 1) c ≡ drawnIn k (m .cmds)
   unfolding drawnIn
@@ -124,37 +115,35 @@ module _ (t : St) (m : Mem) (s : State) (H : Holds t m s) (c : List ℕ) (e : Li
       ∙ ap₂ _++_ (groups-same k c (m .cmds) y (W .below) ∙ groups-kept k (m .cmds) (m .stems) y (t .stems) (paste-front (m .stems) S (t .stems) n (omega arith) (let z = S-length in omega arith)) (H .fit .below))
       (ap (λ (b : Bool). pick {A = List Group} b (record { stems = take (word c k 2) (drop (word c k 1) y); before = length (drawnIn k c) } ∷ []) []) (eq-eqb (word c k 0) 5 (W .words 0 (omega arith)))
       ∙ ap₂ (λ (l : List Stem) (j : ℕ). record { stems = l; before = j } ∷ [])
-      (ap₂ (λ (i j : ℕ). take i (drop j y)) (W .words 2 (omega arith)) (W .words 1 (omega arith)) ∙ paste-part (m .stems) S (t .stems) n room S-length ∙ hints-same)
+      (ap₂ (λ (i j : ℕ). take i (drop j y)) (W .words 2 (omega arith)) (W .words 1 (omega arith)) ∙ paste-part (m .stems) S (t .stems) n room S-length)
       (ap length (drawn-same k c (m .cmds) (W .below))))
 
-  pub grouped : Holds (withGroup t) (withPath e a c (withStems y m)) (settled (s .groups ++ (record { stems = s .hints; before = length (s .drawn) } ∷ [])) s)
+  pub grouped : Holds (withGroup t) (withCmds c (withStems y m)) (settled (s .groups ++ (record { stems = s .hints; before = length (s .drawn) } ∷ [])) s)
   unfolding abs
   grouped =
       let F = H .fit in
       let g : Group = record { stems = stemsAt 0 n (m .edges) (m .across); before = length (drawnIn k (m .cmds)) } in
-      let len : length (m .edges) ≡ length (m .edges) = refl in
       record {
         is = step ∙ ap (λ (u : State). settled (u .groups ++ (record { stems = u .hints; before = length (u .drawn) } ∷ [])) u) (H .is);
         fit = record {
-          bounds = record { operands = F .bounds .operands; postscript = F .bounds .postscript; points = F .bounds .points; hints = F .bounds .hints; last = F .bounds .hints; groups = (let z : t .groups + 1 ≤ 256 = omega arith in z); entries = (let w = W .same in let z : 14 * (t .entries + 1) ≤ length c = omega arith in z); ran = F .bounds .ran };
+          bounds = record { operands = F .bounds .operands; postscript = F .bounds .postscript; points = F .bounds .points; hints = F .bounds .hints; last = (let z : t .hints ≤ t .stems + t .hints = omega arith in z); groups = (let z : t .groups + 1 ≤ 256 = omega arith in z); entries = (let w = W .same in let z : 14 * (t .entries + 1) ≤ length c = omega arith in z); ran = F .bounds .ran };
           ops = F .ops;
           ps = F .ps;
           cells = F .cells;
-          edges = C .same ∙ F .edges;
-          across = C .same' ∙ F .across;
+          edges = F .edges;
+          across = F .across;
           stems = (let w = length-paste (m .stems) (t .stems) S n room (let z = S-length in omega arith) in let z : t .stems + t .hints ≤ length y = omega arith in z);
           groups = ap length groups-is ∙ length-append (groupsIn k (m .cmds) (m .stems)) (g ∷ []) ∙ ap (λ (j : ℕ). j + 1) (F .groups);
           entries = ap (λ (l : List Command). length l + (t .groups + 1)) drawn-is ∙ (let w = F .entries in let z : length (drawnIn k (m .cmds)) + (t .groups + 1) ≡ t .entries + 1 = omega arith in z);
           used = ap stemCount groups-is ∙ count-snoc (groupsIn k (m .cmds) (m .stems)) g ∙ ap₂ _+_ (F .used) (stems-length 0 n (m .edges) (m .across));
           below = ranges;
-          last = λ h l. ap (λ (q : List Group). lastIs q l) groups-is ∙ last-snoc (groupsIn k (m .cmds) (m .stems)) g l ∙ ap (λ (q : List Stem). sameStems q l) (sym (C .last));
+          last = λ h l. ap (λ (q : List Group). lastIs q l) groups-is ∙ last-snoc (groupsIn k (m .cmds) (m .stems)) g l ∙ ap (λ (q : List Stem). sameStems q l) (sym (ap (λ (j : ℕ). take n (drop j y)) (let z : t .stems + t .hints - t .hints ≡ t .stems = omega arith in z) ∙ paste-part (m .stems) S (t .stems) n room S-length));
         };
       }
     where
-      step : abs (withGroup t) (withPath e a c (withStems y m)) ≡ settled (groupsIn k (m .cmds) (m .stems) ++ (record { stems = stemsAt 0 n (m .edges) (m .across); before = length (drawnIn k (m .cmds)) } ∷ [])) (abs t m)
+      step : abs (withGroup t) (withCmds c (withStems y m)) ≡ settled (groupsIn k (m .cmds) (m .stems) ++ (record { stems = stemsAt 0 n (m .edges) (m .across); before = length (drawnIn k (m .cmds)) } ∷ [])) (abs t m)
       step =
-          ap (λ (l : List Stem). record { operands = abs t m .operands; postscript = abs t m .postscript; point = abs t m .point; bearing = abs t m .bearing; width = abs t m .width; opened = t .opened; flexing = abs t m .flexing; hints = l; changed = false; groups = groupsIn (t .entries + 1) c y; drawn = drawnIn (t .entries + 1) c; divided = t .divided; ran = t .ran }) hints-same
-          ∙ ap₂ (λ (q : List Group) (d : List Command). record { operands = abs t m .operands; postscript = abs t m .postscript; point = abs t m .point; bearing = abs t m .bearing; width = abs t m .width; opened = t .opened; flexing = abs t m .flexing; hints = abs t m .hints; changed = false; groups = q; drawn = d; divided = t .divided; ran = t .ran }) groups-is drawn-is
+          ap₂ (λ (q : List Group) (d : List Command). record { operands = abs t m .operands; postscript = abs t m .postscript; point = abs t m .point; bearing = abs t m .bearing; width = abs t m .width; opened = t .opened; flexing = abs t m .flexing; hints = abs t m .hints; changed = false; groups = q; drawn = d; divided = t .divided; ran = t .ran }) groups-is drawn-is
 
       ranges : (j : ℕ) → j < t .entries + 1 → word c j 0 ≡ 5 → word c j 1 + word c j 2 ≤ t .stems + t .hints
       ranges j l q = split (eqb j (t .entries)) refl
@@ -212,15 +201,15 @@ module _ (t : St) (m : Mem) (s : State) (H : Holds t m s) where
       by-tests true false f z = (f, lit≤ tt)
       by-tests false d f z = (f, lit≤ tt)
 
-  kept-is : (r : Ran) (e : List Float) (a : List Bool) → r ≡ ranOf (withGroup t) 0 → kept t (r .st) e a (m .stems) ≡ paste (m .stems) (t .stems) (stemsAt 0 (t .hints) e a) (t .hints)
+  kept-is : (r : Ran) → r ≡ ranOf (withGroup t) 0 → kept t (r .st) (m .edges) (m .across) (m .stems) ≡ paste (m .stems) (t .stems) (stemsAt 0 (t .hints) (m .edges) (m .across)) (t .hints)
   unfolding kept
-  kept-is r e a p = ap (λ (b : Bool). pick b (m .stems) (paste (m .stems) (t .stems) (stemsAt 0 (t .hints) e a) (t .hints))) (ne-eqb (t .groups) (r .st .groups) (λ q. let z : r .st .groups ≡ t .groups + 1 = ap (λ (x : Ran). x .st .groups) p in let y : ⊥ = omega arith in y))
+  kept-is r p = ap (λ (b : Bool). pick b (m .stems) (paste (m .stems) (t .stems) (stemsAt 0 (t .hints) (m .edges) (m .across)) (t .hints))) (ne-eqb (t .groups) (r .st .groups) (λ q. let z : r .st .groups ≡ t .groups + 1 = ap (λ (x : Ran). x .st .groups) p in let y : ⊥ = omega arith in y))
 
-  pub made-group : (r : Ran) (c : List ℕ) (e : List Float) (a : List Bool) → r ≡ ranOf (withGroup t) 0 → Wrote (14 * t .entries) (5 ∷ t .stems ∷ t .hints ∷ []) (m .cmds) c → Copied (t .hints) (m .edges) (m .across) e a
-      → t .groups < 256 → t .stems + t .hints ≤ length (m .stems) → 14 * (t .entries + 1) ≤ length (m .cmds) → Meets r (after t r e a c m) (newGroup (within (length (m .stems)) (length (m .cmds))) s)
-  made-group r c e a p W C g u w =
-      subst (Meets r (after t r e a c m)) (sym (unfolded (length (m .stems)) (length (m .cmds)) true true (ap₂ (λ (x y : Bool). x && y) (le-leb (t .groups + 1) 256 (omega arith)) (le-leb (t .stems + t .hints) (length (m .stems)) u)) (le-leb (14 * (t .entries + 1)) (length (m .cmds)) w)))
-      (ap (λ (q : Ran). q .flow) p, subst (λ (z : List Stem). Holds (r .st) (withPath e a c (withStems z m)) next) (sym (kept-is r e a p)) (subst (λ (q : Ran). Holds (q .st) (withPath e a c (withStems (paste (m .stems) (t .stems) (stemsAt 0 (t .hints) e a) (t .hints)) m)) next) (sym p) (grouped t m s H c e a W C g u w)))
+  pub made-group : (r : Ran) (c : List ℕ) → r ≡ ranOf (withGroup t) 0 → Wrote (14 * t .entries) (5 ∷ t .stems ∷ t .hints ∷ []) (m .cmds) c
+      → t .groups < 256 → t .stems + t .hints ≤ length (m .stems) → 14 * (t .entries + 1) ≤ length (m .cmds) → Meets r (after t r c m) (newGroup (within (length (m .stems)) (length (m .cmds))) s)
+  made-group r c p W g u w =
+      subst (Meets r (after t r c m)) (sym (unfolded (length (m .stems)) (length (m .cmds)) true true (ap₂ (λ (x y : Bool). x && y) (le-leb (t .groups + 1) 256 (omega arith)) (le-leb (t .stems + t .hints) (length (m .stems)) u)) (le-leb (14 * (t .entries + 1)) (length (m .cmds)) w)))
+      (ap (λ (q : Ran). q .flow) p, subst (λ (z : List Stem). Holds (r .st) (withCmds c (withStems z m)) next) (sym (kept-is r p)) (subst (λ (q : Ran). Holds (q .st) (withCmds c (withStems (paste (m .stems) (t .stems) (stemsAt 0 (t .hints) (m .edges) (m .across)) (t .hints)) m)) next) (sym p) (grouped t m s H c W g u w)))
 
 -- ---- what is said of the small state
 pub grown-same : (t : St) (r : Ran) (n words room : ℕ) → r ≡ ranOf t n → Bounds t words → t .stems ≤ room → Grown t (r .st) words room
@@ -231,7 +220,7 @@ space-same t r n room e no-same = absurd (no-same (ap (λ (q : Ran). q .st .grou
 
 pub grown-group : (t : St) (r : Ran) (words room : ℕ) → r ≡ ranOf (withGroup t) 0 → Bounds t words → t .groups < 256 → t .stems + t .hints ≤ room → 14 * (t .entries + 1) ≤ words → Grown t (r .st) words room
 grown-group t r words room e b g u w = subst (λ (q : Ran). Grown t (q .st) words room) (sym e) (record {
-  bounds = record { operands = b .operands; postscript = b .postscript; points = b .points; hints = b .hints; last = b .hints; groups = (let z : t .groups + 1 ≤ 256 = omega arith in z); entries = w; ran = b .ran };
+  bounds = record { operands = b .operands; postscript = b .postscript; points = b .points; hints = b .hints; last = (let z : t .hints ≤ t .stems + t .hints = omega arith in z); groups = (let z : t .groups + 1 ≤ 256 = omega arith in z); entries = w; ran = b .ran };
   stems = u;
   hints = refl;
   x = refl;
@@ -249,9 +238,9 @@ group-room groups room used n words entries f p q = by-tests (leb (groups + 1) 2
     by-tests false b d x y z e = absurd (let g = group-number groups room used n words entries false d (ap₂ (λ (k l : Bool). k && l) x y) z in let h : ⊥ = omega arith in h)
 
 -- with the room as a number
-pub made-in : (t : St) (m : Mem) (s : State) (room : ℕ) → length (m .stems) ≡ room → (H : Holds t m s) → (r : Ran) (c : List ℕ) (e : List Float) (a : List Bool) → r ≡ ranOf (withGroup t) 0 → Wrote (14 * t .entries) (5 ∷ t .stems ∷ t .hints ∷ []) (m .cmds) c → Copied (t .hints) (m .edges) (m .across) e a
-    → t .groups < 256 → t .stems + t .hints ≤ room → 14 * (t .entries + 1) ≤ length (m .cmds) → Meets r (after t r e a c m) (newGroup (within room (length (m .cmds))) s)
-made-in t m s room q H r c e a p W C g u w = subst (λ (n : ℕ). Meets r (after t r e a c m) (newGroup (within n (length (m .cmds))) s)) q (made-group t m s H r c e a p W C g (omega arith) w)
+pub made-in : (t : St) (m : Mem) (s : State) (room : ℕ) → length (m .stems) ≡ room → (H : Holds t m s) → (r : Ran) (c : List ℕ) → r ≡ ranOf (withGroup t) 0 → Wrote (14 * t .entries) (5 ∷ t .stems ∷ t .hints ∷ []) (m .cmds) c
+    → t .groups < 256 → t .stems + t .hints ≤ room → 14 * (t .entries + 1) ≤ length (m .cmds) → Meets r (after t r c m) (newGroup (within room (length (m .cmds))) s)
+made-in t m s room q H r c p W g u w = subst (λ (n : ℕ). Meets r (after t r c m) (newGroup (within n (length (m .cmds))) s)) q (made-group t m s H r c p W g (omega arith) w)
 
 -- a refusal does not go on
 pub refused-not : (t : St) (r : Ran) (n : ℕ) {A : Type 0} → r ≡ ranOf t n → (n ≡ 0 → ⊥) → r .flow ≡ 0 → A
@@ -265,10 +254,10 @@ pub kept-none : (t u : St) (e : List Float) (a : List Bool) (z : List Stem) → 
 unfolding kept
 kept-none t u e a z h = ap (λ (b : Bool). pick b z (paste z (t .stems) (stemsAt 0 (t .hints) e a) (t .hints))) (eq-eqb (t .groups) (u .groups) (sym h))
 
-pub after-none : (t : St) (r : Ran) (e : List Float) (a : List Bool) (c : List ℕ) (m : Mem) (o : Outcome) → r .st .groups ≡ t .groups → Meets r (withPath e a c m) o → Meets r (after t r e a c m) o
-after-none t r e a c m o h M = subst (λ (z : List Stem). Meets r (withPath e a c (withStems z m)) o) (sym (kept-none t (r .st) e a (m .stems) h)) M
+pub after-none : (t : St) (r : Ran) (c : List ℕ) (m : Mem) (o : Outcome) → r .st .groups ≡ t .groups → Meets r (withCmds c m) o → Meets r (after t r c m) o
+after-none t r c m o h M = subst (λ (z : List Stem). Meets r (withCmds c (withStems z m)) o) (sym (kept-none t (r .st) (m .edges) (m .across) (m .stems) h)) M
 
-last-is : (t : St) (m : Mem) (s : State) → Holds t m s → lastIs (s .groups) (s .hints) ≡ (ltb 0 (t .groups) && sameStems (stemsAt 256 (t .last) (m .edges) (m .across)) (stemsAt 0 (t .hints) (m .edges) (m .across)))
+last-is : (t : St) (m : Mem) (s : State) → Holds t m s → lastIs (s .groups) (s .hints) ≡ (ltb 0 (t .groups) && sameStems (take (t .last) (drop (t .stems - t .last) (m .stems))) (stemsAt 0 (t .hints) (m .edges) (m .across)))
 unfolding abs lastIs
 last-is t m s H =
     sym (ap (λ (u : State). lastIs (u .groups) (u .hints)) (H .is)) ∙ split (ltb 0 (t .groups)) refl
@@ -277,9 +266,28 @@ last-is t m s H =
     none [] e h = refl
     none (g ∷ l) e h = absurd (let z : ⊥ = omega arith in z)
 
-    split : (b : Bool) → ltb 0 (t .groups) ≡ b → lastIs (groupsIn (t .entries) (m .cmds) (m .stems)) (stemsAt 0 (t .hints) (m .edges) (m .across)) ≡ (b && sameStems (stemsAt 256 (t .last) (m .edges) (m .across)) (stemsAt 0 (t .hints) (m .edges) (m .across)))
+    split : (b : Bool) → ltb 0 (t .groups) ≡ b → lastIs (groupsIn (t .entries) (m .cmds) (m .stems)) (stemsAt 0 (t .hints) (m .edges) (m .across)) ≡ (b && sameStems (take (t .last) (drop (t .stems - t .last) (m .stems))) (stemsAt 0 (t .hints) (m .edges) (m .across)))
     split true q = H .fit .last (ltb-true 0 (t .groups) q) (stemsAt 0 (t .hints) (m .edges) (m .across))
     split false q = none (groupsIn (t .entries) (m .cmds) (m .stems)) (let a = ltb-false 0 (t .groups) q in let b = H .fit .groups in omega arith) (stemsAt 0 (t .hints) (m .edges) (m .across))
+
+-- what `is_last` found
+pub found-told : (t : St) (m : Mem) (same : Bool) → Fit t m → same ≡ (t .changed && (ltb 0 (t .groups) && sameStems (take (t .last) (drop (t .stems - t .last) (m .stems))) (stemsAt 0 (t .hints) (m .edges) (m .across)))) → Told same (abs t m)
+unfolding abs
+found-told t m same F e h = e ∙ ap (λ (b : Bool). b && (ltb 0 (t .groups) && sameStems (take (t .last) (drop (t .stems - t .last) (m .stems))) (stemsAt 0 (t .hints) (m .edges) (m .across)))) h ∙ sym (last-is t m (abs t m) (record { is = refl; fit = F }))
+
+-- ---- what `may_be_last` answers
+and-none : (a b : Bool) → b ≡ false → false ≡ (a && b)
+and-none true b h = sym h
+and-none false b h = refl
+
+pub not-changed : (t : St) → t .changed ≡ false → false ≡ mayBeLast t
+not-changed t h = sym (ap (λ (b : Bool). b && (ltb 0 (t .groups) && eqb (t .last) (t .hints))) h)
+
+pub no-group-yet : (t : St) → t .groups ≡ 0 → false ≡ mayBeLast t
+no-group-yet t h = and-none (t .changed) (ltb 0 (t .groups) && eqb (t .last) (t .hints)) (ap (λ (b : Bool). b && eqb (t .last) (t .hints)) (le-ltb 0 (t .groups) (omega arith)))
+
+pub as-many : (t : St) → t .changed ≡ true → (t .groups ≡ 0 → ⊥) → eqb (t .last) (t .hints) ≡ mayBeLast t
+as-many t h n = sym (ap₂ (λ (a b : Bool). a && (b && eqb (t .last) (t .hints))) h (lt-ltb 0 (t .groups) (pos-of-ne-zero n)))
 
 abbrev pub unchanged : St → St
 unchanged t = record { operands = t .operands; postscript = t .postscript; x = t .x; y = t .y; opened = t .opened; flexing = t .flexing; points = t .points; hints = t .hints; changed = false; last = t .last; groups = t .groups; stems = t .stems; entries = t .entries; divided = t .divided; ran = t .ran }
@@ -300,24 +308,31 @@ unchanged-fit t m F = record {
   last = F .last;
 }
 
-module _ (t : St) (m : Mem) (s : State) (H : Holds t m s) (lim : Limits) where
-  changed-is : s .changed ≡ t .changed
-  unfolding abs
-  changed-is = sym (ap (λ (u : State). u .changed) (H .is))
+changed-is : (t : St) (m : Mem) (s : State) → Holds t m s → s .changed ≡ t .changed
+unfolding abs
+changed-is t m s H = sym (ap (λ (u : State). u .changed) (H .is))
 
+-- stems in force that did not change are not asked about
+pub quiet-told : (same : Bool) (t : St) (m : Mem) (s : State) → Holds t m s → t .changed ≡ false → Told same s
+quiet-told same t m s H h k = absurd (true≢false (sym k ∙ changed-is t m s H ∙ h))
+
+module _ (t : St) (m : Mem) (s : State) (H : Holds t m s) (lim : Limits) where
   pub commit-none : (r : Ran) → r ≡ ranOf t 0 → t .changed ≡ false → Meets r m (commit lim s)
   unfolding commit
-  commit-none r e h = subst (λ (b : Bool). Meets r m (pick b (pick (lastIs (s .groups) (s .hints)) (going (settled (s .groups) s)) (newGroup lim s)) (going s))) (sym (changed-is ∙ h)) (ap (λ (q : Ran). q .flow) e, subst (λ (q : Ran). Holds (q .st) m s) (sym e) H)
+  commit-none r e h = subst (λ (b : Bool). Meets r m (pick b (pick (lastIs (s .groups) (s .hints)) (going (settled (s .groups) s)) (newGroup lim s)) (going s))) (sym (changed-is t m s H ∙ h)) (ap (λ (q : Ran). q .flow) e, subst (λ (q : Ran). Holds (q .st) m s) (sym e) H)
 
-  pub commit-last : (r : Ran) → r ≡ ranOf (unchanged t) 0 → t .changed ≡ true → true ≡ (ltb 0 (t .groups) && sameStems (stemsAt 256 (t .last) (m .edges) (m .across)) (stemsAt 0 (t .hints) (m .edges) (m .across))) → Meets r m (commit lim s)
-  unfolding commit abs
-  commit-last r e h l =
-      subst (Meets r m) (sym (ap₂ (λ (b d : Bool). pick b (pick d (going (settled (s .groups) s)) (newGroup lim s)) (going s)) (changed-is ∙ h) (last-is t m s H ∙ sym l)))
-      (ap (λ (q : Ran). q .flow) e, subst (λ (q : Ran). Holds (q .st) m (settled (s .groups) s)) (sym e) (record { is = ap (λ (u : State). settled (u .groups) u) (H .is); fit = unchanged-fit t m (H .fit) }))
+  module _ (same : Bool) (told : Told same s) (h : t .changed ≡ true) where
+    changed-so : (b : Bool) → same ≡ b → commit lim s ≡ pick b (going (settled (s .groups) s)) (newGroup lim s)
+    unfolding commit
+    changed-so b k = ap₂ (λ (x y : Bool). pick x (pick y (going (settled (s .groups) s)) (newGroup lim s)) (going s)) (changed-is t m s H ∙ h) (sym (told (changed-is t m s H ∙ h)) ∙ k)
 
-  pub commit-new : (r : Ran) (M : Mem) → t .changed ≡ true → false ≡ (ltb 0 (t .groups) && sameStems (stemsAt 256 (t .last) (m .edges) (m .across)) (stemsAt 0 (t .hints) (m .edges) (m .across))) → Meets r M (newGroup lim s) → Meets r M (commit lim s)
-  unfolding commit
-  commit-new r M h l N = subst (Meets r M) (sym (ap₂ (λ (b d : Bool). pick b (pick d (going (settled (s .groups) s)) (newGroup lim s)) (going s)) (changed-is ∙ h) (last-is t m s H ∙ sym l))) N
+    pub commit-last : (r : Ran) → r ≡ ranOf (unchanged t) 0 → same ≡ true → Meets r m (commit lim s)
+    unfolding abs
+    commit-last r e k =
+        subst (Meets r m) (sym (changed-so true k)) (ap (λ (q : Ran). q .flow) e, subst (λ (q : Ran). Holds (q .st) m (settled (s .groups) s)) (sym e) (record { is = ap (λ (u : State). settled (u .groups) u) (H .is); fit = unchanged-fit t m (H .fit) }))
+
+    pub commit-new : (r : Ran) (M : Mem) → same ≡ false → Meets r M (newGroup lim s) → Meets r M (commit lim s)
+    commit-new r M k N = subst (Meets r M) (sym (changed-so false k)) N
 
 -- ---- what is said of the small state at a path command
 pub path-none : (t : St) (r : Ran) (room : ℕ) → r ≡ ranOf t 0 → t .changed ≡ false → Path t r room
@@ -333,14 +348,14 @@ pub grown-last : (t : St) (r : Ran) (words room : ℕ) → r ≡ ranOf (unchange
 grown-last t r words room e b h = subst (λ (q : Ran). Grown t (q .st) words room) (sym e) (record { bounds = record { operands = b .operands; postscript = b .postscript; points = b .points; hints = b .hints; last = b .last; groups = b .groups; entries = b .entries; ran = b .ran }; stems = h; hints = refl; x = refl; y = refl })
 
 -- ---- as `commit` says it: D is a step of the run with so much room
-abbrev pub Step : St → Ran → List Float → List Bool → List ℕ → List Float → List Bool → List ℕ → ℕ → (Limits → State → Outcome) → Type 0
-Step t r e a c e' a' c' room D = (m : Mem) (s : State) → length (m .stems) ≡ room → Holds t (withPath e a c m) s → Meets r (after t r e' a' c' m) (D (within room (length c)) s)
+abbrev pub Step : Bool → St → Ran → List ℕ → List ℕ → ℕ → (Limits → State → Outcome) → Type 0
+Step same t r c c' room D = (m : Mem) (s : State) → length (m .stems) ≡ room → Told same s → Holds t (withCmds c m) s → Meets r (after t r c' m) (D (within room (length c)) s)
 
-pub commits-none : (t : St) (r : Ran) (e : List Float) (a : List Bool) (c : List ℕ) (room : ℕ) → r ≡ ranOf t 0 → t .changed ≡ false → Step t r e a c e a c room commit
-commits-none t r e a c room p h m s q H = after-none t r e a c m (commit (within room (length c)) s) (ap (λ (x : Ran). x .st .groups) p) (commit-none t (withPath e a c m) s H (within room (length c)) r p h)
+pub commits-none : (same : Bool) (t : St) (r : Ran) (c : List ℕ) (room : ℕ) → r ≡ ranOf t 0 → t .changed ≡ false → Step same t r c c room commit
+commits-none same t r c room p h m s q w H = after-none t r c m (commit (within room (length c)) s) (ap (λ (x : Ran). x .st .groups) p) (commit-none t (withCmds c m) s H (within room (length c)) r p h)
 
-pub commits-last : (t : St) (r : Ran) (e : List Float) (a : List Bool) (c : List ℕ) (room : ℕ) (b : Bool) → r ≡ ranOf (unchanged t) 0 → t .changed ≡ true → b ≡ (ltb 0 (t .groups) && sameStems (stemsAt 256 (t .last) e a) (stemsAt 0 (t .hints) e a)) → b ≡ true → Step t r e a c e a c room commit
-commits-last t r e a c room b p h l k m s q H = after-none t r e a c m (commit (within room (length c)) s) (ap (λ (x : Ran). x .st .groups) p) (commit-last t (withPath e a c m) s H (within room (length c)) r p h (sym k ∙ l))
+pub commits-last : (same : Bool) (t : St) (r : Ran) (c : List ℕ) (room : ℕ) → r ≡ ranOf (unchanged t) 0 → t .changed ≡ true → same ≡ true → Step same t r c c room commit
+commits-last same t r c room p h k m s q w H = after-none t r c m (commit (within room (length c)) s) (ap (λ (x : Ran). x .st .groups) p) (commit-last t (withCmds c m) s H (within room (length c)) same w h r p k)
 
-pub commits-new : (t : St) (r : Ran) (e e' : List Float) (a a' : List Bool) (c c' : List ℕ) (room : ℕ) (b : Bool) → t .changed ≡ true → b ≡ (ltb 0 (t .groups) && sameStems (stemsAt 256 (t .last) e a) (stemsAt 0 (t .hints) e a)) → b ≡ false → Step t r e a c e' a' c' room newGroup → Step t r e a c e' a' c' room commit
-commits-new t r e e' a a' c c' room b h l k N m s q H = commit-new t (withPath e a c m) s H (within room (length c)) r (after t r e' a' c' m) h (sym k ∙ l) (N m s q H)
+pub commits-new : (same : Bool) (t : St) (r : Ran) (c c' : List ℕ) (room : ℕ) → t .changed ≡ true → same ≡ false → ((m : Mem) (s : State) → length (m .stems) ≡ room → Holds t (withCmds c m) s → Meets r (after t r c' m) (newGroup (within room (length c)) s)) → Step same t r c c' room commit
+commits-new same t r c c' room h k N m s q w H = commit-new t (withCmds c m) s H (within room (length c)) same w h r (after t r c' m) k (N m s q H)

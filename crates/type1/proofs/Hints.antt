@@ -1,19 +1,19 @@
--- Laws: the stems in force and those of the last group, as the arrays hold them.
+-- Laws: the stems in force, as the arrays hold them, and whether they are a group's.
 use mathlib.Core.Path.{_≡_, refl, sym, ap, ap₂, _∙_, subst}
 use Prim.Native.Nat.{ℕ, zero, suc, _+_, _-_, _*_, _≤_, _<_}
 use native.Mathlib.Nat.{zero-add}
 use native.Mathlib.Numerals.{add-one}
 use native.Mathlib.Omega.{arith}
-use mathlib.Core.Bool.{Bool, true, false, _&&_, _||_}
+use mathlib.Core.Bool.{Bool, true, false, not, _&&_, _||_}
 use mathlib.Core.List.{List, [], _∷_, _++_}
-use borrow.Author.Tests.{le-leb, lt-leb, eqb-true, eqb-false}
-use lib.Dec.{eqb, leb, ltb, lit≤}
+use borrow.Author.Tests.{le-leb, lt-leb, eqb-true, eqb-false, ltb-false}
+use lib.Dec.{T, eqb, leb, ltb, lit≤}
 use lib.Arith.{lt-of-le-ne}
-use lib.ListN.{length, getD, set, length-set, length-append}
-use lib.Seq.{getD-set-same, getD-set-other}
+use lib.ListN.{length, getD, set, take, drop, length-set, length-append, length-drop}
+use lib.Seq.{getD-set-same, getD-set-other, getD-drop, take-suc, length-take-le}
 use lib.Ieee.{Float, nan}
 use lib.Ieee.Scale.{finite}
-use Rattle.hints.specs.Hints.{isAmong, sameFirst, cut, inForce, isLast}
+use Rattle.hints.specs.Hints.{isAmong, inForce}
 use Rattle.hints.specs.Laws.{cut-below}
 use Rattle.type1.specs.declared.Stem.{Stem}
 use Rattle.type1.specs.declared.St.{St}
@@ -22,7 +22,7 @@ use Rattle.type1.specs.State.{State, withHints, sameStem, isIn, sameStem
 use Rattle.type1.specs.Run.{pick, within, going, check, stemOf, stem}
 use Rattle.type1.specs.Memory.{Mem, stemAt, stemsAt, abs, Holds, Meets}
 use Rattle.type1.specs.Memory as Memory
-use Rattle.type1.specs.Small.{ranOf, Copied}
+use Rattle.type1.specs.Small.{ranOf, zeroStem, mayBeLast}
 
 -- ---- a stem more at the end
 in-more : (l : List Stem) (t s : Stem) → isIn (l ++ (t ∷ [])) s ≡ (isIn l s || sameStem t s)
@@ -145,7 +145,7 @@ module _ (t : St) (m : Mem) (s : State) (H : Holds t m s) (room words : ℕ) (h 
               entries = F .entries;
               used = F .used;
               below = F .below;
-              last = λ g l. F .last g l ∙ ap (λ (q : List Stem). sameStems q l) (sym (same 256 (t .last) (λ j g q. let z : ⊥ = omega arith in z)));
+              last = F .last;
             };
           }),
         )
@@ -183,57 +183,89 @@ sames-length (u ∷ l) (v ∷ m) n = ap (λ (b : Bool). sameStem u v && b) (same
     none true = refl
     none false = refl
 
-module _ (e : List Float) (a : List Bool) where
+-- ---- a group's records against the stems in force, one by one
+module _ (z : List Stem) (first : ℕ) (e : List Float) (a : List Bool) where
   abbrev both : ℕ → Bool
-  both n = sameStems (stemsAt 256 n e a) (stemsAt 0 n e a)
+  both n = sameStems (take n (drop first z)) (stemsAt 0 n e a)
 
-  both-suc : (n : ℕ) → both (suc n) ≡ (both n && sameStem (stemAt e a (256 + n)) (stemAt e a n))
-  unfolding stemsAt
-  both-suc n = ap (λ (k : ℕ). sameStems (stemsAt 256 n e a ++ (stemAt e a (256 + n) ∷ [])) (stemsAt 0 n e a ++ (stemAt e a k ∷ []))) (zero-add n) ∙ sames-more (stemsAt 256 n e a) (stemsAt 0 n e a) (stemAt e a (256 + n)) (stemAt e a n) (stems-length 256 n e a ∙ sym (stems-length 0 n e a))
+  part-length : (n : ℕ) → first + n ≤ length z → length (take n (drop first z)) ≡ n
+  part-length n h = length-take-le n (drop first z) (let k = length-drop first z in omega arith)
 
-  first-is : (n : ℕ) → sameFirst n e a ≡ both n
-  unfolding sameFirst sameStems stemsAt
-  first-is zero = refl
-  first-is (suc n) = ap (λ (b : Bool). b && sameStem (stemAt e a (256 + n)) (stemAt e a n)) (first-is n) ∙ sym (both-suc n)
+  both-suc : (n : ℕ) → first + n < length z → both (suc n) ≡ (both n && sameStem (getD z (first + n) zeroStem) (stemAt e a n))
+  both-suc n h =
+      ap₂ sameStems (take-suc (drop first z) n zeroStem (let k = length-drop first z in omega arith) ∙ ap (λ (v : Stem). take n (drop first z) ++ (v ∷ [])) (getD-drop first z n zeroStem)) (stems-suc e a n)
+      ∙ sames-more (take n (drop first z)) (stemsAt 0 n e a) (getD z (first + n) zeroStem) (stemAt e a n) (part-length n (omega arith) ∙ sym (stems-length 0 n e a))
 
-  -- what `hints::is_last` says of the last group
-  pub is-last-is : (g l n : ℕ) → n ≤ 256 → isLast g l n e a ≡ (ltb 0 g && sameStems (stemsAt 256 l e a) (stemsAt 0 n e a))
-  unfolding isLast
-  is-last-is g l n k = ap (λ (b : Bool). ltb 0 g && b) (split (eqb l n) refl)
+  both-not : (i n : ℕ) → i < n → first + n ≤ length z → sameStem (getD z (first + i) zeroStem) (stemAt e a i) ≡ false → both n ≡ false
+  both-not i zero l h k = absurd (let y : ⊥ = omega arith in y)
+  both-not i (suc n) l h k = both-suc n (omega arith) ∙ split (eqb i n) refl (λ b. both-not i n b (omega arith) k)
     where
-      split : (b : Bool) → eqb l n ≡ b → (b && sameFirst (cut n) e a) ≡ sameStems (stemsAt 256 l e a) (stemsAt 0 n e a)
-      split true q = ap (λ (j : ℕ). sameFirst j e a) (cut-below n k) ∙ first-is n ∙ ap (λ (j : ℕ). sameStems (stemsAt 256 j e a) (stemsAt 0 n e a)) (sym (eqb-true l n q))
-      split false q = sym (sames-length (stemsAt 256 l e a) (stemsAt 0 n e a) (λ z. eqb-false l n q (sym (stems-length 256 l e a) ∙ z ∙ stems-length 0 n e a)))
+      and-false : (b : Bool) → (b && false) ≡ false
+      and-false true = refl
+      and-false false = refl
 
--- ---- the stems in force are copied to the last group's place
-pub copy-begun : (e : List Float) (a : List Bool) → Copied 0 e a e a
-unfolding stemsAt
-copy-begun e a = record { last = refl; edges = λ i h. refl; across = λ i h. refl; same = refl; same' = refl }
+      split : (b : Bool) → eqb i n ≡ b → (i < n → both n ≡ false) → (both n && sameStem (getD z (first + n) zeroStem) (stemAt e a n)) ≡ false
+      split true q rec = ap (λ (x : Bool). both n && x) (ap (λ (j : ℕ). sameStem (getD z (first + j) zeroStem) (stemAt e a j)) (sym (eqb-true i n q)) ∙ k) ∙ and-false (both n)
+      split false q rec = let g : i ≤ n = omega arith in ap (λ (x : Bool). x && sameStem (getD z (first + n) zeroStem) (stemAt e a n)) (rec (lt-of-le-ne g (eqb-false i n q)))
 
-pub copy-turn : (i : ℕ) (e₀ e : List Float) (a₀ a : List Bool) → Copied i e₀ a₀ e a → i < 256 → length e₀ ≡ 1024 → length a₀ ≡ 512
-    → Copied (i + 1) e₀ a₀ (set (set e (2 * (256 + i)) (getD e (2 * i) nan)) (2 * (256 + i) + 1) (getD (set e (2 * (256 + i)) (getD e (2 * i) nan)) (2 * i + 1) nan)) (set a (256 + i) (getD a i false))
-unfolding stemsAt
-copy-turn i e₀ e a₀ a C l le la =
-    let j = 256 + i in
-    let s1 = C .same in
-    let s2 = C .same' in
-    let p = getD e (2 * i) nan in
-    let w = getD (set e (2 * j) p) (2 * i + 1) nan in
-    let h = getD a i false in
-    let E = edgesWith j p w e in
-    let A = set a j h in
-    let w-is : w ≡ getD e₀ (2 * i + 1) nan = getD-set-other e (2 * j) (2 * i + 1) p nan (λ (q : 2 * i + 1 ≡ 2 * (256 + i)). let z : ⊥ = omega arith in z) ∙ C .edges (2 * i + 1) (omega arith) in
-    let p-is : p ≡ getD e₀ (2 * i) nan = C .edges (2 * i) (omega arith) in
-    let h-is : h ≡ getD a₀ i false = C .across i l in
-    let here : stemAt E A j ≡ stemAt e₀ a₀ i = stem-here j h p w e a (omega arith) (omega arith) ∙ (let z : stemOf h p w ≡ stemAt e₀ a₀ i = cc in z) in
-    let front : stemsAt 256 i E A ≡ stemsAt 256 i e a = stems-same 256 i E e A a (λ k g. stem-other j (256 + k) h p w e a (λ (q : 256 + k ≡ 256 + i). let z : ⊥ = omega arith in z)) in
-    record {
-      last = ap (λ (n : ℕ). stemsAt 256 n E A) (add-one i) ∙ ap₂ (λ (x : List Stem) (y : Stem). x ++ (y ∷ [])) (front ∙ C .last) here ∙ sym (ap (λ (n : ℕ). stemsAt 0 n e₀ a₀) (add-one i) ∙ stems-suc e₀ a₀ i);
-      edges = λ k g. getD-set-other (set e (2 * j) p) (2 * j + 1) k w nan (λ (q : k ≡ 2 * (256 + i) + 1). let z : ⊥ = omega arith in z) ∙ getD-set-other e (2 * j) k p nan (λ (q : k ≡ 2 * (256 + i)). let z : ⊥ = omega arith in z) ∙ C .edges k g;
-      across = λ k g. getD-set-other a j k h false (λ (q : k ≡ 256 + i). let z : ⊥ = omega arith in z) ∙ C .across k g;
-      same = length-set (set e (2 * j) p) (2 * j + 1) w ∙ length-set e (2 * j) p ∙ s1;
-      same' = length-set a j h ∙ s2;
-    }
+  pub same-begun : both 0 ≡ true
+  unfolding sameStems stemsAt
+  same-begun = refl
 
-pub copy-done : (i n : ℕ) (e₀ e : List Float) (a₀ a : List Bool) → i ≤ n → n ≤ i → Copied i e₀ a₀ e a → Copied n e₀ a₀ e a
-copy-done i n e₀ e a₀ a h k C = subst (λ (j : ℕ). Copied j e₀ a₀ e a) (let z : i ≡ n = omega arith in z) C
+  -- a turn of `all_same`: what it read at place r of the store
+  module _ (i n r : ℕ) (v : Stem) (zs : List Stem) (d : Bool) (room : first + n ≤ length z) (l : i < n) (er : r ≡ first + i) (ez : zs ≡ z) (ev : v ≡ getD zs r zeroStem) (ed : d ≡ not (sameStem v (stemAt e a i))) where
+    read-is : d ≡ not (sameStem (getD z (first + i) zeroStem) (stemAt e a i))
+    read-is = ed ∙ ap (λ (u : Stem). not (sameStem u (stemAt e a i))) (ev ∙ ap₂ (λ (y : List Stem) (j : ℕ). getD y j zeroStem) ez er)
+
+    pub same-turn : T (not d) → both i ≡ true → both (i + 1) ≡ true
+    same-turn t p = ap both (add-one i) ∙ both-suc i (omega arith) ∙ ap₂ (λ (x y : Bool). x && y) p (twice (sameStem (getD z (first + i) zeroStem) (stemAt e a i)) (subst (λ (b : Bool). T (not b)) read-is t))
+      where
+        twice : (b : Bool) → T (not (not b)) → b ≡ true
+        twice true q = refl
+        twice false q = absurd q
+
+    pub same-stop : T d → false ≡ both n
+    same-stop t = sym (both-not i n l room (once (sameStem (getD z (first + i) zeroStem) (stemAt e a i)) (subst T read-is t)))
+      where
+        once : (b : Bool) → T (not b) → b ≡ false
+        once true q = absurd q
+        once false q = refl
+
+  pub same-end : (i n : ℕ) → ltb i n ≡ false → i ≤ n → both i ≡ true → true ≡ both n
+  same-end i n over l p = sym (ap both (let k = ltb-false i n over in let y : n ≡ i = omega arith in y) ∙ p)
+
+-- ---- what `is_last` answers, by `may_be_last` and `all_same`
+module _ (t : St) (z : List Stem) (e : List Float) (a : List Bool) (low : t .last ≤ t .stems) (room : t .stems ≤ length z) where
+  abbrev found : Bool
+  found = t .changed && (ltb 0 (t .groups) && sameStems (take (t .last) (drop (t .stems - t .last) z)) (stemsAt 0 (t .hints) e a))
+
+  all-three : (c g d : Bool) → T (c && (g && d)) → (c ≡ true) × (g ≡ true) × (d ≡ true)
+  all-three true true true h = (refl, refl, refl)
+  all-three true true false h = absurd h
+  all-three true false d h = absurd h
+  all-three false g d h = absurd h
+
+  module _ (b : Bool) (r : ℕ) (is : b ≡ mayBeLast t) (er : r ≡ t .stems - t .last) (so : T b) where
+    three : (t .changed ≡ true) × (ltb 0 (t .groups) ≡ true) × (eqb (t .last) (t .hints) ≡ true)
+    three = all-three (t .changed) (ltb 0 (t .groups)) (eqb (t .last) (t .hints)) (subst T is so)
+
+    as-many : t .last ≡ t .hints
+    as-many = eqb-true (t .last) (t .hints) (three .2)
+
+    pub last-room : r + t .hints ≤ length z
+    last-room = omega (arith, as-many, low, room, er)
+
+    pub last-found : (d : Bool) → d ≡ sameStems (take (t .hints) (drop r z)) (stemsAt 0 (t .hints) e a) → d ≡ found
+    last-found d ed =
+        ed ∙ ap₂ (λ (j k : ℕ). sameStems (take j (drop k z)) (stemsAt 0 (t .hints) e a)) (sym as-many) er
+        ∙ sym (ap₂ (λ (x y : Bool). x && (y && sameStems (take (t .last) (drop (t .stems - t .last) z)) (stemsAt 0 (t .hints) e a))) (three .0) (three .1))
+
+  pub last-not : (b : Bool) → b ≡ mayBeLast t → T (not b) → false ≡ found
+  last-not b is h = by-tests (t .changed) (ltb 0 (t .groups)) (eqb (t .last) (t .hints)) refl (subst (λ (x : Bool). T (not x)) is h)
+    where
+      by-tests : (c g d : Bool) → eqb (t .last) (t .hints) ≡ d → T (not (c && (g && d))) → false ≡ (c && (g && sameStems (take (t .last) (drop (t .stems - t .last) z)) (stemsAt 0 (t .hints) e a)))
+      by-tests true true true q n = absurd n
+      by-tests true true false q n =
+          sym (sames-length (take (t .last) (drop (t .stems - t .last) z)) (stemsAt 0 (t .hints) e a) (λ k. eqb-false (t .last) (t .hints) q (sym (part-length z (t .stems - t .last) e a (t .last) (omega (arith, low, room))) ∙ k ∙ stems-length 0 (t .hints) e a)))
+      by-tests true false d q n = refl
+      by-tests false g d q n = refl

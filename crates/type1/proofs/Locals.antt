@@ -46,13 +46,13 @@ abbrev pub tF : Lifetime → ℕ → Ty
 tF ℓ n = tyRef ℓ mut (tyArray (tyFloat binary64) n)
 
 abbrev pub tA : Lifetime → Ty
-tA ℓ = tyRef ℓ mut (tyArray tyBool 512)
+tA ℓ = tyRef ℓ mut (tyArray tyBool 256)
 
 abbrev pub sF : Lifetime → ℕ → Ty
 sF ℓ n = tyRef ℓ imm (tyArray (tyFloat binary64) n)
 
 abbrev pub sA : Lifetime → Ty
-sA ℓ = tyRef ℓ imm (tyArray tyBool 512)
+sA ℓ = tyRef ℓ imm (tyArray tyBool 256)
 
 abbrev pub tU : Lifetime → Ty
 tU ℓ = tyRef ℓ mut (tyInt w64)

@@ -17,7 +17,7 @@ use Rattle.type1.specs.Operator as op
 use Rattle.type1.specs.Operator.{Operator}
 use Rattle.type1.specs.State.{State, withOperands, plusZero}
 use Rattle.type1.specs.Run.{Limits, within, Outcome, refused, check, top, cleared, needs, moveBy, lineBy, curveBy, setPoint, pointAt, operate}
-use Rattle.type1.specs.Memory.{Mem, abs, Bounds, Fit, Holds, Meets, kept, after, withPath, withStems, withOps}
+use Rattle.type1.specs.Memory.{Mem, abs, Bounds, Fit, Holds, Meets, kept, after, withCmds, withOps, Told}
 use Rattle.type1.specs.Reading.{withCount}
 use Rattle.type1.specs.Small.{ranOf, Space}
 use Rattle.type1.proofs.Groups.{Step}
@@ -47,21 +47,21 @@ module _ (t : St) (m : Mem) (s : State) (H : Holds t m s) where
   }
 
 -- ---- as a path operator says it
-abbrev pub Operates : St → Ran → List Float → List Float → List Bool → List ℕ → List Float → List Bool → List ℕ → ℕ → Operator → Type 0
-Operates t r o e a c e' a' c' room x = (m : Mem) (s : State) (call : Outcome) → length (m .stems) ≡ room → Holds t (withOps o (withPath e a c m)) s → Meets r (withOps o (after t r e' a' c' m)) (operate (within room (length c)) call x s)
+abbrev pub Operates : Bool → St → Ran → List Float → List ℕ → List ℕ → ℕ → Operator → Type 0
+Operates same t r o c c' room x = (m : Mem) (s : State) (call : Outcome) → length (m .stems) ≡ room → Told same s → Holds t (withOps o (withCmds c m)) s → Meets r (withOps o (after t r c' m)) (operate (within room (length c)) call x s)
 
 -- x needs k operands, and does D with the stack cleared
-pub short : (t : St) (r : Ran) (o e : List Float) (a : List Bool) (c : List ℕ) (room : ℕ) (x : Operator) (k : ℕ) (D : Limits → State → Outcome) → ((lim : Limits) (call : Outcome) (s : State) → operate lim call x s ≡ needs k s (D lim s)) → r ≡ ranOf t 7 → t .operands < k → Operates t r o e a c e a c room x
-short t r o e a c room x k D is p h m s call q H = subst (Meets r (withOps o (after t r e a c m))) (sym (is (within room (length c)) call s ∙ too-few t (withOps o (withPath e a c m)) s H k (D (within room (length c)) s) h)) (ap (λ (z : Ran). z .flow) p, lit≤ tt)
+pub short : (same : Bool) (t : St) (r : Ran) (o : List Float) (c : List ℕ) (room : ℕ) (x : Operator) (k : ℕ) (D : Limits → State → Outcome) → ((lim : Limits) (call : Outcome) (s : State) → operate lim call x s ≡ needs k s (D lim s)) → r ≡ ranOf t 7 → t .operands < k → Operates same t r o c c room x
+short same t r o c room x k D is p h m s call q w H = subst (Meets r (withOps o (after t r c m))) (sym (is (within room (length c)) call s ∙ too-few t (withOps o (withCmds c m)) s H k (D (within room (length c)) s) h)) (ap (λ (z : Ran). z .flow) p, lit≤ tt)
 
-pub does : (t u : St) (r : Ran) (o e e' : List Float) (a a' : List Bool) (c c' : List ℕ) (room : ℕ) (x : Operator) (k : ℕ) (D E : Limits → State → Outcome) → ((lim : Limits) (call : Outcome) (s : State) → operate lim call x s ≡ needs k s (D lim s)) → u ≡ withCount 0 t → k ≤ t .operands
-    → ((lim : Limits) (m : Mem) (s : State) → Holds t (withOps o m) s → D lim s ≡ E lim (cleared s)) → Step u r e a c e' a' c' room E → Operates t r o e a c e' a' c' room x
+pub does : (same : Bool) (t u : St) (r : Ran) (o : List Float) (c c' : List ℕ) (room : ℕ) (x : Operator) (k : ℕ) (D E : Limits → State → Outcome) → ((lim : Limits) (call : Outcome) (s : State) → operate lim call x s ≡ needs k s (D lim s)) → u ≡ withCount 0 t → k ≤ t .operands
+    → ((lim : Limits) (m : Mem) (s : State) → Holds t (withOps o m) s → D lim s ≡ E lim (cleared s)) → Step same u r c c' room E → Operates same t r o c c' room x
 unfolding kept
-does t u r o e e' a a' c c' room x k D E is p h same S m s call q H =
-    let M = withOps o (withPath e a c m) in
+does same t u r o c c' room x k D E is p h alike S m s call q w H =
+    let M = withOps o (withCmds c m) in
     let lim = within room (length c) in
-    subst (Meets r (withOps o (after t r e' a' c' m))) (sym (is lim call s ∙ enough t M s H k (D lim s) h ∙ same lim (withPath e a c m) s H))
-    (subst (λ (v : St). Step v r e a c e' a' c' room E) p S (withOps o m) (cleared s) q (clears t M s H))
+    subst (Meets r (withOps o (after t r c' m))) (sym (is lim call s ∙ enough t M s H k (D lim s) h ∙ alike lim (withCmds c m) s H))
+    (subst (λ (v : St). Step same v r c c' room E) p S (withOps o m) (cleared s) q w (clears t M s H))
 
 pub clear-space : (t u : St) (r : Ran) (room : ℕ) → u ≡ withCount 0 t → Space u (r .st) room → Space t (r .st) room
 clear-space t u r room e S = subst (λ (v : St). Space v (r .st) room) e S
@@ -112,65 +112,65 @@ is-setcurrentpoint lim call s = refl
 
 -- ---- each operator does what is said, with the operands in the array
 
-pub does-vmoveto : (t u : St) (r : Ran) (o e e' : List Float) (a a' : List Bool) (c c' : List ℕ) (room : ℕ) → u ≡ withCount 0 t → 1 ≤ t .operands → Step u r e a c e' a' c' room (λ lim. moveBy lim plusZero (getD o (t .operands - 1) nan)) → Operates t r o e a c e' a' c' room op.vmoveto
-does-vmoveto t u r o e e' a a' c c' room p h S = does t u r o e e' a a' c c' room op.vmoveto 1 (λ lim s. moveBy lim plusZero (top 1 s) (cleared s)) (λ lim. moveBy lim plusZero (getD o (t .operands - 1) nan)) is-vmoveto p h (λ lim m s H. let h1 = top-is t (withOps o m) s H 1 (omega arith) (omega arith) in cc) S
+pub does-vmoveto : (same : Bool) (t u : St) (r : Ran) (o : List Float) (c c' : List ℕ) (room : ℕ) → u ≡ withCount 0 t → 1 ≤ t .operands → Step same u r c c' room (λ lim. moveBy lim plusZero (getD o (t .operands - 1) nan)) → Operates same t r o c c' room op.vmoveto
+does-vmoveto same t u r o c c' room p h S = does same t u r o c c' room op.vmoveto 1 (λ lim s. moveBy lim plusZero (top 1 s) (cleared s)) (λ lim. moveBy lim plusZero (getD o (t .operands - 1) nan)) is-vmoveto p h (λ lim m s H. let h1 = top-is t (withOps o m) s H 1 (omega arith) (omega arith) in cc) S
 
-pub short-vmoveto : (t : St) (r : Ran) (o e : List Float) (a : List Bool) (c : List ℕ) (room : ℕ) → r ≡ ranOf t 7 → t .operands < 1 → Operates t r o e a c e a c room op.vmoveto
-short-vmoveto t r o e a c room p h = short t r o e a c room op.vmoveto 1 (λ lim s. moveBy lim plusZero (top 1 s) (cleared s)) is-vmoveto p h
+pub short-vmoveto : (same : Bool) (t : St) (r : Ran) (o : List Float) (c : List ℕ) (room : ℕ) → r ≡ ranOf t 7 → t .operands < 1 → Operates same t r o c c room op.vmoveto
+short-vmoveto same t r o c room p h = short same t r o c room op.vmoveto 1 (λ lim s. moveBy lim plusZero (top 1 s) (cleared s)) is-vmoveto p h
 
-pub does-rmoveto : (t u : St) (r : Ran) (o e e' : List Float) (a a' : List Bool) (c c' : List ℕ) (room : ℕ) → u ≡ withCount 0 t → 2 ≤ t .operands → Step u r e a c e' a' c' room (λ lim. moveBy lim (getD o (t .operands - 2) nan) (getD o (t .operands - 1) nan)) → Operates t r o e a c e' a' c' room op.rmoveto
-does-rmoveto t u r o e e' a a' c c' room p h S = does t u r o e e' a a' c c' room op.rmoveto 2 (λ lim s. moveBy lim (top 2 s) (top 1 s) (cleared s)) (λ lim. moveBy lim (getD o (t .operands - 2) nan) (getD o (t .operands - 1) nan)) is-rmoveto p h (λ lim m s H. let h2 = top-is t (withOps o m) s H 2 (omega arith) (omega arith) in let h1 = top-is t (withOps o m) s H 1 (omega arith) (omega arith) in cc) S
+pub does-rmoveto : (same : Bool) (t u : St) (r : Ran) (o : List Float) (c c' : List ℕ) (room : ℕ) → u ≡ withCount 0 t → 2 ≤ t .operands → Step same u r c c' room (λ lim. moveBy lim (getD o (t .operands - 2) nan) (getD o (t .operands - 1) nan)) → Operates same t r o c c' room op.rmoveto
+does-rmoveto same t u r o c c' room p h S = does same t u r o c c' room op.rmoveto 2 (λ lim s. moveBy lim (top 2 s) (top 1 s) (cleared s)) (λ lim. moveBy lim (getD o (t .operands - 2) nan) (getD o (t .operands - 1) nan)) is-rmoveto p h (λ lim m s H. let h2 = top-is t (withOps o m) s H 2 (omega arith) (omega arith) in let h1 = top-is t (withOps o m) s H 1 (omega arith) (omega arith) in cc) S
 
-pub short-rmoveto : (t : St) (r : Ran) (o e : List Float) (a : List Bool) (c : List ℕ) (room : ℕ) → r ≡ ranOf t 7 → t .operands < 2 → Operates t r o e a c e a c room op.rmoveto
-short-rmoveto t r o e a c room p h = short t r o e a c room op.rmoveto 2 (λ lim s. moveBy lim (top 2 s) (top 1 s) (cleared s)) is-rmoveto p h
+pub short-rmoveto : (same : Bool) (t : St) (r : Ran) (o : List Float) (c : List ℕ) (room : ℕ) → r ≡ ranOf t 7 → t .operands < 2 → Operates same t r o c c room op.rmoveto
+short-rmoveto same t r o c room p h = short same t r o c room op.rmoveto 2 (λ lim s. moveBy lim (top 2 s) (top 1 s) (cleared s)) is-rmoveto p h
 
-pub does-hmoveto : (t u : St) (r : Ran) (o e e' : List Float) (a a' : List Bool) (c c' : List ℕ) (room : ℕ) → u ≡ withCount 0 t → 1 ≤ t .operands → Step u r e a c e' a' c' room (λ lim. moveBy lim (getD o (t .operands - 1) nan) plusZero) → Operates t r o e a c e' a' c' room op.hmoveto
-does-hmoveto t u r o e e' a a' c c' room p h S = does t u r o e e' a a' c c' room op.hmoveto 1 (λ lim s. moveBy lim (top 1 s) plusZero (cleared s)) (λ lim. moveBy lim (getD o (t .operands - 1) nan) plusZero) is-hmoveto p h (λ lim m s H. let h1 = top-is t (withOps o m) s H 1 (omega arith) (omega arith) in cc) S
+pub does-hmoveto : (same : Bool) (t u : St) (r : Ran) (o : List Float) (c c' : List ℕ) (room : ℕ) → u ≡ withCount 0 t → 1 ≤ t .operands → Step same u r c c' room (λ lim. moveBy lim (getD o (t .operands - 1) nan) plusZero) → Operates same t r o c c' room op.hmoveto
+does-hmoveto same t u r o c c' room p h S = does same t u r o c c' room op.hmoveto 1 (λ lim s. moveBy lim (top 1 s) plusZero (cleared s)) (λ lim. moveBy lim (getD o (t .operands - 1) nan) plusZero) is-hmoveto p h (λ lim m s H. let h1 = top-is t (withOps o m) s H 1 (omega arith) (omega arith) in cc) S
 
-pub short-hmoveto : (t : St) (r : Ran) (o e : List Float) (a : List Bool) (c : List ℕ) (room : ℕ) → r ≡ ranOf t 7 → t .operands < 1 → Operates t r o e a c e a c room op.hmoveto
-short-hmoveto t r o e a c room p h = short t r o e a c room op.hmoveto 1 (λ lim s. moveBy lim (top 1 s) plusZero (cleared s)) is-hmoveto p h
+pub short-hmoveto : (same : Bool) (t : St) (r : Ran) (o : List Float) (c : List ℕ) (room : ℕ) → r ≡ ranOf t 7 → t .operands < 1 → Operates same t r o c c room op.hmoveto
+short-hmoveto same t r o c room p h = short same t r o c room op.hmoveto 1 (λ lim s. moveBy lim (top 1 s) plusZero (cleared s)) is-hmoveto p h
 
-pub does-rlineto : (t u : St) (r : Ran) (o e e' : List Float) (a a' : List Bool) (c c' : List ℕ) (room : ℕ) → u ≡ withCount 0 t → 2 ≤ t .operands → Step u r e a c e' a' c' room (λ lim. lineBy lim (getD o (t .operands - 2) nan) (getD o (t .operands - 1) nan)) → Operates t r o e a c e' a' c' room op.rlineto
-does-rlineto t u r o e e' a a' c c' room p h S = does t u r o e e' a a' c c' room op.rlineto 2 (λ lim s. lineBy lim (top 2 s) (top 1 s) (cleared s)) (λ lim. lineBy lim (getD o (t .operands - 2) nan) (getD o (t .operands - 1) nan)) is-rlineto p h (λ lim m s H. let h2 = top-is t (withOps o m) s H 2 (omega arith) (omega arith) in let h1 = top-is t (withOps o m) s H 1 (omega arith) (omega arith) in cc) S
+pub does-rlineto : (same : Bool) (t u : St) (r : Ran) (o : List Float) (c c' : List ℕ) (room : ℕ) → u ≡ withCount 0 t → 2 ≤ t .operands → Step same u r c c' room (λ lim. lineBy lim (getD o (t .operands - 2) nan) (getD o (t .operands - 1) nan)) → Operates same t r o c c' room op.rlineto
+does-rlineto same t u r o c c' room p h S = does same t u r o c c' room op.rlineto 2 (λ lim s. lineBy lim (top 2 s) (top 1 s) (cleared s)) (λ lim. lineBy lim (getD o (t .operands - 2) nan) (getD o (t .operands - 1) nan)) is-rlineto p h (λ lim m s H. let h2 = top-is t (withOps o m) s H 2 (omega arith) (omega arith) in let h1 = top-is t (withOps o m) s H 1 (omega arith) (omega arith) in cc) S
 
-pub short-rlineto : (t : St) (r : Ran) (o e : List Float) (a : List Bool) (c : List ℕ) (room : ℕ) → r ≡ ranOf t 7 → t .operands < 2 → Operates t r o e a c e a c room op.rlineto
-short-rlineto t r o e a c room p h = short t r o e a c room op.rlineto 2 (λ lim s. lineBy lim (top 2 s) (top 1 s) (cleared s)) is-rlineto p h
+pub short-rlineto : (same : Bool) (t : St) (r : Ran) (o : List Float) (c : List ℕ) (room : ℕ) → r ≡ ranOf t 7 → t .operands < 2 → Operates same t r o c c room op.rlineto
+short-rlineto same t r o c room p h = short same t r o c room op.rlineto 2 (λ lim s. lineBy lim (top 2 s) (top 1 s) (cleared s)) is-rlineto p h
 
-pub does-hlineto : (t u : St) (r : Ran) (o e e' : List Float) (a a' : List Bool) (c c' : List ℕ) (room : ℕ) → u ≡ withCount 0 t → 1 ≤ t .operands → Step u r e a c e' a' c' room (λ lim. lineBy lim (getD o (t .operands - 1) nan) plusZero) → Operates t r o e a c e' a' c' room op.hlineto
-does-hlineto t u r o e e' a a' c c' room p h S = does t u r o e e' a a' c c' room op.hlineto 1 (λ lim s. lineBy lim (top 1 s) plusZero (cleared s)) (λ lim. lineBy lim (getD o (t .operands - 1) nan) plusZero) is-hlineto p h (λ lim m s H. let h1 = top-is t (withOps o m) s H 1 (omega arith) (omega arith) in cc) S
+pub does-hlineto : (same : Bool) (t u : St) (r : Ran) (o : List Float) (c c' : List ℕ) (room : ℕ) → u ≡ withCount 0 t → 1 ≤ t .operands → Step same u r c c' room (λ lim. lineBy lim (getD o (t .operands - 1) nan) plusZero) → Operates same t r o c c' room op.hlineto
+does-hlineto same t u r o c c' room p h S = does same t u r o c c' room op.hlineto 1 (λ lim s. lineBy lim (top 1 s) plusZero (cleared s)) (λ lim. lineBy lim (getD o (t .operands - 1) nan) plusZero) is-hlineto p h (λ lim m s H. let h1 = top-is t (withOps o m) s H 1 (omega arith) (omega arith) in cc) S
 
-pub short-hlineto : (t : St) (r : Ran) (o e : List Float) (a : List Bool) (c : List ℕ) (room : ℕ) → r ≡ ranOf t 7 → t .operands < 1 → Operates t r o e a c e a c room op.hlineto
-short-hlineto t r o e a c room p h = short t r o e a c room op.hlineto 1 (λ lim s. lineBy lim (top 1 s) plusZero (cleared s)) is-hlineto p h
+pub short-hlineto : (same : Bool) (t : St) (r : Ran) (o : List Float) (c : List ℕ) (room : ℕ) → r ≡ ranOf t 7 → t .operands < 1 → Operates same t r o c c room op.hlineto
+short-hlineto same t r o c room p h = short same t r o c room op.hlineto 1 (λ lim s. lineBy lim (top 1 s) plusZero (cleared s)) is-hlineto p h
 
-pub does-vlineto : (t u : St) (r : Ran) (o e e' : List Float) (a a' : List Bool) (c c' : List ℕ) (room : ℕ) → u ≡ withCount 0 t → 1 ≤ t .operands → Step u r e a c e' a' c' room (λ lim. lineBy lim plusZero (getD o (t .operands - 1) nan)) → Operates t r o e a c e' a' c' room op.vlineto
-does-vlineto t u r o e e' a a' c c' room p h S = does t u r o e e' a a' c c' room op.vlineto 1 (λ lim s. lineBy lim plusZero (top 1 s) (cleared s)) (λ lim. lineBy lim plusZero (getD o (t .operands - 1) nan)) is-vlineto p h (λ lim m s H. let h1 = top-is t (withOps o m) s H 1 (omega arith) (omega arith) in cc) S
+pub does-vlineto : (same : Bool) (t u : St) (r : Ran) (o : List Float) (c c' : List ℕ) (room : ℕ) → u ≡ withCount 0 t → 1 ≤ t .operands → Step same u r c c' room (λ lim. lineBy lim plusZero (getD o (t .operands - 1) nan)) → Operates same t r o c c' room op.vlineto
+does-vlineto same t u r o c c' room p h S = does same t u r o c c' room op.vlineto 1 (λ lim s. lineBy lim plusZero (top 1 s) (cleared s)) (λ lim. lineBy lim plusZero (getD o (t .operands - 1) nan)) is-vlineto p h (λ lim m s H. let h1 = top-is t (withOps o m) s H 1 (omega arith) (omega arith) in cc) S
 
-pub short-vlineto : (t : St) (r : Ran) (o e : List Float) (a : List Bool) (c : List ℕ) (room : ℕ) → r ≡ ranOf t 7 → t .operands < 1 → Operates t r o e a c e a c room op.vlineto
-short-vlineto t r o e a c room p h = short t r o e a c room op.vlineto 1 (λ lim s. lineBy lim plusZero (top 1 s) (cleared s)) is-vlineto p h
+pub short-vlineto : (same : Bool) (t : St) (r : Ran) (o : List Float) (c : List ℕ) (room : ℕ) → r ≡ ranOf t 7 → t .operands < 1 → Operates same t r o c c room op.vlineto
+short-vlineto same t r o c room p h = short same t r o c room op.vlineto 1 (λ lim s. lineBy lim plusZero (top 1 s) (cleared s)) is-vlineto p h
 
-pub does-rrcurveto : (t u : St) (r : Ran) (o e e' : List Float) (a a' : List Bool) (c c' : List ℕ) (room : ℕ) → u ≡ withCount 0 t → 6 ≤ t .operands → Step u r e a c e' a' c' room (λ lim. curveBy lim (getD o (t .operands - 6) nan) (getD o (t .operands - 5) nan) (getD o (t .operands - 4) nan) (getD o (t .operands - 3) nan) (getD o (t .operands - 2) nan) (getD o (t .operands - 1) nan)) → Operates t r o e a c e' a' c' room op.rrcurveto
-does-rrcurveto t u r o e e' a a' c c' room p h S = does t u r o e e' a a' c c' room op.rrcurveto 6 (λ lim s. curveBy lim (top 6 s) (top 5 s) (top 4 s) (top 3 s) (top 2 s) (top 1 s) (cleared s)) (λ lim. curveBy lim (getD o (t .operands - 6) nan) (getD o (t .operands - 5) nan) (getD o (t .operands - 4) nan) (getD o (t .operands - 3) nan) (getD o (t .operands - 2) nan) (getD o (t .operands - 1) nan)) is-rrcurveto p h (λ lim m s H. let h6 = top-is t (withOps o m) s H 6 (omega arith) (omega arith) in let h5 = top-is t (withOps o m) s H 5 (omega arith) (omega arith) in let h4 = top-is t (withOps o m) s H 4 (omega arith) (omega arith) in let h3 = top-is t (withOps o m) s H 3 (omega arith) (omega arith) in let h2 = top-is t (withOps o m) s H 2 (omega arith) (omega arith) in let h1 = top-is t (withOps o m) s H 1 (omega arith) (omega arith) in cc) S
+pub does-rrcurveto : (same : Bool) (t u : St) (r : Ran) (o : List Float) (c c' : List ℕ) (room : ℕ) → u ≡ withCount 0 t → 6 ≤ t .operands → Step same u r c c' room (λ lim. curveBy lim (getD o (t .operands - 6) nan) (getD o (t .operands - 5) nan) (getD o (t .operands - 4) nan) (getD o (t .operands - 3) nan) (getD o (t .operands - 2) nan) (getD o (t .operands - 1) nan)) → Operates same t r o c c' room op.rrcurveto
+does-rrcurveto same t u r o c c' room p h S = does same t u r o c c' room op.rrcurveto 6 (λ lim s. curveBy lim (top 6 s) (top 5 s) (top 4 s) (top 3 s) (top 2 s) (top 1 s) (cleared s)) (λ lim. curveBy lim (getD o (t .operands - 6) nan) (getD o (t .operands - 5) nan) (getD o (t .operands - 4) nan) (getD o (t .operands - 3) nan) (getD o (t .operands - 2) nan) (getD o (t .operands - 1) nan)) is-rrcurveto p h (λ lim m s H. let h6 = top-is t (withOps o m) s H 6 (omega arith) (omega arith) in let h5 = top-is t (withOps o m) s H 5 (omega arith) (omega arith) in let h4 = top-is t (withOps o m) s H 4 (omega arith) (omega arith) in let h3 = top-is t (withOps o m) s H 3 (omega arith) (omega arith) in let h2 = top-is t (withOps o m) s H 2 (omega arith) (omega arith) in let h1 = top-is t (withOps o m) s H 1 (omega arith) (omega arith) in cc) S
 
-pub short-rrcurveto : (t : St) (r : Ran) (o e : List Float) (a : List Bool) (c : List ℕ) (room : ℕ) → r ≡ ranOf t 7 → t .operands < 6 → Operates t r o e a c e a c room op.rrcurveto
-short-rrcurveto t r o e a c room p h = short t r o e a c room op.rrcurveto 6 (λ lim s. curveBy lim (top 6 s) (top 5 s) (top 4 s) (top 3 s) (top 2 s) (top 1 s) (cleared s)) is-rrcurveto p h
+pub short-rrcurveto : (same : Bool) (t : St) (r : Ran) (o : List Float) (c : List ℕ) (room : ℕ) → r ≡ ranOf t 7 → t .operands < 6 → Operates same t r o c c room op.rrcurveto
+short-rrcurveto same t r o c room p h = short same t r o c room op.rrcurveto 6 (λ lim s. curveBy lim (top 6 s) (top 5 s) (top 4 s) (top 3 s) (top 2 s) (top 1 s) (cleared s)) is-rrcurveto p h
 
-pub does-vhcurveto : (t u : St) (r : Ran) (o e e' : List Float) (a a' : List Bool) (c c' : List ℕ) (room : ℕ) → u ≡ withCount 0 t → 4 ≤ t .operands → Step u r e a c e' a' c' room (λ lim. curveBy lim plusZero (getD o (t .operands - 4) nan) (getD o (t .operands - 3) nan) (getD o (t .operands - 2) nan) (getD o (t .operands - 1) nan) plusZero) → Operates t r o e a c e' a' c' room op.vhcurveto
-does-vhcurveto t u r o e e' a a' c c' room p h S = does t u r o e e' a a' c c' room op.vhcurveto 4 (λ lim s. curveBy lim plusZero (top 4 s) (top 3 s) (top 2 s) (top 1 s) plusZero (cleared s)) (λ lim. curveBy lim plusZero (getD o (t .operands - 4) nan) (getD o (t .operands - 3) nan) (getD o (t .operands - 2) nan) (getD o (t .operands - 1) nan) plusZero) is-vhcurveto p h (λ lim m s H. let h4 = top-is t (withOps o m) s H 4 (omega arith) (omega arith) in let h3 = top-is t (withOps o m) s H 3 (omega arith) (omega arith) in let h2 = top-is t (withOps o m) s H 2 (omega arith) (omega arith) in let h1 = top-is t (withOps o m) s H 1 (omega arith) (omega arith) in cc) S
+pub does-vhcurveto : (same : Bool) (t u : St) (r : Ran) (o : List Float) (c c' : List ℕ) (room : ℕ) → u ≡ withCount 0 t → 4 ≤ t .operands → Step same u r c c' room (λ lim. curveBy lim plusZero (getD o (t .operands - 4) nan) (getD o (t .operands - 3) nan) (getD o (t .operands - 2) nan) (getD o (t .operands - 1) nan) plusZero) → Operates same t r o c c' room op.vhcurveto
+does-vhcurveto same t u r o c c' room p h S = does same t u r o c c' room op.vhcurveto 4 (λ lim s. curveBy lim plusZero (top 4 s) (top 3 s) (top 2 s) (top 1 s) plusZero (cleared s)) (λ lim. curveBy lim plusZero (getD o (t .operands - 4) nan) (getD o (t .operands - 3) nan) (getD o (t .operands - 2) nan) (getD o (t .operands - 1) nan) plusZero) is-vhcurveto p h (λ lim m s H. let h4 = top-is t (withOps o m) s H 4 (omega arith) (omega arith) in let h3 = top-is t (withOps o m) s H 3 (omega arith) (omega arith) in let h2 = top-is t (withOps o m) s H 2 (omega arith) (omega arith) in let h1 = top-is t (withOps o m) s H 1 (omega arith) (omega arith) in cc) S
 
-pub short-vhcurveto : (t : St) (r : Ran) (o e : List Float) (a : List Bool) (c : List ℕ) (room : ℕ) → r ≡ ranOf t 7 → t .operands < 4 → Operates t r o e a c e a c room op.vhcurveto
-short-vhcurveto t r o e a c room p h = short t r o e a c room op.vhcurveto 4 (λ lim s. curveBy lim plusZero (top 4 s) (top 3 s) (top 2 s) (top 1 s) plusZero (cleared s)) is-vhcurveto p h
+pub short-vhcurveto : (same : Bool) (t : St) (r : Ran) (o : List Float) (c : List ℕ) (room : ℕ) → r ≡ ranOf t 7 → t .operands < 4 → Operates same t r o c c room op.vhcurveto
+short-vhcurveto same t r o c room p h = short same t r o c room op.vhcurveto 4 (λ lim s. curveBy lim plusZero (top 4 s) (top 3 s) (top 2 s) (top 1 s) plusZero (cleared s)) is-vhcurveto p h
 
-pub does-hvcurveto : (t u : St) (r : Ran) (o e e' : List Float) (a a' : List Bool) (c c' : List ℕ) (room : ℕ) → u ≡ withCount 0 t → 4 ≤ t .operands → Step u r e a c e' a' c' room (λ lim. curveBy lim (getD o (t .operands - 4) nan) plusZero (getD o (t .operands - 3) nan) (getD o (t .operands - 2) nan) plusZero (getD o (t .operands - 1) nan)) → Operates t r o e a c e' a' c' room op.hvcurveto
-does-hvcurveto t u r o e e' a a' c c' room p h S = does t u r o e e' a a' c c' room op.hvcurveto 4 (λ lim s. curveBy lim (top 4 s) plusZero (top 3 s) (top 2 s) plusZero (top 1 s) (cleared s)) (λ lim. curveBy lim (getD o (t .operands - 4) nan) plusZero (getD o (t .operands - 3) nan) (getD o (t .operands - 2) nan) plusZero (getD o (t .operands - 1) nan)) is-hvcurveto p h (λ lim m s H. let h4 = top-is t (withOps o m) s H 4 (omega arith) (omega arith) in let h3 = top-is t (withOps o m) s H 3 (omega arith) (omega arith) in let h2 = top-is t (withOps o m) s H 2 (omega arith) (omega arith) in let h1 = top-is t (withOps o m) s H 1 (omega arith) (omega arith) in cc) S
+pub does-hvcurveto : (same : Bool) (t u : St) (r : Ran) (o : List Float) (c c' : List ℕ) (room : ℕ) → u ≡ withCount 0 t → 4 ≤ t .operands → Step same u r c c' room (λ lim. curveBy lim (getD o (t .operands - 4) nan) plusZero (getD o (t .operands - 3) nan) (getD o (t .operands - 2) nan) plusZero (getD o (t .operands - 1) nan)) → Operates same t r o c c' room op.hvcurveto
+does-hvcurveto same t u r o c c' room p h S = does same t u r o c c' room op.hvcurveto 4 (λ lim s. curveBy lim (top 4 s) plusZero (top 3 s) (top 2 s) plusZero (top 1 s) (cleared s)) (λ lim. curveBy lim (getD o (t .operands - 4) nan) plusZero (getD o (t .operands - 3) nan) (getD o (t .operands - 2) nan) plusZero (getD o (t .operands - 1) nan)) is-hvcurveto p h (λ lim m s H. let h4 = top-is t (withOps o m) s H 4 (omega arith) (omega arith) in let h3 = top-is t (withOps o m) s H 3 (omega arith) (omega arith) in let h2 = top-is t (withOps o m) s H 2 (omega arith) (omega arith) in let h1 = top-is t (withOps o m) s H 1 (omega arith) (omega arith) in cc) S
 
-pub short-hvcurveto : (t : St) (r : Ran) (o e : List Float) (a : List Bool) (c : List ℕ) (room : ℕ) → r ≡ ranOf t 7 → t .operands < 4 → Operates t r o e a c e a c room op.hvcurveto
-short-hvcurveto t r o e a c room p h = short t r o e a c room op.hvcurveto 4 (λ lim s. curveBy lim (top 4 s) plusZero (top 3 s) (top 2 s) plusZero (top 1 s) (cleared s)) is-hvcurveto p h
+pub short-hvcurveto : (same : Bool) (t : St) (r : Ran) (o : List Float) (c : List ℕ) (room : ℕ) → r ≡ ranOf t 7 → t .operands < 4 → Operates same t r o c c room op.hvcurveto
+short-hvcurveto same t r o c room p h = short same t r o c room op.hvcurveto 4 (λ lim s. curveBy lim (top 4 s) plusZero (top 3 s) (top 2 s) plusZero (top 1 s) (cleared s)) is-hvcurveto p h
 
-pub does-setcurrentpoint : (t u : St) (r : Ran) (o e e' : List Float) (a a' : List Bool) (c c' : List ℕ) (room : ℕ) → u ≡ withCount 0 t → 2 ≤ t .operands → Step u r e a c e' a' c' room (λ lim. setPoint lim (pointAt (getD o (t .operands - 2) nan) (getD o (t .operands - 1) nan))) → Operates t r o e a c e' a' c' room op.setcurrentpoint
-does-setcurrentpoint t u r o e e' a a' c c' room p h S = does t u r o e e' a a' c c' room op.setcurrentpoint 2 (λ lim s. setPoint lim (pointAt (top 2 s) (top 1 s)) (cleared s)) (λ lim. setPoint lim (pointAt (getD o (t .operands - 2) nan) (getD o (t .operands - 1) nan))) is-setcurrentpoint p h (λ lim m s H. let h2 = top-is t (withOps o m) s H 2 (omega arith) (omega arith) in let h1 = top-is t (withOps o m) s H 1 (omega arith) (omega arith) in cc) S
+pub does-setcurrentpoint : (same : Bool) (t u : St) (r : Ran) (o : List Float) (c c' : List ℕ) (room : ℕ) → u ≡ withCount 0 t → 2 ≤ t .operands → Step same u r c c' room (λ lim. setPoint lim (pointAt (getD o (t .operands - 2) nan) (getD o (t .operands - 1) nan))) → Operates same t r o c c' room op.setcurrentpoint
+does-setcurrentpoint same t u r o c c' room p h S = does same t u r o c c' room op.setcurrentpoint 2 (λ lim s. setPoint lim (pointAt (top 2 s) (top 1 s)) (cleared s)) (λ lim. setPoint lim (pointAt (getD o (t .operands - 2) nan) (getD o (t .operands - 1) nan))) is-setcurrentpoint p h (λ lim m s H. let h2 = top-is t (withOps o m) s H 2 (omega arith) (omega arith) in let h1 = top-is t (withOps o m) s H 1 (omega arith) (omega arith) in cc) S
 
-pub short-setcurrentpoint : (t : St) (r : Ran) (o e : List Float) (a : List Bool) (c : List ℕ) (room : ℕ) → r ≡ ranOf t 7 → t .operands < 2 → Operates t r o e a c e a c room op.setcurrentpoint
-short-setcurrentpoint t r o e a c room p h = short t r o e a c room op.setcurrentpoint 2 (λ lim s. setPoint lim (pointAt (top 2 s) (top 1 s)) (cleared s)) is-setcurrentpoint p h
+pub short-setcurrentpoint : (same : Bool) (t : St) (r : Ran) (o : List Float) (c : List ℕ) (room : ℕ) → r ≡ ranOf t 7 → t .operands < 2 → Operates same t r o c c room op.setcurrentpoint
+short-setcurrentpoint same t r o c room p h = short same t r o c room op.setcurrentpoint 2 (λ lim s. setPoint lim (pointAt (top 2 s) (top 1 s)) (cleared s)) is-setcurrentpoint p h
 
 pub clear-finite : (t u : St) → u ≡ withCount 0 t → T (finite (t .x)) × T (finite (t .y)) → T (finite (u .x)) × T (finite (u .y))
 clear-finite t u e h = subst (λ (v : St). T (finite (v .x)) × T (finite (v .y))) (sym e) h

@@ -23,7 +23,7 @@ use Rattle.type1.specs.declared.Ran.{Ran}
 use Rattle.type1.specs.State.{State, plusZero, withOperands, withFlex}
 use Rattle.type1.specs.State as State
 use Rattle.type1.specs.Run.{Limits, within, Outcome, going, refused, check, top, without, is, backwards, handBack, heightOf, otherSubr0, otherSubr2, otherSubr, callOtherSubr}
-use Rattle.type1.specs.Memory.{Mem, pointsAt, stemsAt, abs, Holds, Meets, kept, after, withOps, withPs, withCells, withPath}
+use Rattle.type1.specs.Memory.{Mem, pointsAt, stemsAt, abs, Holds, Meets, kept, after, withOps, withPs, withCells, withCmds, Told}
 use Rattle.type1.specs.Reading.{withCount}
 use Rattle.type1.specs.Small.{ranOf}
 use Rattle.type1.proofs.Stacks.{small, small-fit, operand-count, top-is, without-is, counted}
@@ -102,8 +102,8 @@ drop-take (suc f) (suc n) [] = drop-nil (suc f) ∙ sym (take-nil (suc n - suc f
 drop-take (suc f) (suc n) (x ∷ l) = drop-take f n l ∙ ap (λ (k : ℕ). take k (drop f l)) (let z : n - f ≡ suc n - suc f = omega arith in z)
 
 -- ---- as the code says it
-abbrev pub Others : St → Ran → List Float → List Float → List Float → List Float → List Bool → List ℕ → List Float → List Float → List Float → List Bool → List ℕ → ℕ → Type 0
-Others t r o ps x e a c ps' x' e' a' c' room = (m : Mem) (s : State) → length (m .stems) ≡ room → Holds t (withOps o (withPs ps (withCells x (withPath e a c m)))) s → Meets r (withOps o (withPs ps' (withCells x' (after t r e' a' c' m)))) (callOtherSubr (within room (length c)) s)
+abbrev pub Others : Bool → St → Ran → List Float → List Float → List Float → List ℕ → List Float → List Float → List ℕ → ℕ → Type 0
+Others same t r o ps x c ps' x' c' room = (m : Mem) (s : State) → length (m .stems) ≡ room → Told same s → Holds t (withOps o (withPs ps (withCells x (withCmds c m)))) s → Meets r (withOps o (withPs ps' (withCells x' (after t r c' m)))) (callOtherSubr (within room (length c)) s)
 
 -- what `collect` and `hand_back` say
 abbrev pub Collects : St → Ran → List Float → List Float → Type 0
@@ -136,21 +136,21 @@ off-holds t m s H =
       fit = small-fit t m F _ _ _ _ _ _ _ _ _ _ _ _ _ _ (F .bounds .operands) (F .bounds .postscript) (F .bounds .points) (omega arith) (F .bounds .ran) (F .ops) (F .ps) (F .cells);
     }
 
-module _ (t : St) (r : Ran) (o ps x e : List Float) (a : List Bool) (c : List ℕ) (room : ℕ) where
-  others-few : (ps' x' e' : List Float) (a' : List Bool) (c' : List ℕ) → r ≡ ranOf t 7 → ((m : Mem) (s : State) → Holds t (withOps o (withPs ps (withCells x (withPath e a c m)))) s → callOtherSubr (within room (length c)) s ≡ refused 7) → Others t r o ps x e a c ps' x' e' a' c' room
-  others-few ps' x' e' a' c' p f m s q H = subst (Meets r (withOps o (withPs ps' (withCells x' (after t r e' a' c' m))))) (sym (f m s H)) (ap (λ (z : Ran). z .flow) p, lit≤ tt)
+module _ (same : Bool) (t : St) (r : Ran) (o ps x : List Float) (c : List ℕ) (room : ℕ) where
+  others-few : (ps' x' : List Float) (c' : List ℕ) → r ≡ ranOf t 7 → ((m : Mem) (s : State) → Holds t (withOps o (withPs ps (withCells x (withCmds c m)))) s → callOtherSubr (within room (length c)) s ≡ refused 7) → Others same t r o ps x c ps' x' c' room
+  others-few ps' x' c' p f m s q w H = subst (Meets r (withOps o (withPs ps' (withCells x' (after t r c' m))))) (sym (f m s H)) (ap (λ (z : Ran). z .flow) p, lit≤ tt)
 
-  needs-two : t .operands < 2 → (m : Mem) (s : State) → Holds t (withOps o (withPs ps (withCells x (withPath e a c m)))) s → callOtherSubr (within room (length c)) s ≡ refused 7
+  needs-two : t .operands < 2 → (m : Mem) (s : State) → Holds t (withOps o (withPs ps (withCells x (withCmds c m)))) s → callOtherSubr (within room (length c)) s ≡ refused 7
   unfolding callOtherSubr
-  needs-two l m s H = rw (lt-leb 2 (length (s .operands)) (let n = operand-count t (withOps o (withPs ps (withCells x (withPath e a c m)))) s H in omega arith))
+  needs-two l m s H = rw (lt-leb 2 (length (s .operands)) (let n = operand-count t (withOps o (withPs ps (withCells x (withCmds c m)))) s H in omega arith))
 
-  pub others-none : (ps' x' e' : List Float) (a' : List Bool) (c' : List ℕ) → r ≡ ranOf t 7 → t .operands < 2 → Others t r o ps x e a c ps' x' e' a' c' room
-  others-none ps' x' e' a' c' p l = others-few ps' x' e' a' c' p (needs-two l)
+  pub others-none : (ps' x' : List Float) (c' : List ℕ) → r ≡ ranOf t 7 → t .operands < 2 → Others same t r o ps x c ps' x' c' room
+  others-none ps' x' c' p l = others-few ps' x' c' p (needs-two l)
 
   module _ (h : 2 ≤ t .operands) where
     -- as `othersubrs::arguments` refuses
-    pub others-refused : (ps' x' e' : List Float) (a' : List Bool) (c' : List ℕ) (k : Taken) → k ≡ taken (t .operands) (getD o (t .operands - 2) nan) → (k .number ≡ 0 → ⊥) → r ≡ ranOf t (k .number) → Others t r o ps x e a c ps' x' e' a' c' room
-    others-refused ps' x' e' a' c' k is ne p = others-few ps' x' e' a' c' (p ∙ ap (ranOf t) seven) (λ m s H. other-not t (withOps o (withPs ps (withCells x (withPath e a c m)))) s H (within room (length c)) h refusal)
+    pub others-refused : (ps' x' : List Float) (c' : List ℕ) (k : Taken) → k ≡ taken (t .operands) (getD o (t .operands - 2) nan) → (k .number ≡ 0 → ⊥) → r ≡ ranOf t (k .number) → Others same t r o ps x c ps' x' c' room
+    others-refused ps' x' c' k is ne p = others-few ps' x' c' (p ∙ ap (ranOf t) seven) (λ m s H. other-not t (withOps o (withPs ps (withCells x (withCmds c m)))) s H (within room (length c)) h refusal)
       where
         v : Float
         v = getD o (t .operands - 2) nan
@@ -172,47 +172,47 @@ module _ (t : St) (r : Ran) (o ps x e : List Float) (a : List Bool) (c : List �
         abbrev left-state : State → State
         left-state s = withOperands (take from o) s
 
-        call-is' : (m : Mem) (s : State) → Holds t (withOps o (withPs ps (withCells x (withPath e a c m)))) s → callOtherSubr (within room (length c)) s ≡ otherSubr (within room (length c)) z args (left-state s)
-        call-is' m s H = other-is t (withOps o (withPs ps (withCells x (withPath e a c m)))) s H (within room (length c)) h k z ge is-k l is-z
+        call-is' : (m : Mem) (s : State) → Holds t (withOps o (withPs ps (withCells x (withCmds c m)))) s → callOtherSubr (within room (length c)) s ≡ otherSubr (within room (length c)) z args (left-state s)
+        call-is' m s H = other-is t (withOps o (withPs ps (withCells x (withCmds c m)))) s H (within room (length c)) h k z ge is-k l is-z
 
-        left-holds : (m : Mem) (s : State) → Holds t (withOps o (withPs ps (withCells x (withPath e a c m)))) s → Holds (withCount from t) (withOps o (withPs ps (withCells x (withPath e a c m)))) (left-state s)
-        left-holds m s H = counted t (withOps o (withPs ps (withCells x (withPath e a c m)))) s H from (omega arith)
+        left-holds : (m : Mem) (s : State) → Holds t (withOps o (withPs ps (withCells x (withCmds c m)))) s → Holds (withCount from t) (withOps o (withPs ps (withCells x (withCmds c m)))) (left-state s)
+        left-holds m s H = counted t (withOps o (withPs ps (withCells x (withCmds c m)))) s H from (omega arith)
 
         -- 0
-        pub others-flex : (hh : Float) (ps' e' : List Float) (a' : List Bool) (c' : List ℕ) → ofZ w64 z ≡ 0 → (length o ≡ 256 → t .operands ≤ 256 → hh ≡ heightOf args) → Ends (withCount from t) r ps x e a c ps' e' a' c' room hh → Others t r o ps x e a c ps' x e' a' c' room
+        pub others-flex : (hh : Float) (ps' : List Float) (c' : List ℕ) → ofZ w64 z ≡ 0 → (length o ≡ 256 → t .operands ≤ 256 → hh ≡ heightOf args) → Ends same (withCount from t) r ps x c ps' c' room hh → Others same t r o ps x c ps' x c' room
         unfolding kept
-        others-flex hh ps' e' a' c' q g E m s n H =
-            subst (Meets r (withOps o (withPs ps' (withCells x (after t r e' a' c' m))))) (sym (call-is' m s H ∙ other-0 (within room (length c)) z args (left-state s) (is-so z 0 fit-z (omega arith) q)))
-            (E (withOps o m) (left-state s) args (g (H .fit .ops) (H .fit .bounds .operands)) n (left-holds m s H))
+        others-flex hh ps' c' q g E m s n w H =
+            subst (Meets r (withOps o (withPs ps' (withCells x (after t r c' m))))) (sym (call-is' m s H ∙ other-0 (within room (length c)) z args (left-state s) (is-so z 0 fit-z (omega arith) q)))
+            (E (withOps o m) (left-state s) args (g (H .fit .ops) (H .fit .bounds .operands)) n w (left-holds m s H))
 
         -- another: no group is made
-        others-plain : (ps' x' : List Float) (out : State → Outcome) → r .st .groups ≡ t .groups → ((s : State) → otherSubr (within room (length c)) z args (left-state s) ≡ out s) → ((m : Mem) (s : State) → Holds t (withOps o (withPs ps (withCells x (withPath e a c m)))) s → Meets r (withOps o (withPs ps' (withCells x' (withPath e a c m)))) (out s)) → Others t r o ps x e a c ps' x' e a c room
-        others-plain ps' x' out g f M m s n H =
-            subst (Meets r (withOps o (withPs ps' (withCells x' (after t r e a c m))))) (sym (call-is' m s H ∙ f s))
-            (after-none t r e a c (withOps o (withPs ps' (withCells x' m))) (out s) g (M m s H))
+        others-plain : (ps' x' : List Float) (out : State → Outcome) → r .st .groups ≡ t .groups → ((s : State) → otherSubr (within room (length c)) z args (left-state s) ≡ out s) → ((m : Mem) (s : State) → Holds t (withOps o (withPs ps (withCells x (withCmds c m)))) s → Meets r (withOps o (withPs ps' (withCells x' (withCmds c m)))) (out s)) → Others same t r o ps x c ps' x' c room
+        others-plain ps' x' out g f M m s n w H =
+            subst (Meets r (withOps o (withPs ps' (withCells x' (after t r c m))))) (sym (call-is' m s H ∙ f s))
+            (after-none t r c (withOps o (withPs ps' (withCells x' m))) (out s) g (M m s H))
 
         module _ (n0 : ofZ w64 z ≡ 0 → ⊥) where
-          pub others-begin : r ≡ ranOf (flexBegun (withCount from t)) 0 → ofZ w64 z ≡ 1 → Others t r o ps x e a c ps x e a c room
+          pub others-begin : r ≡ ranOf (flexBegun (withCount from t)) 0 → ofZ w64 z ≡ 1 → Others same t r o ps x c ps x c room
           others-begin p q =
               others-plain ps x (λ s. going (withFlex (some []) (left-state s))) (ap (λ (v : Ran). v .st .groups) p) (λ s. other-1 (within room (length c)) z args (left-state s) (is-not z 0 n0) (is-so z 1 fit-z (omega arith) q))
-              (λ m s H. (ap (λ (v : Ran). v .flow) p, subst (λ (v : Ran). Holds (v .st) (withOps o (withPs ps (withCells x (withPath e a c m)))) (withFlex (some []) (left-state s))) (sym p) (begun-holds (withCount from t) _ (left-state s) (left-holds m s H))))
+              (λ m s H. (ap (λ (v : Ran). v .flow) p, subst (λ (v : Ran). Holds (v .st) (withOps o (withPs ps (withCells x (withCmds c m)))) (withFlex (some []) (left-state s))) (sym p) (begun-holds (withCount from t) _ (left-state s) (left-holds m s H))))
 
           module _ (n1 : ofZ w64 z ≡ 1 → ⊥) where
-            pub others-collect : (x' : List Float) → ofZ w64 z ≡ 2 → r .st .groups ≡ t .groups → Collects (withCount from t) r x x' → Others t r o ps x e a c ps x' e a c room
+            pub others-collect : (x' : List Float) → ofZ w64 z ≡ 2 → r .st .groups ≡ t .groups → Collects (withCount from t) r x x' → Others same t r o ps x c ps x' c room
             others-collect x' q g C =
                 others-plain ps x' (λ s. otherSubr2 (left-state s)) g (λ s. other-2 (within room (length c)) z args (left-state s) (is-not z 0 n0) (is-not z 1 n1) (is-so z 2 fit-z (omega arith) q))
-                (λ m s H. C (withOps o (withPs ps (withPath e a c m))) (left-state s) (left-holds m s H))
+                (λ m s H. C (withOps o (withPs ps (withCmds c m))) (left-state s) (left-holds m s H))
 
             module _ (n2 : ofZ w64 z ≡ 2 → ⊥) where
-              back : (u : St) (ps' : List Float) (v : State) (m : Mem) → length o ≡ 256 → Holds u (withOps o (withPs ps (withCells x (withPath e a c m)))) v → Hands u r o from (t .operands - 2) ps ps' → Meets r (withOps o (withPs ps' (withCells x (withPath e a c m)))) (handBack (within room (length c)) (backwards args) v)
-              back u ps' v m n K B = subst (λ (b : List Float). Meets r (withOps o (withPs ps' (withCells x (withPath e a c m)))) (handBack (within room (length c)) (backwards b) v)) (sym (drop-take from (t .operands - 2) o)) (B (withOps o (withCells x (withPath e a c m))) v room (length c) n K)
+              back : (u : St) (ps' : List Float) (v : State) (m : Mem) → length o ≡ 256 → Holds u (withOps o (withPs ps (withCells x (withCmds c m)))) v → Hands u r o from (t .operands - 2) ps ps' → Meets r (withOps o (withPs ps' (withCells x (withCmds c m)))) (handBack (within room (length c)) (backwards args) v)
+              back u ps' v m n K B = subst (λ (b : List Float). Meets r (withOps o (withPs ps' (withCells x (withCmds c m)))) (handBack (within room (length c)) (backwards b) v)) (sym (drop-take from (t .operands - 2) o)) (B (withOps o (withCells x (withCmds c m))) v room (length c) n K)
 
-              pub others-hints : (ps' : List Float) → ofZ w64 z ≡ 3 → r .st .groups ≡ t .groups → Hands (hintsOff (withCount from t)) r o from (t .operands - 2) ps ps' → Others t r o ps x e a c ps' x e a c room
+              pub others-hints : (ps' : List Float) → ofZ w64 z ≡ 3 → r .st .groups ≡ t .groups → Hands (hintsOff (withCount from t)) r o from (t .operands - 2) ps ps' → Others same t r o ps x c ps' x c room
               others-hints ps' q g B =
                   others-plain ps' x (λ s. handBack (within room (length c)) (backwards args) (State.withHints [] (left-state s))) g (λ s. other-3 (within room (length c)) z args (left-state s) (is-not z 0 n0) (is-not z 1 n1) (is-not z 2 n2) (is-so z 3 fit-z (omega arith) q))
                   (λ m s H. back (hintsOff (withCount from t)) ps' (State.withHints [] (left-state s)) m (H .fit .ops) (off-holds (withCount from t) _ (left-state s) (left-holds m s H)) B)
 
-              pub others-unknown : (ps' : List Float) → (ofZ w64 z ≡ 3 → ⊥) → r .st .groups ≡ t .groups → Hands (withCount from t) r o from (t .operands - 2) ps ps' → Others t r o ps x e a c ps' x e a c room
+              pub others-unknown : (ps' : List Float) → (ofZ w64 z ≡ 3 → ⊥) → r .st .groups ≡ t .groups → Hands (withCount from t) r o from (t .operands - 2) ps ps' → Others same t r o ps x c ps' x c room
               others-unknown ps' n3 g B =
                   others-plain ps' x (λ s. handBack (within room (length c)) (backwards args) (left-state s)) g (λ s. other-else (within room (length c)) z args (left-state s) (is-not z 0 n0) (is-not z 1 n1) (is-not z 2 n2) (is-not z 3 n3))
                   (λ m s H. back (withCount from t) ps' (left-state s) m (H .fit .ops) (left-holds m s H) B)

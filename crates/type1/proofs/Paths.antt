@@ -18,10 +18,10 @@ use Rattle.type1.specs.declared.St.{St}
 use Rattle.type1.specs.declared.Ran.{Ran}
 use Rattle.type1.specs.State.{Command, move, line, curve, State, withPoint, withOpen}
 use Rattle.type1.specs.Run.{pick, Limits, within, Outcome, going, returning, ending, refused, andThen, check, commit, enter, list, pointAt, isFinite, shifted, noFlex, moveBy, openSubpath, lineTo, lineBy, curveTo, curveBy, samePoint, setPoint}
-use Rattle.type1.specs.Memory.{Mem, stemsAt, flexIn, abs, Bounds, Fit, Holds, Meets, kept, after, withPath, withStems, withCmds, Plain, Path}
-use Rattle.type1.specs.Small.{ranOf, withXY, withOpened, openedRan, Grown, Entered, Space, Quiet}
+use Rattle.type1.specs.Memory.{Mem, stemsAt, flexIn, abs, Bounds, Fit, Holds, Meets, kept, after, withCmds, withStems, Told, Plain, Path}
+use Rattle.type1.specs.Small.{ranOf, withXY, withOpened, openedRan, Grown, Entered, Space}
 use Rattle.type1.proofs.Hints.{stems-length}
-use Rattle.type1.proofs.Groups.{Step, kept-none, after-none}
+use Rattle.type1.proofs.Groups.{Step, kept-none, after-none, quiet-told}
 
 -- ---- one step after another
 pub stop-then : (r : Ran) (M : Mem) (o : Outcome) (k : State → Outcome) → Meets r M o → (r .flow ≡ 0 → ⊥) → Meets r M (andThen o k)
@@ -53,17 +53,17 @@ kept-length t u e a z h = go (eqb (t .groups) (u .groups)) refl
 abbrev pub Enters : St → Ran → List ℕ → List ℕ → Command → Type 0
 Enters t r c c' x = (m : Mem) (s : State) (room : ℕ) → Holds t (withCmds c m) s → Meets r (withCmds c' m) (enter (within room (length c)) x s)
 
-pub lists-stop : (t : St) (r : Ran) (e e' : List Float) (a a' : List Bool) (c c' : List ℕ) (room : ℕ) (x : Command) → Step t r e a c e' a' c' room commit → (r .flow ≡ 0 → ⊥) → Step t r e a c e' a' c' room (λ lim. list lim x)
+pub lists-stop : (same : Bool) (t : St) (r : Ran) (c c' : List ℕ) (room : ℕ) (x : Command) → Step same t r c c' room commit → (r .flow ≡ 0 → ⊥) → Step same t r c c' room (λ lim. list lim x)
 unfolding list
-lists-stop t r e e' a a' c c' room x C n m s q H = stop-then r (after t r e' a' c' m) (commit (within room (length c)) s) (enter (within room (length c)) x) (C m s q H) n
+lists-stop same t r c c' room x C n m s q w H = stop-then r (after t r c' m) (commit (within room (length c)) s) (enter (within room (length c)) x) (C m s q w H) n
 
-pub lists-on : (t : St) (d r : Ran) (e e' : List Float) (a a' : List Bool) (c c' c'' : List ℕ) (room : ℕ) (x : Command) → Step t d e a c e' a' c' room commit → d .flow ≡ 0 → length c' ≡ length c → Enters (d .st) r c' c'' x → Plain (d .st) (r .st) → Step t r e a c e' a' c'' room (λ lim. list lim x)
+pub lists-on : (same : Bool) (t : St) (d r : Ran) (c c' c'' : List ℕ) (room : ℕ) (x : Command) → Step same t d c c' room commit → d .flow ≡ 0 → length c' ≡ length c → Enters (d .st) r c' c'' x → Plain (d .st) (r .st) → Step same t r c c'' room (λ lim. list lim x)
 unfolding list
-lists-on t d r e e' a a' c c' c'' room x C z len E P m s q H =
-    let M = after t d e' a' c' m in
-    let (u, h, k) = go-then d M (commit (within room (length c)) s) (enter (within room (length c)) x) (C m s q H) z in
-    subst (Meets r (after t r e' a' c'' m)) (sym k)
-    (subst (λ (y : List Stem). Meets r (withPath e' a' c'' (withStems y m)) (enter (within room (length c)) x u)) (sym (kept-same t (r .st) (d .st) e' a' (m .stems) (P .groups)))
+lists-on same t d r c c' c'' room x C z len E P m s q w H =
+    let M = after t d c' m in
+    let (u, h, k) = go-then d M (commit (within room (length c)) s) (enter (within room (length c)) x) (C m s q w H) z in
+    subst (Meets r (after t r c'' m)) (sym k)
+    (subst (λ (y : List Stem). Meets r (withCmds c'' (withStems y m)) (enter (within room (length c)) x u)) (sym (kept-same t (r .st) (d .st) (m .edges) (m .across) (m .stems) (P .groups)))
     (subst (λ (n : ℕ). Meets r (withCmds c'' M) (enter (within room n) x u)) len (E M u room h)))
 
 -- ---- the small state over two steps
@@ -129,10 +129,10 @@ opened-like r q e = subst (λ (x : Ran). (x .flow ≡ r .flow) × ((x .st .group
     go true z = (sym (eqb-true (r .flow) 0 z), (refl, refl))
     go false z = (refl, (refl, refl))
 
-pub opened-step : (t : St) (r q : Ran) (e e' : List Float) (a a' : List Bool) (c c' : List ℕ) (room : ℕ) (D : Limits → State → Outcome) → q ≡ openedRan r → Step t r e a c e' a' c' room D → Step t q e a c e' a' c' room (λ lim s. andThen (D lim s) (λ u. going (withOpen true u)))
-opened-step t r q e e' a a' c c' room D p S m s z H =
-    subst (λ (y : List Stem). Meets q (withPath e' a' c' (withStems y m)) (andThen (D (within room (length c)) s) (λ u. going (withOpen true u)))) (sym (kept-same t (q .st) (r .st) e' a' (m .stems) (opened-like r q p .1 .0)))
-    (opened-meets r q (after t r e' a' c' m) (D (within room (length c)) s) p (S m s z H))
+pub opened-step : (same : Bool) (t : St) (r q : Ran) (c c' : List ℕ) (room : ℕ) (D : Limits → State → Outcome) → q ≡ openedRan r → Step same t r c c' room D → Step same t q c c' room (λ lim s. andThen (D lim s) (λ u. going (withOpen true u)))
+opened-step same t r q c c' room D p S m s z w H =
+    subst (λ (y : List Stem). Meets q (withCmds c' (withStems y m)) (andThen (D (within room (length c)) s) (λ u. going (withOpen true u)))) (sym (kept-same t (q .st) (r .st) (m .edges) (m .across) (m .stems) (opened-like r q p .1 .0)))
+    (opened-meets r q (after t r c' m) (D (within room (length c)) s) p (S m s z w H))
 
 pub opened-path : (t : St) (r q : Ran) (room : ℕ) → q ≡ openedRan r → Path t r room → Path t q room
 opened-path t r q room e P =
@@ -146,9 +146,9 @@ opened-grown t r q words room e G = subst (λ (x : Ran). Grown t (x .st) words r
     go true = let b = G .bounds in record { bounds = record { operands = b .operands; postscript = b .postscript; points = b .points; hints = b .hints; last = b .last; groups = b .groups; entries = b .entries; ran = b .ran }; stems = G .stems; hints = G .hints; x = G .x; y = G .y }
     go false = G
 
-after-moved : (t : St) (r : Ran) (e : List Float) (a : List Bool) (c : List ℕ) (m : Mem) (o : Outcome) (x y : Float) → Meets r (after (withXY x y t) r e a c m) o → Meets r (after t r e a c m) o
+after-moved : (t : St) (r : Ran) (c : List ℕ) (m : Mem) (o : Outcome) (x y : Float) → Meets r (after (withXY x y t) r c m) o → Meets r (after t r c m) o
 unfolding kept
-after-moved t r e a c m o x y M = M
+after-moved t r c m o x y M = M
 
 -- ---- 21, 22, 4
 module _ (t : St) (m : Mem) (s : State) (H : Holds t m s) (lim : Limits) (dx dy : Float) where
@@ -171,75 +171,75 @@ module _ (t : St) (m : Mem) (s : State) (H : Holds t m s) (lim : Limits) (dx dy 
 refused-meets : (r : Ran) (M : Mem) (t : St) (n : ℕ) (o : Outcome) → r ≡ ranOf t n → o ≡ refused n → 3 ≤ n → Meets r M o
 refused-meets r M t n o e p h = subst (Meets r M) (sym p) (ap (λ (q : Ran). q .flow) e, h)
 
-module _ (t : St) (r : Ran) (e : List Float) (a : List Bool) (c : List ℕ) (room : ℕ) (dx dy : Float) where
-  pub moves-infinite : r ≡ ranOf t 14 → isFinite (pointAt (add binary64 (t .x) dx) (add binary64 (t .y) dy)) ≡ false → Step t r e a c e a c room (λ lim. moveBy lim dx dy)
-  moves-infinite p f m s q H = refused-meets r (after t r e a c m) t 14 (moveBy (within room (length c)) dx dy s) p (move-is t (withPath e a c m) s H (within room (length c)) dx dy ∙ ap (λ (b : Bool). check b 14 (pick (not (t .flexing)) (andThen (list (within room (length c)) (move (there t (withPath e a c m) s H (within room (length c)) dx dy)) (withPoint (there t (withPath e a c m) s H (within room (length c)) dx dy) s)) (λ u. going (withOpen true u))) (going (withPoint (there t (withPath e a c m) s H (within room (length c)) dx dy) s)))) f) (lit≤ tt)
+module _ (same : Bool) (t : St) (r : Ran) (c : List ℕ) (room : ℕ) (dx dy : Float) where
+  pub moves-infinite : r ≡ ranOf t 14 → isFinite (pointAt (add binary64 (t .x) dx) (add binary64 (t .y) dy)) ≡ false → Step same t r c c room (λ lim. moveBy lim dx dy)
+  moves-infinite p f m s q w H = refused-meets r (after t r c m) t 14 (moveBy (within room (length c)) dx dy s) p (move-is t (withCmds c m) s H (within room (length c)) dx dy ∙ ap (λ (b : Bool). check b 14 (pick (not (t .flexing)) (andThen (list (within room (length c)) (move (there t (withCmds c m) s H (within room (length c)) dx dy)) (withPoint (there t (withCmds c m) s H (within room (length c)) dx dy) s)) (λ u. going (withOpen true u))) (going (withPoint (there t (withCmds c m) s H (within room (length c)) dx dy) s)))) f) (lit≤ tt)
 
-  pub lines-infinite : r ≡ ranOf t 14 → isFinite (pointAt (add binary64 (t .x) dx) (add binary64 (t .y) dy)) ≡ false → Step t r e a c e a c room (λ lim. lineTo lim dx dy)
-  lines-infinite p f m s q H = refused-meets r (after t r e a c m) t 14 (lineTo (within room (length c)) dx dy s) p (line-is t (withPath e a c m) s H (within room (length c)) dx dy ∙ ap (λ (b : Bool). check b 14 (list (within room (length c)) (line (there t (withPath e a c m) s H (within room (length c)) dx dy)) (withPoint (there t (withPath e a c m) s H (within room (length c)) dx dy) s))) f) (lit≤ tt)
+  pub lines-infinite : r ≡ ranOf t 14 → isFinite (pointAt (add binary64 (t .x) dx) (add binary64 (t .y) dy)) ≡ false → Step same t r c c room (λ lim. lineTo lim dx dy)
+  lines-infinite p f m s q w H = refused-meets r (after t r c m) t 14 (lineTo (within room (length c)) dx dy s) p (line-is t (withCmds c m) s H (within room (length c)) dx dy ∙ ap (λ (b : Bool). check b 14 (list (within room (length c)) (line (there t (withCmds c m) s H (within room (length c)) dx dy)) (withPoint (there t (withCmds c m) s H (within room (length c)) dx dy) s))) f) (lit≤ tt)
 
-  pub moves-flexing : r ≡ ranOf (withXY (add binary64 (t .x) dx) (add binary64 (t .y) dy) t) 0 → isFinite (pointAt (add binary64 (t .x) dx) (add binary64 (t .y) dy)) ≡ true → t .flexing ≡ true → Step t r e a c e a c room (λ lim. moveBy lim dx dy)
-  moves-flexing p f g m s q H =
-      let M = withPath e a c m in
+  pub moves-flexing : r ≡ ranOf (withXY (add binary64 (t .x) dx) (add binary64 (t .y) dy) t) 0 → isFinite (pointAt (add binary64 (t .x) dx) (add binary64 (t .y) dy)) ≡ true → t .flexing ≡ true → Step same t r c c room (λ lim. moveBy lim dx dy)
+  moves-flexing p f g m s q w H =
+      let M = withCmds c m in
       let lim = within room (length c) in
       let P = there t M s H lim dx dy in
-      subst (Meets r (after t r e a c m)) (sym (move-is t M s H lim dx dy ∙ ap₂ (λ (b d : Bool). check b 14 (pick (not d) (andThen (list lim (move P) (withPoint P s)) (λ u. going (withOpen true u))) (going (withPoint P s)))) f g))
-      (after-none t r e a c m (going (withPoint P s)) (ap (λ (x : Ran). x .st .groups) p) (ap (λ (x : Ran). x .flow) p, subst (λ (x : Ran). Holds (x .st) M (withPoint P s)) (sym p) (moved t M s (add binary64 (t .x) dx) (add binary64 (t .y) dy) H)))
+      subst (Meets r (after t r c m)) (sym (move-is t M s H lim dx dy ∙ ap₂ (λ (b d : Bool). check b 14 (pick (not d) (andThen (list lim (move P) (withPoint P s)) (λ u. going (withOpen true u))) (going (withPoint P s)))) f g))
+      (after-none t r c m (going (withPoint P s)) (ap (λ (x : Ran). x .st .groups) p) (ap (λ (x : Ran). x .flow) p, subst (λ (x : Ran). Holds (x .st) M (withPoint P s)) (sym p) (moved t M s (add binary64 (t .x) dx) (add binary64 (t .y) dy) H)))
 
-module _ (t : St) (r : Ran) (e e' : List Float) (a a' : List Bool) (c c' : List ℕ) (room : ℕ) (dx dy : Float) where
+module _ (same : Bool) (t : St) (r : Ran) (c c' : List ℕ) (room : ℕ) (dx dy : Float) where
   pub moves-on : isFinite (pointAt (add binary64 (t .x) dx) (add binary64 (t .y) dy)) ≡ true → t .flexing ≡ false
-      → Step (withXY (add binary64 (t .x) dx) (add binary64 (t .y) dy) t) r e a c e' a' c' room (λ lim s. andThen (list lim (move (pointAt (add binary64 (t .x) dx) (add binary64 (t .y) dy))) s) (λ u. going (withOpen true u)))
-      → Step t r e a c e' a' c' room (λ lim. moveBy lim dx dy)
-  moves-on f g S m s q H =
-      let M = withPath e a c m in
+      → Step same (withXY (add binary64 (t .x) dx) (add binary64 (t .y) dy) t) r c c' room (λ lim s. andThen (list lim (move (pointAt (add binary64 (t .x) dx) (add binary64 (t .y) dy))) s) (λ u. going (withOpen true u)))
+      → Step same t r c c' room (λ lim. moveBy lim dx dy)
+  moves-on f g S m s q w H =
+      let M = withCmds c m in
       let lim = within room (length c) in
       let P = there t M s H lim dx dy in
-      subst (Meets r (after t r e' a' c' m)) (sym (move-is t M s H lim dx dy ∙ ap₂ (λ (b d : Bool). check b 14 (pick (not d) (andThen (list lim (move P) (withPoint P s)) (λ u. going (withOpen true u))) (going (withPoint P s)))) f g))
-      (after-moved t r e' a' c' m (andThen (list lim (move P) (withPoint P s)) (λ u. going (withOpen true u))) (add binary64 (t .x) dx) (add binary64 (t .y) dy) (S m (withPoint P s) q (moved t M s (add binary64 (t .x) dx) (add binary64 (t .y) dy) H)))
+      subst (Meets r (after t r c' m)) (sym (move-is t M s H lim dx dy ∙ ap₂ (λ (b d : Bool). check b 14 (pick (not d) (andThen (list lim (move P) (withPoint P s)) (λ u. going (withOpen true u))) (going (withPoint P s)))) f g))
+      (after-moved t r c' m (andThen (list lim (move P) (withPoint P s)) (λ u. going (withOpen true u))) (add binary64 (t .x) dx) (add binary64 (t .y) dy) (S m (withPoint P s) q w (moved t M s (add binary64 (t .x) dx) (add binary64 (t .y) dy) H)))
 
   pub lines-on : isFinite (pointAt (add binary64 (t .x) dx) (add binary64 (t .y) dy)) ≡ true
-      → Step (withXY (add binary64 (t .x) dx) (add binary64 (t .y) dy) t) r e a c e' a' c' room (λ lim. list lim (line (pointAt (add binary64 (t .x) dx) (add binary64 (t .y) dy))))
-      → Step t r e a c e' a' c' room (λ lim. lineTo lim dx dy)
-  lines-on f S m s q H =
-      let M = withPath e a c m in
+      → Step same (withXY (add binary64 (t .x) dx) (add binary64 (t .y) dy) t) r c c' room (λ lim. list lim (line (pointAt (add binary64 (t .x) dx) (add binary64 (t .y) dy))))
+      → Step same t r c c' room (λ lim. lineTo lim dx dy)
+  lines-on f S m s q w H =
+      let M = withCmds c m in
       let lim = within room (length c) in
       let P = there t M s H lim dx dy in
-      subst (Meets r (after t r e' a' c' m)) (sym (line-is t M s H lim dx dy ∙ ap (λ (b : Bool). check b 14 (list lim (line P) (withPoint P s))) f))
-      (after-moved t r e' a' c' m (list lim (line P) (withPoint P s)) (add binary64 (t .x) dx) (add binary64 (t .y) dy) (S m (withPoint P s) q (moved t M s (add binary64 (t .x) dx) (add binary64 (t .y) dy) H)))
+      subst (Meets r (after t r c' m)) (sym (line-is t M s H lim dx dy ∙ ap (λ (b : Bool). check b 14 (list lim (line P) (withPoint P s))) f))
+      (after-moved t r c' m (list lim (line P) (withPoint P s)) (add binary64 (t .x) dx) (add binary64 (t .y) dy) (S m (withPoint P s) q w (moved t M s (add binary64 (t .x) dx) (add binary64 (t .y) dy) H)))
 
 -- ---- a line or curve with no subpath open: D with a subpath open, after its first move
-module _ (D : Limits → State → Outcome) (t : St) (e e' : List Float) (a a' : List Bool) (c c' : List ℕ) (room : ℕ) where
-  pub begins-open : (r : Ran) → t .opened ≡ true → Step t r e a c e' a' c' room D → Step t r e a c e' a' c' room (λ lim s. andThen (openSubpath lim s) (D lim))
+module _ (same : Bool) (D : Limits → State → Outcome) (t : St) (c c' : List ℕ) (room : ℕ) where
+  pub begins-open : (r : Ran) → t .opened ≡ true → Step same t r c c' room D → Step same t r c c' room (λ lim s. andThen (openSubpath lim s) (D lim))
   unfolding openSubpath
-  begins-open r o S m s q H =
+  begins-open r o S m s q w H =
       let lim = within room (length c) in
-      subst (λ (b : Bool). Meets r (after t r e' a' c' m) (andThen (pick b (going s) (andThen (list lim (move (s .point)) s) (λ u. going (withOpen true u)))) (D lim))) (sym (opened-is t (withPath e a c m) s H ∙ o)) (S m s q H)
+      subst (λ (b : Bool). Meets r (after t r c' m) (andThen (pick b (going s) (andThen (list lim (move (s .point)) s) (λ u. going (withOpen true u)))) (D lim))) (sym (opened-is t (withCmds c m) s H ∙ o)) (S m s q w H)
 
-  first-move : (lim : Limits) (m : Mem) (s : State) → Holds t (withPath e a c m) s → t .opened ≡ false → openSubpath lim s ≡ andThen (list lim (move (pointAt (t .x) (t .y))) s) (λ u. going (withOpen true u))
+  first-move : (lim : Limits) (m : Mem) (s : State) → Holds t (withCmds c m) s → t .opened ≡ false → openSubpath lim s ≡ andThen (list lim (move (pointAt (t .x) (t .y))) s) (λ u. going (withOpen true u))
   unfolding openSubpath
   first-move lim m s H o =
-      ap (λ (b : Bool). pick b (going s) (andThen (list lim (move (s .point)) s) (λ u. going (withOpen true u)))) (opened-is t (withPath e a c m) s H ∙ o)
-      ∙ ap (λ (p : Point). andThen (list lim (move p) s) (λ u. going (withOpen true u))) (point-is t (withPath e a c m) s H)
+      ap (λ (b : Bool). pick b (going s) (andThen (list lim (move (s .point)) s) (λ u. going (withOpen true u)))) (opened-is t (withCmds c m) s H ∙ o)
+      ∙ ap (λ (p : Point). andThen (list lim (move p) s) (λ u. going (withOpen true u))) (point-is t (withCmds c m) s H)
 
-  pub begins-stop : (r : Ran) → t .opened ≡ false → Step t r e a c e' a' c' room (λ lim s. andThen (list lim (move (pointAt (t .x) (t .y))) s) (λ u. going (withOpen true u))) → (r .flow ≡ 0 → ⊥) → Step t r e a c e' a' c' room (λ lim s. andThen (openSubpath lim s) (D lim))
-  begins-stop r o S n m s q H =
+  pub begins-stop : (r : Ran) → t .opened ≡ false → Step same t r c c' room (λ lim s. andThen (list lim (move (pointAt (t .x) (t .y))) s) (λ u. going (withOpen true u))) → (r .flow ≡ 0 → ⊥) → Step same t r c c' room (λ lim s. andThen (openSubpath lim s) (D lim))
+  begins-stop r o S n m s q w H =
       let lim = within room (length c) in
-      subst (λ (x : Outcome). Meets r (after t r e' a' c' m) (andThen x (D lim))) (sym (first-move lim m s H o)) (stop-then r (after t r e' a' c' m) (andThen (list lim (move (pointAt (t .x) (t .y))) s) (λ u. going (withOpen true u))) (D lim) (S m s q H) n)
+      subst (λ (x : Outcome). Meets r (after t r c' m) (andThen x (D lim))) (sym (first-move lim m s H o)) (stop-then r (after t r c' m) (andThen (list lim (move (pointAt (t .x) (t .y))) s) (λ u. going (withOpen true u))) (D lim) (S m s q w H) n)
 
-  pub begins-move : (d r : Ran) (e'' : List Float) (a'' : List Bool) (c'' : List ℕ) → t .opened ≡ false → Step t d e a c e' a' c' room (λ lim s. andThen (list lim (move (pointAt (t .x) (t .y))) s) (λ u. going (withOpen true u))) → d .flow ≡ 0 → Path t d room → length c' ≡ length c
-      → Step (d .st) r e' a' c' e'' a'' c'' room D → Path (d .st) r room → Quiet (d .st) e' a' e'' a'' → Step t r e a c e'' a'' c'' room (λ lim s. andThen (openSubpath lim s) (D lim))
-  begins-move d r e'' a'' c'' o S z P len N Q still m s q H =
+  pub begins-move : (d r : Ran) (c'' : List ℕ) → t .opened ≡ false → Step same t d c c' room (λ lim s. andThen (list lim (move (pointAt (t .x) (t .y))) s) (λ u. going (withOpen true u))) → d .flow ≡ 0 → Path t d room → length c' ≡ length c
+      → Step same (d .st) r c' c'' room D → Path (d .st) r room → Step same t r c c'' room (λ lim s. andThen (openSubpath lim s) (D lim))
+  begins-move d r c'' o S z P len N Q m s q w H =
       let lim = within room (length c) in
-      let M = after t d e' a' c' m in
-      let Z = kept t (d .st) e' a' (m .stems) in
-      let (u, h, k) = go-then d M (andThen (list lim (move (pointAt (t .x) (t .y))) s) (λ u. going (withOpen true u))) (D lim) (S m s q H) z in
+      let M = after t d c' m in
+      let Z = kept t (d .st) (m .edges) (m .across) (m .stems) in
+      let (u, h, k) = go-then d M (andThen (list lim (move (pointAt (t .x) (t .y))) s) (λ u. going (withOpen true u))) (D lim) (S m s q w H) z in
       let quiet : d .st .changed ≡ false = P .settled z in
-      let same : r .st .groups ≡ d .st .groups = Q .quiet quiet in
-      let n : Meets r (after (d .st) r e'' a'' c'' (withStems Z m)) (D (within room (length c')) u) = N (withStems Z m) u (kept-length t (d .st) e' a' (m .stems) (λ g. subst (λ (j : ℕ). t .stems + t .hints ≤ j) (sym q) (P .space g)) ∙ q) h in
-      let stems-are : kept (d .st) (r .st) e'' a'' Z ≡ kept t (r .st) e'' a'' (m .stems) = kept-none (d .st) (r .st) e'' a'' Z same ∙ ap₂ (λ (x : List Float) (y : List Bool). kept t (d .st) x y (m .stems)) (sym (still quiet .0)) (sym (still quiet .1)) ∙ kept-same t (d .st) (r .st) e'' a'' (m .stems) (sym same) in
-      subst (Meets r (after t r e'' a'' c'' m)) (sym (ap (λ (x : Outcome). andThen x (D lim)) (first-move lim m s H o) ∙ k))
-      (subst (λ (y : List Stem). Meets r (withPath e'' a'' c'' (withStems y m)) (D lim u)) stems-are
-      (subst (λ (j : ℕ). Meets r (after (d .st) r e'' a'' c'' (withStems Z m)) (D (within room j) u)) len n))
+      let same-groups : r .st .groups ≡ d .st .groups = Q .quiet quiet in
+      let n : Meets r (after (d .st) r c'' (withStems Z m)) (D (within room (length c')) u) = N (withStems Z m) u (kept-length t (d .st) (m .edges) (m .across) (m .stems) (λ g. subst (λ (j : ℕ). t .stems + t .hints ≤ j) (sym q) (P .space g)) ∙ q) (quiet-told same (d .st) M u h quiet) h in
+      let stems-are : kept (d .st) (r .st) (m .edges) (m .across) Z ≡ kept t (r .st) (m .edges) (m .across) (m .stems) = kept-none (d .st) (r .st) (m .edges) (m .across) Z same-groups ∙ kept-same t (d .st) (r .st) (m .edges) (m .across) (m .stems) (sym same-groups) in
+      subst (Meets r (after t r c'' m)) (sym (ap (λ (x : Outcome). andThen x (D lim)) (first-move lim m s H o) ∙ k))
+      (subst (λ (y : List Stem). Meets r (withCmds c'' (withStems y m)) (D lim u)) stems-are
+      (subst (λ (j : ℕ). Meets r (after (d .st) r c'' (withStems Z m)) (D (within room j) u)) len n))
 
 -- ---- what is said of groups
 pub space-of : (t : St) (r : Ran) (room : ℕ) → Path t r room → Space t (r .st) room
@@ -249,21 +249,18 @@ pub space-move : (t : St) (d r : Ran) (room : ℕ) → Path t d room → d .flow
 space-move t d r room P z Q n = P .space (λ h. n (Q .quiet (P .settled z) ∙ h))
 
 -- ---- with what `at_point` and `opened` gave
-module _ (t u : St) (d r : Ran) (e e' : List Float) (a a' : List Bool) (c c' : List ℕ) (room : ℕ) (dx dy : Float) (is : u ≡ withXY (add binary64 (t .x) dx) (add binary64 (t .y) dy) t) where
-  pub moves-listed : isFinite (pointAt (add binary64 (t .x) dx) (add binary64 (t .y) dy)) ≡ true → t .flexing ≡ false → Step u d e a c e' a' c' room (λ lim. list lim (move (pointAt (add binary64 (t .x) dx) (add binary64 (t .y) dy)))) → r ≡ openedRan d → Step t r e a c e' a' c' room (λ lim. moveBy lim dx dy)
+module _ (same : Bool) (t u : St) (d r : Ran) (c c' : List ℕ) (room : ℕ) (dx dy : Float) (is : u ≡ withXY (add binary64 (t .x) dx) (add binary64 (t .y) dy) t) where
+  pub moves-listed : isFinite (pointAt (add binary64 (t .x) dx) (add binary64 (t .y) dy)) ≡ true → t .flexing ≡ false → Step same u d c c' room (λ lim. list lim (move (pointAt (add binary64 (t .x) dx) (add binary64 (t .y) dy)))) → r ≡ openedRan d → Step same t r c c' room (λ lim. moveBy lim dx dy)
   moves-listed f g S p =
-      moves-on t r e e' a a' c c' room dx dy f g (opened-step (withXY (add binary64 (t .x) dx) (add binary64 (t .y) dy) t) d r e e' a a' c c' room (λ lim. list lim (move (pointAt (add binary64 (t .x) dx) (add binary64 (t .y) dy)))) p
-      (subst (λ (v : St). Step v d e a c e' a' c' room (λ lim. list lim (move (pointAt (add binary64 (t .x) dx) (add binary64 (t .y) dy))))) is S))
+      moves-on same t r c c' room dx dy f g (opened-step same (withXY (add binary64 (t .x) dx) (add binary64 (t .y) dy) t) d r c c' room (λ lim. list lim (move (pointAt (add binary64 (t .x) dx) (add binary64 (t .y) dy)))) p
+      (subst (λ (v : St). Step same v d c c' room (λ lim. list lim (move (pointAt (add binary64 (t .x) dx) (add binary64 (t .y) dy))))) is S))
 
-  pub lines-listed : isFinite (pointAt (add binary64 (t .x) dx) (add binary64 (t .y) dy)) ≡ true → Step u d e a c e' a' c' room (λ lim. list lim (line (pointAt (add binary64 (t .x) dx) (add binary64 (t .y) dy)))) → Step t d e a c e' a' c' room (λ lim. lineTo lim dx dy)
-  lines-listed f S = lines-on t d e e' a a' c c' room dx dy f (subst (λ (v : St). Step v d e a c e' a' c' room (λ lim. list lim (line (pointAt (add binary64 (t .x) dx) (add binary64 (t .y) dy))))) is S)
+  pub lines-listed : isFinite (pointAt (add binary64 (t .x) dx) (add binary64 (t .y) dy)) ≡ true → Step same u d c c' room (λ lim. list lim (line (pointAt (add binary64 (t .x) dx) (add binary64 (t .y) dy)))) → Step same t d c c' room (λ lim. lineTo lim dx dy)
+  lines-listed f S = lines-on same t d c c' room dx dy f (subst (λ (v : St). Step same v d c c' room (λ lim. list lim (line (pointAt (add binary64 (t .x) dx) (add binary64 (t .y) dy))))) is S)
 
 -- what was said of the state at the new point is said of the state
 pub moved-path : (t u : St) (x y : Float) (d : Ran) (room : ℕ) → u ≡ withXY x y t → Path u d room → Path t d room
 moved-path t u x y d room is P = let Q = subst (λ (v : St). Path v d room) is P in record { quiet = Q .quiet; settled = Q .settled; space = Q .space }
-
-pub moved-quiet : (t u : St) (x y : Float) (e e' : List Float) (a a' : List Bool) → u ≡ withXY x y t → Quiet u e a e' a' → Quiet t e a e' a'
-moved-quiet t u x y e e' a a' is Q = subst (λ (v : St). Quiet v e a e' a') is Q
 
 pub moved-bounds : (t u : St) (x y : Float) (words room : ℕ) → u ≡ withXY x y t → Bounds t words → t .stems ≤ room → Bounds u words × (u .stems ≤ room)
 moved-bounds t u x y words room e b h = subst (λ (v : St). Bounds v words × (v .stems ≤ room)) (sym e) (record { operands = b .operands; postscript = b .postscript; points = b .points; hints = b .hints; last = b .last; groups = b .groups; entries = b .entries; ran = b .ran }, h)
@@ -280,37 +277,37 @@ space-opened t u d r room x y e p P n = subst (λ (v : St). Path v d room) e P .
 pub space-moved : (t u : St) (r : Ran) (x y : Float) (n room : ℕ) → r ≡ ranOf u n → u ≡ withXY x y t → Space t (r .st) room
 space-moved t u r x y n room e p z = absurd (z (ap (λ (q : Ran). q .st .groups) e ∙ ap (λ (v : St). v .groups) p))
 
-pub opens-first : (t : St) (r q : Ran) (e e' : List Float) (a a' : List Bool) (c c' : List ℕ) (room : ℕ) → q ≡ openedRan r → Step t r e a c e' a' c' room (λ lim. list lim (move (pointAt (t .x) (t .y)))) → Step t q e a c e' a' c' room (λ lim s. andThen (list lim (move (pointAt (t .x) (t .y))) s) (λ u. going (withOpen true u)))
-opens-first t r q e e' a a' c c' room p S = opened-step t r q e e' a a' c c' room (λ lim. list lim (move (pointAt (t .x) (t .y)))) p S
+pub opens-first : (same : Bool) (t : St) (r q : Ran) (c c' : List ℕ) (room : ℕ) → q ≡ openedRan r → Step same t r c c' room (λ lim. list lim (move (pointAt (t .x) (t .y)))) → Step same t q c c' room (λ lim s. andThen (list lim (move (pointAt (t .x) (t .y))) s) (λ u. going (withOpen true u)))
+opens-first same t r q c c' room p S = opened-step same t r q c c' room (λ lim. list lim (move (pointAt (t .x) (t .y)))) p S
 
 -- ---- 5, 6, 7 and 8, 30, 31, with their first move
-module _ (t : St) (e e' : List Float) (a a' : List Bool) (c c' : List ℕ) (room : ℕ) (dx dy : Float) where
-  pub line-open : (r : Ran) → t .opened ≡ true → Step t r e a c e' a' c' room (λ lim. lineTo lim dx dy) → Step t r e a c e' a' c' room (λ lim. lineBy lim dx dy)
+module _ (same : Bool) (t : St) (c c' : List ℕ) (room : ℕ) (dx dy : Float) where
+  pub line-open : (r : Ran) → t .opened ≡ true → Step same t r c c' room (λ lim. lineTo lim dx dy) → Step same t r c c' room (λ lim. lineBy lim dx dy)
   unfolding lineBy
-  line-open r o S = begins-open (λ lim. lineTo lim dx dy) t e e' a a' c c' room r o S
+  line-open r o S = begins-open same (λ lim. lineTo lim dx dy) t c c' room r o S
 
-  pub line-stop : (r : Ran) → t .opened ≡ false → Step t r e a c e' a' c' room (λ lim s. andThen (list lim (move (pointAt (t .x) (t .y))) s) (λ u. going (withOpen true u))) → (r .flow ≡ 0 → ⊥) → Step t r e a c e' a' c' room (λ lim. lineBy lim dx dy)
+  pub line-stop : (r : Ran) → t .opened ≡ false → Step same t r c c' room (λ lim s. andThen (list lim (move (pointAt (t .x) (t .y))) s) (λ u. going (withOpen true u))) → (r .flow ≡ 0 → ⊥) → Step same t r c c' room (λ lim. lineBy lim dx dy)
   unfolding lineBy
-  line-stop r o S n = begins-stop (λ lim. lineTo lim dx dy) t e e' a a' c c' room r o S n
+  line-stop r o S n = begins-stop same (λ lim. lineTo lim dx dy) t c c' room r o S n
 
-  pub line-move : (d r : Ran) (e'' : List Float) (a'' : List Bool) (c'' : List ℕ) → t .opened ≡ false → Step t d e a c e' a' c' room (λ lim s. andThen (list lim (move (pointAt (t .x) (t .y))) s) (λ u. going (withOpen true u))) → d .flow ≡ 0 → Path t d room → length c' ≡ length c
-      → Step (d .st) r e' a' c' e'' a'' c'' room (λ lim. lineTo lim dx dy) → Path (d .st) r room → Quiet (d .st) e' a' e'' a'' → Step t r e a c e'' a'' c'' room (λ lim. lineBy lim dx dy)
+  pub line-move : (d r : Ran) (c'' : List ℕ) → t .opened ≡ false → Step same t d c c' room (λ lim s. andThen (list lim (move (pointAt (t .x) (t .y))) s) (λ u. going (withOpen true u))) → d .flow ≡ 0 → Path t d room → length c' ≡ length c
+      → Step same (d .st) r c' c'' room (λ lim. lineTo lim dx dy) → Path (d .st) r room → Step same t r c c'' room (λ lim. lineBy lim dx dy)
   unfolding lineBy
-  line-move d r e'' a'' c'' o S z P len N Q still = begins-move (λ lim. lineTo lim dx dy) t e e' a a' c c' room d r e'' a'' c'' o S z P len N Q still
+  line-move d r c'' o S z P len N Q = begins-move same (λ lim. lineTo lim dx dy) t c c' room d r c'' o S z P len N Q
 
-module _ (t : St) (e e' : List Float) (a a' : List Bool) (c c' : List ℕ) (room : ℕ) (p q u v w z : Float) where
-  pub curve-open : (r : Ran) → t .opened ≡ true → Step t r e a c e' a' c' room (λ lim. curveTo lim p q u v w z) → Step t r e a c e' a' c' room (λ lim. curveBy lim p q u v w z)
+module _ (same : Bool) (t : St) (c c' : List ℕ) (room : ℕ) (p q u v w z : Float) where
+  pub curve-open : (r : Ran) → t .opened ≡ true → Step same t r c c' room (λ lim. curveTo lim p q u v w z) → Step same t r c c' room (λ lim. curveBy lim p q u v w z)
   unfolding curveBy
-  curve-open r o S = begins-open (λ lim. curveTo lim p q u v w z) t e e' a a' c c' room r o S
+  curve-open r o S = begins-open same (λ lim. curveTo lim p q u v w z) t c c' room r o S
 
-  pub curve-stop : (r : Ran) → t .opened ≡ false → Step t r e a c e' a' c' room (λ lim s. andThen (list lim (move (pointAt (t .x) (t .y))) s) (λ u. going (withOpen true u))) → (r .flow ≡ 0 → ⊥) → Step t r e a c e' a' c' room (λ lim. curveBy lim p q u v w z)
+  pub curve-stop : (r : Ran) → t .opened ≡ false → Step same t r c c' room (λ lim s. andThen (list lim (move (pointAt (t .x) (t .y))) s) (λ u. going (withOpen true u))) → (r .flow ≡ 0 → ⊥) → Step same t r c c' room (λ lim. curveBy lim p q u v w z)
   unfolding curveBy
-  curve-stop r o S n = begins-stop (λ lim. curveTo lim p q u v w z) t e e' a a' c c' room r o S n
+  curve-stop r o S n = begins-stop same (λ lim. curveTo lim p q u v w z) t c c' room r o S n
 
-  pub curve-move : (d r : Ran) (e'' : List Float) (a'' : List Bool) (c'' : List ℕ) → t .opened ≡ false → Step t d e a c e' a' c' room (λ lim s. andThen (list lim (move (pointAt (t .x) (t .y))) s) (λ u. going (withOpen true u))) → d .flow ≡ 0 → Path t d room → length c' ≡ length c
-      → Step (d .st) r e' a' c' e'' a'' c'' room (λ lim. curveTo lim p q u v w z) → Path (d .st) r room → Quiet (d .st) e' a' e'' a'' → Step t r e a c e'' a'' c'' room (λ lim. curveBy lim p q u v w z)
+  pub curve-move : (d r : Ran) (c'' : List ℕ) → t .opened ≡ false → Step same t d c c' room (λ lim s. andThen (list lim (move (pointAt (t .x) (t .y))) s) (λ u. going (withOpen true u))) → d .flow ≡ 0 → Path t d room → length c' ≡ length c
+      → Step same (d .st) r c' c'' room (λ lim. curveTo lim p q u v w z) → Path (d .st) r room → Step same t r c c'' room (λ lim. curveBy lim p q u v w z)
   unfolding curveBy
-  curve-move d r e'' a'' c'' o S k P len N Q still = begins-move (λ lim. curveTo lim p q u v w z) t e e' a a' c c' room d r e'' a'' c'' o S k P len N Q still
+  curve-move d r c'' o S k P len N Q = begins-move same (λ lim. curveTo lim p q u v w z) t c c' room d r c'' o S k P len N Q
 
 -- ---- a curve's three points
 module _ (t : St) (x1 y1 x2 y2 x3 y3 : Float) (dx1 dy1 dx2 dy2 dx3 dy3 : Float) (is : (x1 ≡ add binary64 (t .x) dx1) × ((y1 ≡ add binary64 (t .y) dy1) × ((x2 ≡ add binary64 x1 dx2) × ((y2 ≡ add binary64 y1 dy2) × ((x3 ≡ add binary64 x2 dx3) × (y3 ≡ add binary64 y2 dy3)))))) where
@@ -333,17 +330,17 @@ module _ (t : St) (x1 y1 x2 y2 x3 y3 : Float) (dx1 dy1 dx2 dy2 dx3 dy3 : Float) 
       ∙ ap (λ (p : Point). check (isFinite p1 && (isFinite p && isFinite (shifted p dx3 dy3))) 14 (list lim (curve p1 p (shifted p dx3 dy3)) (withPoint (shifted p dx3 dy3) s))) q2
       ∙ ap (λ (p : Point). check (isFinite p1 && (isFinite p2 && isFinite p)) 14 (list lim (curve p1 p2 p) (withPoint p s))) q3
 
-  pub curves-infinite : (r : Ran) (e : List Float) (a : List Bool) (c : List ℕ) (room : ℕ) → r ≡ ranOf t 14 → (isFinite p1 && (isFinite p2 && isFinite p3)) ≡ false → Step t r e a c e a c room (λ lim. curveTo lim dx1 dy1 dx2 dy2 dx3 dy3)
-  curves-infinite r e a c room p f m s q H =
+  pub curves-infinite : (same : Bool) (r : Ran) (c : List ℕ) (room : ℕ) → r ≡ ranOf t 14 → (isFinite p1 && (isFinite p2 && isFinite p3)) ≡ false → Step same t r c c room (λ lim. curveTo lim dx1 dy1 dx2 dy2 dx3 dy3)
+  curves-infinite same r c room p f m s q w H =
       let lim = within room (length c) in
-      refused-meets r (after t r e a c m) t 14 (curveTo lim dx1 dy1 dx2 dy2 dx3 dy3 s) p (curve-is (withPath e a c m) s H lim ∙ ap (λ (b : Bool). check b 14 (list lim (curve p1 p2 p3) (withPoint p3 s))) f) (lit≤ tt)
+      refused-meets r (after t r c m) t 14 (curveTo lim dx1 dy1 dx2 dy2 dx3 dy3 s) p (curve-is (withCmds c m) s H lim ∙ ap (λ (b : Bool). check b 14 (list lim (curve p1 p2 p3) (withPoint p3 s))) f) (lit≤ tt)
 
-  pub curves-listed : (u : St) (d : Ran) (e e' : List Float) (a a' : List Bool) (c c' : List ℕ) (room : ℕ) → u ≡ withXY x3 y3 t → (isFinite p1 && (isFinite p2 && isFinite p3)) ≡ true → Step u d e a c e' a' c' room (λ lim. list lim (curve p1 p2 p3)) → Step t d e a c e' a' c' room (λ lim. curveTo lim dx1 dy1 dx2 dy2 dx3 dy3)
-  curves-listed u d e e' a a' c c' room at f S m s q H =
-      let M = withPath e a c m in
+  pub curves-listed : (same : Bool) (u : St) (d : Ran) (c c' : List ℕ) (room : ℕ) → u ≡ withXY x3 y3 t → (isFinite p1 && (isFinite p2 && isFinite p3)) ≡ true → Step same u d c c' room (λ lim. list lim (curve p1 p2 p3)) → Step same t d c c' room (λ lim. curveTo lim dx1 dy1 dx2 dy2 dx3 dy3)
+  curves-listed same u d c c' room at f S m s q w H =
+      let M = withCmds c m in
       let lim = within room (length c) in
-      subst (Meets d (after t d e' a' c' m)) (sym (curve-is M s H lim ∙ ap (λ (b : Bool). check b 14 (list lim (curve p1 p2 p3) (withPoint p3 s))) f))
-      (after-moved t d e' a' c' m (list lim (curve p1 p2 p3) (withPoint p3 s)) x3 y3 (subst (λ (v : St). Step v d e a c e' a' c' room (λ lim. list lim (curve p1 p2 p3))) at S m (withPoint p3 s) q (moved t M s x3 y3 H)))
+      subst (Meets d (after t d c' m)) (sym (curve-is M s H lim ∙ ap (λ (b : Bool). check b 14 (list lim (curve p1 p2 p3) (withPoint p3 s))) f))
+      (after-moved t d c' m (list lim (curve p1 p2 p3) (withPoint p3 s)) x3 y3 (subst (λ (v : St). Step same v d c c' room (λ lim. list lim (curve p1 p2 p3))) at S m (withPoint p3 s) q w (moved t M s x3 y3 H)))
 
 -- ---- 12 33
 module _ (t : St) (x y : Float) where
@@ -355,26 +352,26 @@ module _ (t : St) (x y : Float) where
   set-is m s H lim =
       ap₂ (λ (b d : Bool). pick b (going s) (pick d (list lim (move (pointAt x y)) (withPoint (pointAt x y) s)) (going (withPoint (pointAt x y) s)))) (same-is m s H) (ap₂ (λ (b d : Bool). b && d) (opened-is t m s H) (flex-is t m s H))
 
-  pub sets-same : (r : Ran) (e : List Float) (a : List Bool) (c : List ℕ) (room : ℕ) → r ≡ ranOf t 0 → (eq x (t .x) && eq y (t .y)) ≡ true → Step t r e a c e a c room (λ lim. setPoint lim (pointAt x y))
-  sets-same r e a c room p f m s q H =
-      let M = withPath e a c m in
+  pub sets-same : (same : Bool) (r : Ran) (c : List ℕ) (room : ℕ) → r ≡ ranOf t 0 → (eq x (t .x) && eq y (t .y)) ≡ true → Step same t r c c room (λ lim. setPoint lim (pointAt x y))
+  sets-same same r c room p f m s q w H =
+      let M = withCmds c m in
       let lim = within room (length c) in
-      subst (Meets r (after t r e a c m)) (sym (set-is M s H lim ∙ ap (λ (b : Bool). pick b (going s) (pick (t .opened && not (t .flexing)) (list lim (move (pointAt x y)) (withPoint (pointAt x y) s)) (going (withPoint (pointAt x y) s)))) f))
-      (after-none t r e a c m (going s) (ap (λ (z : Ran). z .st .groups) p) (ap (λ (z : Ran). z .flow) p, subst (λ (z : Ran). Holds (z .st) M s) (sym p) H))
+      subst (Meets r (after t r c m)) (sym (set-is M s H lim ∙ ap (λ (b : Bool). pick b (going s) (pick (t .opened && not (t .flexing)) (list lim (move (pointAt x y)) (withPoint (pointAt x y) s)) (going (withPoint (pointAt x y) s)))) f))
+      (after-none t r c m (going s) (ap (λ (z : Ran). z .st .groups) p) (ap (λ (z : Ran). z .flow) p, subst (λ (z : Ran). Holds (z .st) M s) (sym p) H))
 
-  pub sets-silent : (r : Ran) (e : List Float) (a : List Bool) (c : List ℕ) (room : ℕ) → r ≡ ranOf (withXY x y t) 0 → (eq x (t .x) && eq y (t .y)) ≡ false → (t .opened && not (t .flexing)) ≡ false → Step t r e a c e a c room (λ lim. setPoint lim (pointAt x y))
-  sets-silent r e a c room p f g m s q H =
-      let M = withPath e a c m in
+  pub sets-silent : (same : Bool) (r : Ran) (c : List ℕ) (room : ℕ) → r ≡ ranOf (withXY x y t) 0 → (eq x (t .x) && eq y (t .y)) ≡ false → (t .opened && not (t .flexing)) ≡ false → Step same t r c c room (λ lim. setPoint lim (pointAt x y))
+  sets-silent same r c room p f g m s q w H =
+      let M = withCmds c m in
       let lim = within room (length c) in
-      subst (Meets r (after t r e a c m)) (sym (set-is M s H lim ∙ ap₂ (λ (b d : Bool). pick b (going s) (pick d (list lim (move (pointAt x y)) (withPoint (pointAt x y) s)) (going (withPoint (pointAt x y) s)))) f g))
-      (after-none t r e a c m (going (withPoint (pointAt x y) s)) (ap (λ (z : Ran). z .st .groups) p) (ap (λ (z : Ran). z .flow) p, subst (λ (z : Ran). Holds (z .st) M (withPoint (pointAt x y) s)) (sym p) (moved t M s x y H)))
+      subst (Meets r (after t r c m)) (sym (set-is M s H lim ∙ ap₂ (λ (b d : Bool). pick b (going s) (pick d (list lim (move (pointAt x y)) (withPoint (pointAt x y) s)) (going (withPoint (pointAt x y) s)))) f g))
+      (after-none t r c m (going (withPoint (pointAt x y) s)) (ap (λ (z : Ran). z .st .groups) p) (ap (λ (z : Ran). z .flow) p, subst (λ (z : Ran). Holds (z .st) M (withPoint (pointAt x y) s)) (sym p) (moved t M s x y H)))
 
-  pub sets-listed : (u : St) (d : Ran) (e e' : List Float) (a a' : List Bool) (c c' : List ℕ) (room : ℕ) → u ≡ withXY x y t → (eq x (t .x) && eq y (t .y)) ≡ false → (t .opened && not (t .flexing)) ≡ true → Step u d e a c e' a' c' room (λ lim. list lim (move (pointAt x y))) → Step t d e a c e' a' c' room (λ lim. setPoint lim (pointAt x y))
-  sets-listed u d e e' a a' c c' room at f g S m s q H =
-      let M = withPath e a c m in
+  pub sets-listed : (same : Bool) (u : St) (d : Ran) (c c' : List ℕ) (room : ℕ) → u ≡ withXY x y t → (eq x (t .x) && eq y (t .y)) ≡ false → (t .opened && not (t .flexing)) ≡ true → Step same u d c c' room (λ lim. list lim (move (pointAt x y))) → Step same t d c c' room (λ lim. setPoint lim (pointAt x y))
+  sets-listed same u d c c' room at f g S m s q w H =
+      let M = withCmds c m in
       let lim = within room (length c) in
-      subst (Meets d (after t d e' a' c' m)) (sym (set-is M s H lim ∙ ap₂ (λ (b d : Bool). pick b (going s) (pick d (list lim (move (pointAt x y)) (withPoint (pointAt x y) s)) (going (withPoint (pointAt x y) s)))) f g))
-      (after-moved t d e' a' c' m (list lim (move (pointAt x y)) (withPoint (pointAt x y) s)) x y (subst (λ (v : St). Step v d e a c e' a' c' room (λ lim. list lim (move (pointAt x y)))) at S m (withPoint (pointAt x y) s) q (moved t M s x y H)))
+      subst (Meets d (after t d c' m)) (sym (set-is M s H lim ∙ ap₂ (λ (b d : Bool). pick b (going s) (pick d (list lim (move (pointAt x y)) (withPoint (pointAt x y) s)) (going (withPoint (pointAt x y) s)))) f g))
+      (after-moved t d c' m (list lim (move (pointAt x y)) (withPoint (pointAt x y) s)) x y (subst (λ (v : St). Step same v d c c' room (λ lim. list lim (move (pointAt x y)))) at S m (withPoint (pointAt x y) s) q w (moved t M s x y H)))
 
 pub grown-bounds : (t u : St) (words n room : ℕ) → Grown t u words room → n ≡ words → Bounds u n × (u .stems ≤ room)
 grown-bounds t u words n room G e = (subst (Bounds u) (sym e) (G .bounds), G .stems)
@@ -407,5 +404,5 @@ curve-after t u words n room G e = subst (λ (j : ℕ). 14 * u .entries ≤ j) (
 
 -- the first of a curve's points is not finite
 pub curves-first : (t : St) (x1 y1 x2 y2 x3 y3 dx1 dy1 dx2 dy2 dx3 dy3 : Float) → (x1 ≡ add binary64 (t .x) dx1) × ((y1 ≡ add binary64 (t .y) dy1) × ((x2 ≡ add binary64 x1 dx2) × ((y2 ≡ add binary64 y1 dy2) × ((x3 ≡ add binary64 x2 dx3) × (y3 ≡ add binary64 y2 dy3)))))
-    → (r : Ran) (e : List Float) (a : List Bool) (c : List ℕ) (room : ℕ) → r ≡ ranOf t 14 → isFinite (pointAt x1 y1) ≡ false → Step t r e a c e a c room (λ lim. curveTo lim dx1 dy1 dx2 dy2 dx3 dy3)
-curves-first t x1 y1 x2 y2 x3 y3 dx1 dy1 dx2 dy2 dx3 dy3 is r e a c room p f = curves-infinite t x1 y1 x2 y2 x3 y3 dx1 dy1 dx2 dy2 dx3 dy3 is r e a c room p (three-first (isFinite (pointAt x1 y1)) (isFinite (pointAt x2 y2)) (isFinite (pointAt x3 y3)) f)
+    → (same : Bool) (r : Ran) (c : List ℕ) (room : ℕ) → r ≡ ranOf t 14 → isFinite (pointAt x1 y1) ≡ false → Step same t r c c room (λ lim. curveTo lim dx1 dy1 dx2 dy2 dx3 dy3)
+curves-first t x1 y1 x2 y2 x3 y3 dx1 dy1 dx2 dy2 dx3 dy3 is same r c room p f = curves-infinite t x1 y1 x2 y2 x3 y3 dx1 dy1 dx2 dy2 dx3 dy3 is same r c room p (three-first (isFinite (pointAt x1 y1)) (isFinite (pointAt x2 y2)) (isFinite (pointAt x3 y3)) f)

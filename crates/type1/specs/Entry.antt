@@ -34,5 +34,5 @@ pub record Cleared (o p c e : List Float) (a : List Bool) : Type 0 where
   pub ops : o ≡ replicate 256 plusZero
   pub ps : p ≡ replicate 256 plusZero
   pub cells : c ≡ replicate 19 plusZero
-  pub edges : e ≡ replicate 1024 plusZero
-  pub across : a ≡ replicate 512 false
+  pub edges : e ≡ replicate 512 plusZero
+  pub across : a ≡ replicate 256 false

@@ -102,7 +102,7 @@ pub record Bounds (t : St) (words : ℕ) : Type 0 where
   pub postscript : t .postscript ≤ 256
   pub points : t .points ≤ 8
   pub hints : t .hints ≤ 256
-  pub last : t .last ≤ 256
+  pub last : t .last ≤ t .stems
   pub groups : t .groups ≤ 256
   pub entries : 14 * t .entries ≤ words
   pub ran : t .ran ≤ maxCharstringBytes
@@ -113,16 +113,16 @@ pub record Fit (t : St) (m : Mem) : Type 0 where
   pub ops : length (m .ops) ≡ 256
   pub ps : length (m .ps) ≡ 256
   pub cells : length (m .cells) ≡ 19
-  pub edges : length (m .edges) ≡ 1024
-  pub across : length (m .across) ≡ 512
+  pub edges : length (m .edges) ≡ 512
+  pub across : length (m .across) ≡ 256
   pub stems : t .stems ≤ length (m .stems)
   pub groups : length (groupsIn (t .entries) (m .cmds) (m .stems)) ≡ t .groups
   pub entries : length (drawnIn (t .entries) (m .cmds)) + t .groups ≡ t .entries
   pub used : stemCount (groupsIn (t .entries) (m .cmds) (m .stems)) ≡ t .stems
   -- each group's records lie below those used
   pub below : (k : ℕ) → k < t .entries → word (m .cmds) k 0 ≡ 5 → word (m .cmds) k 1 + word (m .cmds) k 2 ≤ t .stems
-  -- the last group's stems are kept
-  pub last : 0 < t .groups → (l : List Stem) → lastIs (groupsIn (t .entries) (m .cmds) (m .stems)) l ≡ sameStems (stemsAt 256 (t .last) (m .edges) (m .across)) l
+  -- the last group's stems are the last records used
+  pub last : 0 < t .groups → (l : List Stem) → lastIs (groupsIn (t .entries) (m .cmds) (m .stems)) l ≡ sameStems (take (t .last) (drop (t .stems - t .last) (m .stems))) l
 
 pub record Holds (t : St) (m : Mem) (s : State) : Type 0 where
   pub is : abs t m ≡ s
@@ -176,8 +176,12 @@ unfoldable pub kept : St → St → List Float → List Bool → List Stem → L
 kept t u e a z = pick (eqb (t .groups) (u .groups)) z (paste z (t .stems) (stemsAt 0 (t .hints) e a) (t .hints))
 
 -- after a step at a path command
-abbrev pub after : St → Ran → List Float → List Bool → List ℕ → Mem → Mem
-after t r e a c m = withPath e a c (withStems (kept t (r .st) e a (m .stems)) m)
+abbrev pub after : St → Ran → List ℕ → Mem → Mem
+after t r c m = withCmds c (withStems (kept t (r .st) (m .edges) (m .across) (m .stems)) m)
+
+-- whether changed stems in force are the last group's, in the same order, as was found before the step (document 01, "Hints")
+abbrev pub Told : Bool → State → Type 0
+Told same s = s .changed ≡ true → same ≡ lastIs (s .groups) (s .hints)
 
 -- a step that makes no group and leaves the stems in force
 pub record Plain (t u : St) : Type 0 where

@@ -21,7 +21,7 @@ use Rattle.type1.specs.Operator.{Operator}
 use Rattle.type1.specs.Number.{cut, number, operator, token, double}
 use Rattle.type1.specs.State.{Command, State}
 use Rattle.type1.specs.Run.{pick, Limits, within, Outcome, going, refused, andThen, returned, enter, operate, callSubr, runBytes}
-use Rattle.type1.specs.Memory.{Mem, abs, Fit, Holds, Meets, withOps, withCmds, withPath, after, operatorOf}
+use Rattle.type1.specs.Memory.{Mem, abs, Fit, Holds, Meets, withOps, withCmds, after, operatorOf}
 use Rattle.type1.specs.Small.{ranOf}
 
 abbrev pub cursorOf : ℕ → ℕ → Bool → Cursor
@@ -108,8 +108,8 @@ drawnTo r k t = placed 0 (r .x) (r .y) (k + 1) t
 
 -- D was done at (x, y) with k entries listed, or nothing was
 pub record Adds (D : Limits → State → Outcome) (x y : Float) (k : ℕ) (c : List ℕ) (r : Drawn) (d : List ℕ) : Type 0 where
-  pub done : r .done ≡ true → (t : St) (e : List Float) (a : List Bool) (room : ℕ) → t .opened ≡ true → t .changed ≡ false
-      → (m : Mem) (s : State) → length (m .stems) ≡ room → Holds (placed 0 x y k t) (withPath e a c m) s → Meets (ranOf (drawnTo r k t) 0) (after (placed 0 x y k t) (ranOf (drawnTo r k t) 0) e a d m) (D (within room (length c)) s)
+  pub done : r .done ≡ true → (t : St) (room : ℕ) → t .opened ≡ true → t .changed ≡ false
+      → (m : Mem) (s : State) → length (m .stems) ≡ room → Holds (placed 0 x y k t) (withCmds c m) s → Meets (ranOf (drawnTo r k t) 0) (after (placed 0 x y k t) (ranOf (drawnTo r k t) 0) d m) (D (within room (length c)) s)
   pub space : r .done ≡ true → 14 * (k + 1) ≤ length c
   pub none : r .done ≡ false → d ≡ c
   pub same : length d ≡ length c

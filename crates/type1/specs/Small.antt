@@ -1,9 +1,9 @@
 -- Definitions: what the small functions answer, and what is asked of the numbers in the arrays.
 use Prim.Native.Nat.{ℕ, _+_, _-_, _*_, _≤_, _<_}
 use mathlib.Core.Path.{_≡_}
-use mathlib.Core.Bool.{Bool, true, false}
+use mathlib.Core.Bool.{Bool, true, false, _&&_}
 use mathlib.Core.List.{List}
-use lib.Dec.{T, eqb}
+use lib.Dec.{T, eqb, ltb}
 use lib.ListN.{length, getD}
 use lib.Ieee.{Float, nan}
 use lib.Ieee.Scale.{finite}
@@ -14,7 +14,7 @@ use Rattle.type1.specs.declared.Ran.{Ran}
 use Rattle.type1.specs.declared.Stem.{Stem}
 use Rattle.type1.specs.State.{Command, flex, plusZero}
 use Rattle.type1.specs.Run.{pick}
-use Rattle.type1.specs.Memory.{stemsAt, Bounds, Good}
+use Rattle.type1.specs.Memory.{Bounds, Good}
 
 abbrev pub ranOf : St → ℕ → Ran
 ranOf t flow = record { st = t; flow = flow }
@@ -38,14 +38,6 @@ cellPoint l i = record { x = getD l (2 * i) nan; y = getD l (2 * i + 1) nan }
 
 abbrev pub flexOf : List Float → Float → Command
 flexOf l h = flex (cellPoint l 1) (cellPoint l 2) (cellPoint l 3) (cellPoint l 4) (cellPoint l 5) (cellPoint l 6) h
-
--- n stems in force were copied to the last group's place
-pub record Copied (n : ℕ) (e : List Float) (a : List Bool) (e' : List Float) (a' : List Bool) : Type 0 where
-  pub last : stemsAt 256 n e' a' ≡ stemsAt 0 n e a
-  pub edges : (i : ℕ) → i < 512 → getD e' i nan ≡ getD e i nan
-  pub across : (i : ℕ) → i < 256 → getD a' i false ≡ getD a i false
-  pub same : length e' ≡ length e
-  pub same' : length a' ≡ length a
 
 -- the state after a path command, in bounds
 pub record Grown (t u : St) (words room : ℕ) : Type 0 where
@@ -76,6 +68,6 @@ Space t u room = (u .groups ≡ t .groups → ⊥) → t .stems + t .hints ≤ r
 abbrev pub zeroStem : Stem
 zeroStem = record { horizontal = false; pos = plusZero; width = plusZero }
 
--- where the stems in force did not change, the arrays stay as they were
-abbrev pub Quiet : St → List Float → List Bool → List Float → List Bool → Type 0
-Quiet t e a e' a' = t .changed ≡ false → (e' ≡ e) × (a' ≡ a)
+-- the stems in force changed, and are as many as the last group's
+abbrev pub mayBeLast : St → Bool
+mayBeLast t = t .changed && (ltb 0 (t .groups) && eqb (t .last) (t .hints))

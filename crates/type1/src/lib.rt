@@ -2,7 +2,7 @@
 // entry of 14 words for each path command and for each group's start, the stem store a record for
 // each stem of each group.
 ghost use mathlib.Core.Path.{_≡_};
-ghost use mathlib.Core.Bool.{Bool, true, false, cond, _&&_};
+ghost use mathlib.Core.Bool.{Bool, true, false, not, cond, _&&_};
 ghost use mathlib.Core.List.{List, [], _∷_, _++_};
 ghost use Prim.Native.Nat.{ℕ, _+_, _-_, _*_, _≤_, _<_};
 ghost use lib.ListN.{length, getD, take, drop, set, replicate};
@@ -19,7 +19,7 @@ ghost use Rattle.type1.specs.State.{plusZero};
 ghost use Rattle.type1.specs.Operator as Op;
 ghost use Rattle.type1.specs.Run as Run;
 ghost use Rattle.type1.specs.Run.{pick, within, stemOf, pointAt, isFinite, operate};
-ghost use Rattle.type1.specs.Memory.{Mem, stemAt, stemsAt, Bounds, Good, Holds, Meets, operatorOf, withOps, withPs, withCells, withCmds, withHints, withPath, after, Plain, Path, pointCommand};
+ghost use Rattle.type1.specs.Memory.{Mem, stemAt, stemsAt, Bounds, Good, Holds, Meets, operatorOf, withOps, withPs, withCells, withCmds, withHints, withPath, after, Told, Plain, Path, pointCommand};
 ghost use Rattle.type1.specs.Reading.{cursorOf, byteOf, keyOf, withCount, placed, tokOf, Numbered, Operated, Stores, Adds, Draws, isQuick, Reads, Calls};
 ghost use Rattle.type1.specs.Small as Small;
 ghost use Rattle.type1.specs.Cycle.{memOf, Ready, opD, runD};
@@ -39,7 +39,7 @@ pub struct Stem {
 
 // What of the state is small. The rest is in arrays: the operands and the PostScript stack, each
 // bottom first; `cells`: the points of a flex, the side bearing and the width; `edges` and `across`:
-// the stems in force, and from LAST on those of the last group.
+// the stems in force.
 struct St {
     // operands held, and numbers on the PostScript stack
     operands: usize,
@@ -95,9 +95,6 @@ const BEARING_X: usize = 16;
 const BEARING_Y: usize = 17;
 
 const WIDTH: usize = 18;
-
-// where the last group's stems begin among all
-const LAST: usize = 256;
 
 // ---- tokens
 
@@ -686,8 +683,8 @@ fn in_force(
     pos: f64,
     width: f64,
     count: usize,
-    edges: &[f64; 1024],
-    across: &[bool; 512],
+    edges: &[f64; 512],
+    across: &[bool; 256],
 ) -> bool
     requires { ⌜ count ≤ 256 ⌝ }
     ensures { λ r. ⌜ r ≡ State.isIn (stemsAt 0 count (now (edges .entry)) (now (across .entry))) (stemOf horizontal pos width) ⌝ }
@@ -701,8 +698,8 @@ fn add_stem(
     pos: f64,
     width: f64,
     st: St,
-    edges: &mut [f64; 1024],
-    across: &mut [bool; 512],
+    edges: &mut [f64; 512],
+    across: &mut [bool; 256],
 ) -> Ran
     requires { ⌜ st .hints ≤ 256 ⌝ }
     ensures { λ r. ⌜ ((m : Mem) (s : State.State) (room words : ℕ) → Holds st (withHints (now (edges .entry)) (now (across .entry)) m) s →
@@ -728,42 +725,13 @@ fn add_stem(
     made(s, 0)
 }
 
-// Whether the stems in force are the last group's, in the same order.
-fn is_last(st: St, edges: &[f64; 1024], across: &[bool; 512]) -> bool
-    requires { ⌜ (st .hints ≤ 256) × (st .last ≤ 256) ⌝ }
-    ensures { λ r. ⌜ r ≡ (ltb 0 (st .groups) && State.sameStems (stemsAt 256 (st .last) (now (edges .entry)) (now (across .entry))) (stemsAt 0 (st .hints) (now (edges .entry)) (now (across .entry)))) ⌝ }
-{
-    hints::is_last(st.groups, st.last, st.hints, edges, across)
-}
-
-// The stems in force become the last group's.
-fn keep_last(n: usize, edges: &mut [f64; 1024], across: &mut [bool; 512])
-    requires { ⌜ n ≤ 256 ⌝ }
-    ensures { λ _. ⌜ (length (now (edges .entry)) ≡ 1024 → length (now (across .entry)) ≡ 512 → Small.Copied n (now (edges .entry)) (now (across .entry)) (now (edges .exit)) (now (across .exit))) ⌝ }
-{
-    let mut i = 0;
-    while i < n {
-        let j = LAST + i;
-        edges[2 * j] = edges[2 * i];
-        edges[2 * j + 1] = edges[2 * i + 1];
-        across[j] = across[i];
-        i += 1;
-    }
-}
-
 // The stems in force become a new group, where the stem store has `room` records. Its stems are
 // stored after the operator.
-fn new_group(
-    room: usize,
-    st: St,
-    edges: &mut [f64; 1024],
-    across: &mut [bool; 512],
-    cmds: &mut [u64],
-) -> Ran
+fn new_group(room: usize, st: St, cmds: &mut [u64]) -> Ran
     requires { ⌜ Bounds st (length (now cmds)) ⌝ }
     requires { ⌜ st .stems ≤ room ⌝ }
-    ensures { λ r. ⌜ ((m : Mem) (s : State.State) → length (m .stems) ≡ room → Holds st (withPath (now (edges .entry)) (now (across .entry)) (now (cmds .entry)) m) s →
-        Meets r (after st r (now (edges .exit)) (now (across .exit)) (now (cmds .exit)) m) (Run.newGroup (within room (length (now (cmds .entry)))) s)) ⌝ }
+    ensures { λ r. ⌜ ((m : Mem) (s : State.State) → length (m .stems) ≡ room → Holds st (withCmds (now (cmds .entry)) m) s →
+        Meets r (after st r (now (cmds .exit)) m) (Run.newGroup (within room (length (now (cmds .entry)))) s)) ⌝ }
     ensures { λ r. ⌜ (r .flow ≡ 0 → r .st .changed ≡ false) × Small.Space st (r .st) room ⌝ }
     ensures { λ r. ⌜ Small.Grown st (r .st) (length (now (cmds .entry))) room ⌝ }
 {
@@ -778,7 +746,6 @@ fn new_group(
     cmds[at] = GROUP;
     cmds[at + 1] = used as u64;
     cmds[at + 2] = n as u64;
-    keep_last(n, edges, across);
     let mut s = st;
     s.entries = k + 1;
     s.stems = used + n;
@@ -789,56 +756,39 @@ fn new_group(
 }
 
 // At a path command: changed stems become a new group unless they are the last one's.
-fn commit(
-    room: usize,
-    st: St,
-    edges: &mut [f64; 1024],
-    across: &mut [bool; 512],
-    cmds: &mut [u64],
-) -> Ran
+fn commit(same: bool, room: usize, st: St, cmds: &mut [u64]) -> Ran
     requires { ⌜ Bounds st (length (now cmds)) ⌝ }
     requires { ⌜ st .stems ≤ room ⌝ }
-    ensures { λ r. ⌜ ((m : Mem) (s : State.State) → length (m .stems) ≡ room → Holds st (withPath (now (edges .entry)) (now (across .entry)) (now (cmds .entry)) m) s →
-        Meets r (after st r (now (edges .exit)) (now (across .exit)) (now (cmds .exit)) (m)) (Run.commit (within room (length (now (cmds .entry)))) s)) ⌝ }
+    ensures { λ r. ⌜ ((m : Mem) (s : State.State) → length (m .stems) ≡ room → Told same s → Holds st (withCmds (now (cmds .entry)) m) s →
+        Meets r (after st r (now (cmds .exit)) m) (Run.commit (within room (length (now (cmds .entry)))) s)) ⌝ }
     ensures { λ r. ⌜ Path st r room ⌝ }
     ensures { λ r. ⌜ Small.Grown st (r .st) (length (now (cmds .entry))) room ⌝ }
-    ensures { λ r. ⌜ Small.Quiet st (now (edges .entry)) (now (across .entry)) (now (edges .exit)) (now (across .exit)) ⌝ }
 {
     if !st.changed {
         return made(st, 0);
     }
-    if is_last(st, edges, across) {
+    if same {
         let mut s = st;
         s.changed = false;
         return made(s, 0);
     }
-    new_group(room, st, edges, across, cmds)
+    new_group(room, st, cmds)
 }
 
 // ---- paths
 
 // A move or a line to (x, y) is listed.
-fn list_point(
-    kind: u64,
-    x: f64,
-    y: f64,
-    room: usize,
-    st: St,
-    edges: &mut [f64; 1024],
-    across: &mut [bool; 512],
-    cmds: &mut [u64],
-) -> Ran
+fn list_point(kind: u64, x: f64, y: f64, same: bool, room: usize, st: St, cmds: &mut [u64]) -> Ran
     requires { ⌜ Bounds st (length (now cmds)) ⌝ }
     requires { ⌜ st .stems ≤ room ⌝ }
     requires { ⌜ (0 < kind) × (kind < 3) ⌝ }
     requires { ⌜ T (finite x) × T (finite y) ⌝ }
-    ensures { λ r. ⌜ ((m : Mem) (s : State.State) → length (m .stems) ≡ room → Holds st (withPath (now (edges .entry)) (now (across .entry)) (now (cmds .entry)) m) s →
-        Meets r (after st r (now (edges .exit)) (now (across .exit)) (now (cmds .exit)) (m)) (Run.list (within room (length (now (cmds .entry)))) (pointCommand kind (pointAt x y)) s)) ⌝ }
+    ensures { λ r. ⌜ ((m : Mem) (s : State.State) → length (m .stems) ≡ room → Told same s → Holds st (withCmds (now (cmds .entry)) m) s →
+        Meets r (after st r (now (cmds .exit)) m) (Run.list (within room (length (now (cmds .entry)))) (pointCommand kind (pointAt x y)) s)) ⌝ }
     ensures { λ r. ⌜ Path st r room ⌝ }
     ensures { λ r. ⌜ Small.Grown st (r .st) (length (now (cmds .entry))) room ⌝ }
-    ensures { λ r. ⌜ Small.Quiet st (now (edges .entry)) (now (across .entry)) (now (edges .exit)) (now (across .exit)) ⌝ }
 {
-    let c = commit(room, st, edges, across, cmds);
+    let c = commit(same, room, st, cmds);
     if c.flow != 0 {
         return c;
     }
@@ -876,19 +826,11 @@ fn finite_point(x: f64, y: f64) -> bool
 }
 
 // 21, 22, 4.
-fn move_by(
-    dx: f64,
-    dy: f64,
-    room: usize,
-    st: St,
-    edges: &mut [f64; 1024],
-    across: &mut [bool; 512],
-    cmds: &mut [u64],
-) -> Ran
+fn move_by(dx: f64, dy: f64, same: bool, room: usize, st: St, cmds: &mut [u64]) -> Ran
     requires { ⌜ Bounds st (length (now cmds)) ⌝ }
     requires { ⌜ st .stems ≤ room ⌝ }
-    ensures { λ r. ⌜ ((m : Mem) (s : State.State) → length (m .stems) ≡ room → Holds st (withPath (now (edges .entry)) (now (across .entry)) (now (cmds .entry)) m) s →
-        Meets r (after st r (now (edges .exit)) (now (across .exit)) (now (cmds .exit)) (m)) (Run.moveBy (within room (length (now (cmds .entry)))) dx dy s)) ⌝ }
+    ensures { λ r. ⌜ ((m : Mem) (s : State.State) → length (m .stems) ≡ room → Told same s → Holds st (withCmds (now (cmds .entry)) m) s →
+        Meets r (after st r (now (cmds .exit)) m) (Run.moveBy (within room (length (now (cmds .entry)))) dx dy s)) ⌝ }
     ensures { λ r. ⌜ Small.Space st (r .st) room ⌝ }
 {
     let x = st.x + dx;
@@ -899,77 +841,54 @@ fn move_by(
     if st.flexing {
         return made(at_point(x, y, st), 0);
     }
-    opened(list_point(MOVE, x, y, room, at_point(x, y, st), edges, across, cmds))
+    opened(list_point(MOVE, x, y, same, room, at_point(x, y, st), cmds))
 }
 
 // A line or curve with no subpath open first moves to the current point.
-fn open_subpath(
-    room: usize,
-    st: St,
-    edges: &mut [f64; 1024],
-    across: &mut [bool; 512],
-    cmds: &mut [u64],
-) -> Ran
+fn open_subpath(same: bool, room: usize, st: St, cmds: &mut [u64]) -> Ran
     requires { ⌜ Bounds st (length (now cmds)) ⌝ }
     requires { ⌜ st .stems ≤ room ⌝ }
     requires { ⌜ T (finite (st .x)) × T (finite (st .y)) ⌝ }
-    ensures { λ r. ⌜ ((m : Mem) (s : State.State) → length (m .stems) ≡ room → Holds st (withPath (now (edges .entry)) (now (across .entry)) (now (cmds .entry)) m) s →
-        Meets r (after st r (now (edges .exit)) (now (across .exit)) (now (cmds .exit)) (m)) (Run.andThen (Run.list (within room (length (now (cmds .entry)))) (State.move (pointAt (st .x) (st .y))) s) (λ t. Run.going (State.withOpen true t)))) ⌝ }
+    ensures { λ r. ⌜ ((m : Mem) (s : State.State) → length (m .stems) ≡ room → Told same s → Holds st (withCmds (now (cmds .entry)) m) s →
+        Meets r (after st r (now (cmds .exit)) m) (Run.andThen (Run.list (within room (length (now (cmds .entry)))) (State.move (pointAt (st .x) (st .y))) s) (λ t. Run.going (State.withOpen true t)))) ⌝ }
     ensures { λ r. ⌜ Path st r room ⌝ }
     ensures { λ r. ⌜ Small.Grown st (r .st) (length (now (cmds .entry))) room ⌝ }
 {
-    opened(list_point(MOVE, st.x, st.y, room, st, edges, across, cmds))
+    opened(list_point(MOVE, st.x, st.y, same, room, st, cmds))
 }
 
 // 5, 6, 7, with a subpath open.
-fn line_to(
-    dx: f64,
-    dy: f64,
-    room: usize,
-    st: St,
-    edges: &mut [f64; 1024],
-    across: &mut [bool; 512],
-    cmds: &mut [u64],
-) -> Ran
+fn line_to(dx: f64, dy: f64, same: bool, room: usize, st: St, cmds: &mut [u64]) -> Ran
     requires { ⌜ Bounds st (length (now cmds)) ⌝ }
     requires { ⌜ st .stems ≤ room ⌝ }
-    ensures { λ r. ⌜ ((m : Mem) (s : State.State) → length (m .stems) ≡ room → Holds st (withPath (now (edges .entry)) (now (across .entry)) (now (cmds .entry)) m) s →
-        Meets r (after st r (now (edges .exit)) (now (across .exit)) (now (cmds .exit)) (m)) (Run.lineTo (within room (length (now (cmds .entry)))) dx dy s)) ⌝ }
+    ensures { λ r. ⌜ ((m : Mem) (s : State.State) → length (m .stems) ≡ room → Told same s → Holds st (withCmds (now (cmds .entry)) m) s →
+        Meets r (after st r (now (cmds .exit)) m) (Run.lineTo (within room (length (now (cmds .entry)))) dx dy s)) ⌝ }
     ensures { λ r. ⌜ Path st r room ⌝ }
-    ensures { λ r. ⌜ Small.Quiet st (now (edges .entry)) (now (across .entry)) (now (edges .exit)) (now (across .exit)) ⌝ }
 {
     let x = st.x + dx;
     let y = st.y + dy;
     if !finite_point(x, y) {
         return made(st, 14);
     }
-    list_point(LINE, x, y, room, at_point(x, y, st), edges, across, cmds)
+    list_point(LINE, x, y, same, room, at_point(x, y, st), cmds)
 }
 
-fn line_by(
-    dx: f64,
-    dy: f64,
-    room: usize,
-    st: St,
-    edges: &mut [f64; 1024],
-    across: &mut [bool; 512],
-    cmds: &mut [u64],
-) -> Ran
+fn line_by(dx: f64, dy: f64, same: bool, room: usize, st: St, cmds: &mut [u64]) -> Ran
     requires { ⌜ Bounds st (length (now cmds)) ⌝ }
     requires { ⌜ st .stems ≤ room ⌝ }
     requires { ⌜ T (finite (st .x)) × T (finite (st .y)) ⌝ }
-    ensures { λ r. ⌜ ((m : Mem) (s : State.State) → length (m .stems) ≡ room → Holds st (withPath (now (edges .entry)) (now (across .entry)) (now (cmds .entry)) m) s →
-        Meets r (after st r (now (edges .exit)) (now (across .exit)) (now (cmds .exit)) (m)) (Run.lineBy (within room (length (now (cmds .entry)))) dx dy s)) ⌝ }
+    ensures { λ r. ⌜ ((m : Mem) (s : State.State) → length (m .stems) ≡ room → Told same s → Holds st (withCmds (now (cmds .entry)) m) s →
+        Meets r (after st r (now (cmds .exit)) m) (Run.lineBy (within room (length (now (cmds .entry)))) dx dy s)) ⌝ }
     ensures { λ r. ⌜ Small.Space st (r .st) room ⌝ }
 {
     if st.opened {
-        return line_to(dx, dy, room, st, edges, across, cmds);
+        return line_to(dx, dy, same, room, st, cmds);
     }
-    let o = open_subpath(room, st, edges, across, cmds);
+    let o = open_subpath(same, room, st, cmds);
     if o.flow != 0 {
         return o;
     }
-    line_to(dx, dy, room, o.st, edges, across, cmds)
+    line_to(dx, dy, same, room, o.st, cmds)
 }
 
 // 8, 30, 31, with a subpath open.
@@ -980,18 +899,16 @@ fn curve_to(
     dy2: f64,
     dx3: f64,
     dy3: f64,
+    same: bool,
     room: usize,
     st: St,
-    edges: &mut [f64; 1024],
-    across: &mut [bool; 512],
     cmds: &mut [u64],
 ) -> Ran
     requires { ⌜ Bounds st (length (now cmds)) ⌝ }
     requires { ⌜ st .stems ≤ room ⌝ }
-    ensures { λ r. ⌜ ((m : Mem) (s : State.State) → length (m .stems) ≡ room → Holds st (withPath (now (edges .entry)) (now (across .entry)) (now (cmds .entry)) m) s →
-        Meets r (after st r (now (edges .exit)) (now (across .exit)) (now (cmds .exit)) (m)) (Run.curveTo (within room (length (now (cmds .entry)))) dx1 dy1 dx2 dy2 dx3 dy3 s)) ⌝ }
+    ensures { λ r. ⌜ ((m : Mem) (s : State.State) → length (m .stems) ≡ room → Told same s → Holds st (withCmds (now (cmds .entry)) m) s →
+        Meets r (after st r (now (cmds .exit)) m) (Run.curveTo (within room (length (now (cmds .entry)))) dx1 dy1 dx2 dy2 dx3 dy3 s)) ⌝ }
     ensures { λ r. ⌜ Path st r room ⌝ }
-    ensures { λ r. ⌜ Small.Quiet st (now (edges .entry)) (now (across .entry)) (now (edges .exit)) (now (across .exit)) ⌝ }
 {
     let px = st.x + dx1;
     let py = st.y + dy1;
@@ -1008,7 +925,7 @@ fn curve_to(
     if !finite_point(rx, ry) {
         return made(st, 14);
     }
-    let c = commit(room, at_point(rx, ry, st), edges, across, cmds);
+    let c = commit(same, room, at_point(rx, ry, st), cmds);
     if c.flow != 0 {
         return c;
     }
@@ -1022,56 +939,35 @@ fn curve_by(
     dy2: f64,
     dx3: f64,
     dy3: f64,
+    same: bool,
     room: usize,
     st: St,
-    edges: &mut [f64; 1024],
-    across: &mut [bool; 512],
     cmds: &mut [u64],
 ) -> Ran
     requires { ⌜ Bounds st (length (now cmds)) ⌝ }
     requires { ⌜ st .stems ≤ room ⌝ }
     requires { ⌜ T (finite (st .x)) × T (finite (st .y)) ⌝ }
-    ensures { λ r. ⌜ ((m : Mem) (s : State.State) → length (m .stems) ≡ room → Holds st (withPath (now (edges .entry)) (now (across .entry)) (now (cmds .entry)) m) s →
-        Meets r (after st r (now (edges .exit)) (now (across .exit)) (now (cmds .exit)) (m)) (Run.curveBy (within room (length (now (cmds .entry)))) dx1 dy1 dx2 dy2 dx3 dy3 s)) ⌝ }
+    ensures { λ r. ⌜ ((m : Mem) (s : State.State) → length (m .stems) ≡ room → Told same s → Holds st (withCmds (now (cmds .entry)) m) s →
+        Meets r (after st r (now (cmds .exit)) m) (Run.curveBy (within room (length (now (cmds .entry)))) dx1 dy1 dx2 dy2 dx3 dy3 s)) ⌝ }
     ensures { λ r. ⌜ Small.Space st (r .st) room ⌝ }
 {
     if st.opened {
-        return curve_to(dx1, dy1, dx2, dy2, dx3, dy3, room, st, edges, across, cmds);
+        return curve_to(dx1, dy1, dx2, dy2, dx3, dy3, same, room, st, cmds);
     }
-    let o = open_subpath(room, st, edges, across, cmds);
+    let o = open_subpath(same, room, st, cmds);
     if o.flow != 0 {
         return o;
     }
-    curve_to(
-        dx1,
-        dy1,
-        dx2,
-        dy2,
-        dx3,
-        dy3,
-        room,
-        o.st,
-        edges,
-        across,
-        cmds,
-    )
+    curve_to(dx1, dy1, dx2, dy2, dx3, dy3, same, room, o.st, cmds)
 }
 
 // 12 33.
-fn set_point(
-    x: f64,
-    y: f64,
-    room: usize,
-    st: St,
-    edges: &mut [f64; 1024],
-    across: &mut [bool; 512],
-    cmds: &mut [u64],
-) -> Ran
+fn set_point(x: f64, y: f64, same: bool, room: usize, st: St, cmds: &mut [u64]) -> Ran
     requires { ⌜ Bounds st (length (now cmds)) ⌝ }
     requires { ⌜ st .stems ≤ room ⌝ }
     requires { ⌜ T (finite x) × T (finite y) ⌝ }
-    ensures { λ r. ⌜ ((m : Mem) (s : State.State) → length (m .stems) ≡ room → Holds st (withPath (now (edges .entry)) (now (across .entry)) (now (cmds .entry)) m) s →
-        Meets r (after st r (now (edges .exit)) (now (across .exit)) (now (cmds .exit)) (m)) (Run.setPoint (within room (length (now (cmds .entry)))) (pointAt x y) s)) ⌝ }
+    ensures { λ r. ⌜ ((m : Mem) (s : State.State) → length (m .stems) ≡ room → Told same s → Holds st (withCmds (now (cmds .entry)) m) s →
+        Meets r (after st r (now (cmds .exit)) m) (Run.setPoint (within room (length (now (cmds .entry)))) (pointAt x y) s)) ⌝ }
     ensures { λ r. ⌜ Small.Space st (r .st) room ⌝ }
 {
     if x == st.x {
@@ -1081,7 +977,7 @@ fn set_point(
     }
     let s = at_point(x, y, st);
     if othersubrs::is_move(s.opened, s.flexing) {
-        return list_point(MOVE, x, y, room, s, edges, across, cmds);
+        return list_point(MOVE, x, y, same, room, s, cmds);
     }
     made(s, 0)
 }
@@ -1089,173 +985,108 @@ fn set_point(
 // ---- path operators
 
 // 4
-fn vmoveto(
-    room: usize,
-    st: St,
-    ops: &[f64; 256],
-    edges: &mut [f64; 1024],
-    across: &mut [bool; 512],
-    cmds: &mut [u64],
-) -> Ran
+fn vmoveto(same: bool, room: usize, st: St, ops: &[f64; 256], cmds: &mut [u64]) -> Ran
     requires { ⌜ Bounds st (length (now cmds)) ⌝ }
     requires { ⌜ st .stems ≤ room ⌝ }
     requires { ⌜ T (finite (st .x)) × T (finite (st .y)) ⌝ }
-    ensures { λ r. ⌜ ((m : Mem) (s : State.State) (c : Run.Outcome) → length (m .stems) ≡ room → Holds st (withOps (now (ops .entry)) (withPath (now (edges .entry)) (now (across .entry)) (now (cmds .entry)) m)) s →
-        Meets r (withOps (now (ops .entry)) (after st r (now (edges .exit)) (now (across .exit)) (now (cmds .exit)) m)) (operate (within room (length (now (cmds .entry)))) c Op.vmoveto s)) ⌝ }
+    ensures { λ r. ⌜ ((m : Mem) (s : State.State) (c : Run.Outcome) → length (m .stems) ≡ room → Told same s → Holds st (withOps (now (ops .entry)) (withCmds (now (cmds .entry)) m)) s →
+        Meets r (withOps (now (ops .entry)) (after st r (now (cmds .exit)) m)) (operate (within room (length (now (cmds .entry)))) c Op.vmoveto s)) ⌝ }
     ensures { λ r. ⌜ Small.Space st (r .st) room ⌝ }
 {
     let n = st.operands;
     if n < 1 {
         return made(st, 7);
     }
-    move_by(0.0, ops[n - 1], room, cleared(st), edges, across, cmds)
+    move_by(0.0, ops[n - 1], same, room, cleared(st), cmds)
 }
 
 // 21
-fn rmoveto(
-    room: usize,
-    st: St,
-    ops: &[f64; 256],
-    edges: &mut [f64; 1024],
-    across: &mut [bool; 512],
-    cmds: &mut [u64],
-) -> Ran
+fn rmoveto(same: bool, room: usize, st: St, ops: &[f64; 256], cmds: &mut [u64]) -> Ran
     requires { ⌜ Bounds st (length (now cmds)) ⌝ }
     requires { ⌜ st .stems ≤ room ⌝ }
     requires { ⌜ T (finite (st .x)) × T (finite (st .y)) ⌝ }
-    ensures { λ r. ⌜ ((m : Mem) (s : State.State) (c : Run.Outcome) → length (m .stems) ≡ room → Holds st (withOps (now (ops .entry)) (withPath (now (edges .entry)) (now (across .entry)) (now (cmds .entry)) m)) s →
-        Meets r (withOps (now (ops .entry)) (after st r (now (edges .exit)) (now (across .exit)) (now (cmds .exit)) m)) (operate (within room (length (now (cmds .entry)))) c Op.rmoveto s)) ⌝ }
+    ensures { λ r. ⌜ ((m : Mem) (s : State.State) (c : Run.Outcome) → length (m .stems) ≡ room → Told same s → Holds st (withOps (now (ops .entry)) (withCmds (now (cmds .entry)) m)) s →
+        Meets r (withOps (now (ops .entry)) (after st r (now (cmds .exit)) m)) (operate (within room (length (now (cmds .entry)))) c Op.rmoveto s)) ⌝ }
     ensures { λ r. ⌜ Small.Space st (r .st) room ⌝ }
 {
     let n = st.operands;
     if n < 2 {
         return made(st, 7);
     }
-    move_by(
-        ops[n - 2],
-        ops[n - 1],
-        room,
-        cleared(st),
-        edges,
-        across,
-        cmds,
-    )
+    move_by(ops[n - 2], ops[n - 1], same, room, cleared(st), cmds)
 }
 
 // 22
-fn hmoveto(
-    room: usize,
-    st: St,
-    ops: &[f64; 256],
-    edges: &mut [f64; 1024],
-    across: &mut [bool; 512],
-    cmds: &mut [u64],
-) -> Ran
+fn hmoveto(same: bool, room: usize, st: St, ops: &[f64; 256], cmds: &mut [u64]) -> Ran
     requires { ⌜ Bounds st (length (now cmds)) ⌝ }
     requires { ⌜ st .stems ≤ room ⌝ }
     requires { ⌜ T (finite (st .x)) × T (finite (st .y)) ⌝ }
-    ensures { λ r. ⌜ ((m : Mem) (s : State.State) (c : Run.Outcome) → length (m .stems) ≡ room → Holds st (withOps (now (ops .entry)) (withPath (now (edges .entry)) (now (across .entry)) (now (cmds .entry)) m)) s →
-        Meets r (withOps (now (ops .entry)) (after st r (now (edges .exit)) (now (across .exit)) (now (cmds .exit)) m)) (operate (within room (length (now (cmds .entry)))) c Op.hmoveto s)) ⌝ }
+    ensures { λ r. ⌜ ((m : Mem) (s : State.State) (c : Run.Outcome) → length (m .stems) ≡ room → Told same s → Holds st (withOps (now (ops .entry)) (withCmds (now (cmds .entry)) m)) s →
+        Meets r (withOps (now (ops .entry)) (after st r (now (cmds .exit)) m)) (operate (within room (length (now (cmds .entry)))) c Op.hmoveto s)) ⌝ }
     ensures { λ r. ⌜ Small.Space st (r .st) room ⌝ }
 {
     let n = st.operands;
     if n < 1 {
         return made(st, 7);
     }
-    move_by(ops[n - 1], 0.0, room, cleared(st), edges, across, cmds)
+    move_by(ops[n - 1], 0.0, same, room, cleared(st), cmds)
 }
 
 // 5
-fn rlineto(
-    room: usize,
-    st: St,
-    ops: &[f64; 256],
-    edges: &mut [f64; 1024],
-    across: &mut [bool; 512],
-    cmds: &mut [u64],
-) -> Ran
+fn rlineto(same: bool, room: usize, st: St, ops: &[f64; 256], cmds: &mut [u64]) -> Ran
     requires { ⌜ Bounds st (length (now cmds)) ⌝ }
     requires { ⌜ st .stems ≤ room ⌝ }
     requires { ⌜ T (finite (st .x)) × T (finite (st .y)) ⌝ }
-    ensures { λ r. ⌜ ((m : Mem) (s : State.State) (c : Run.Outcome) → length (m .stems) ≡ room → Holds st (withOps (now (ops .entry)) (withPath (now (edges .entry)) (now (across .entry)) (now (cmds .entry)) m)) s →
-        Meets r (withOps (now (ops .entry)) (after st r (now (edges .exit)) (now (across .exit)) (now (cmds .exit)) m)) (operate (within room (length (now (cmds .entry)))) c Op.rlineto s)) ⌝ }
+    ensures { λ r. ⌜ ((m : Mem) (s : State.State) (c : Run.Outcome) → length (m .stems) ≡ room → Told same s → Holds st (withOps (now (ops .entry)) (withCmds (now (cmds .entry)) m)) s →
+        Meets r (withOps (now (ops .entry)) (after st r (now (cmds .exit)) m)) (operate (within room (length (now (cmds .entry)))) c Op.rlineto s)) ⌝ }
     ensures { λ r. ⌜ Small.Space st (r .st) room ⌝ }
 {
     let n = st.operands;
     if n < 2 {
         return made(st, 7);
     }
-    line_by(
-        ops[n - 2],
-        ops[n - 1],
-        room,
-        cleared(st),
-        edges,
-        across,
-        cmds,
-    )
+    line_by(ops[n - 2], ops[n - 1], same, room, cleared(st), cmds)
 }
 
 // 6
-fn hlineto(
-    room: usize,
-    st: St,
-    ops: &[f64; 256],
-    edges: &mut [f64; 1024],
-    across: &mut [bool; 512],
-    cmds: &mut [u64],
-) -> Ran
+fn hlineto(same: bool, room: usize, st: St, ops: &[f64; 256], cmds: &mut [u64]) -> Ran
     requires { ⌜ Bounds st (length (now cmds)) ⌝ }
     requires { ⌜ st .stems ≤ room ⌝ }
     requires { ⌜ T (finite (st .x)) × T (finite (st .y)) ⌝ }
-    ensures { λ r. ⌜ ((m : Mem) (s : State.State) (c : Run.Outcome) → length (m .stems) ≡ room → Holds st (withOps (now (ops .entry)) (withPath (now (edges .entry)) (now (across .entry)) (now (cmds .entry)) m)) s →
-        Meets r (withOps (now (ops .entry)) (after st r (now (edges .exit)) (now (across .exit)) (now (cmds .exit)) m)) (operate (within room (length (now (cmds .entry)))) c Op.hlineto s)) ⌝ }
+    ensures { λ r. ⌜ ((m : Mem) (s : State.State) (c : Run.Outcome) → length (m .stems) ≡ room → Told same s → Holds st (withOps (now (ops .entry)) (withCmds (now (cmds .entry)) m)) s →
+        Meets r (withOps (now (ops .entry)) (after st r (now (cmds .exit)) m)) (operate (within room (length (now (cmds .entry)))) c Op.hlineto s)) ⌝ }
     ensures { λ r. ⌜ Small.Space st (r .st) room ⌝ }
 {
     let n = st.operands;
     if n < 1 {
         return made(st, 7);
     }
-    line_by(ops[n - 1], 0.0, room, cleared(st), edges, across, cmds)
+    line_by(ops[n - 1], 0.0, same, room, cleared(st), cmds)
 }
 
 // 7
-fn vlineto(
-    room: usize,
-    st: St,
-    ops: &[f64; 256],
-    edges: &mut [f64; 1024],
-    across: &mut [bool; 512],
-    cmds: &mut [u64],
-) -> Ran
+fn vlineto(same: bool, room: usize, st: St, ops: &[f64; 256], cmds: &mut [u64]) -> Ran
     requires { ⌜ Bounds st (length (now cmds)) ⌝ }
     requires { ⌜ st .stems ≤ room ⌝ }
     requires { ⌜ T (finite (st .x)) × T (finite (st .y)) ⌝ }
-    ensures { λ r. ⌜ ((m : Mem) (s : State.State) (c : Run.Outcome) → length (m .stems) ≡ room → Holds st (withOps (now (ops .entry)) (withPath (now (edges .entry)) (now (across .entry)) (now (cmds .entry)) m)) s →
-        Meets r (withOps (now (ops .entry)) (after st r (now (edges .exit)) (now (across .exit)) (now (cmds .exit)) m)) (operate (within room (length (now (cmds .entry)))) c Op.vlineto s)) ⌝ }
+    ensures { λ r. ⌜ ((m : Mem) (s : State.State) (c : Run.Outcome) → length (m .stems) ≡ room → Told same s → Holds st (withOps (now (ops .entry)) (withCmds (now (cmds .entry)) m)) s →
+        Meets r (withOps (now (ops .entry)) (after st r (now (cmds .exit)) m)) (operate (within room (length (now (cmds .entry)))) c Op.vlineto s)) ⌝ }
     ensures { λ r. ⌜ Small.Space st (r .st) room ⌝ }
 {
     let n = st.operands;
     if n < 1 {
         return made(st, 7);
     }
-    line_by(0.0, ops[n - 1], room, cleared(st), edges, across, cmds)
+    line_by(0.0, ops[n - 1], same, room, cleared(st), cmds)
 }
 
 // 8
-fn rrcurveto(
-    room: usize,
-    st: St,
-    ops: &[f64; 256],
-    edges: &mut [f64; 1024],
-    across: &mut [bool; 512],
-    cmds: &mut [u64],
-) -> Ran
+fn rrcurveto(same: bool, room: usize, st: St, ops: &[f64; 256], cmds: &mut [u64]) -> Ran
     requires { ⌜ Bounds st (length (now cmds)) ⌝ }
     requires { ⌜ st .stems ≤ room ⌝ }
     requires { ⌜ T (finite (st .x)) × T (finite (st .y)) ⌝ }
-    ensures { λ r. ⌜ ((m : Mem) (s : State.State) (c : Run.Outcome) → length (m .stems) ≡ room → Holds st (withOps (now (ops .entry)) (withPath (now (edges .entry)) (now (across .entry)) (now (cmds .entry)) m)) s →
-        Meets r (withOps (now (ops .entry)) (after st r (now (edges .exit)) (now (across .exit)) (now (cmds .exit)) m)) (operate (within room (length (now (cmds .entry)))) c Op.rrcurveto s)) ⌝ }
+    ensures { λ r. ⌜ ((m : Mem) (s : State.State) (c : Run.Outcome) → length (m .stems) ≡ room → Told same s → Holds st (withOps (now (ops .entry)) (withCmds (now (cmds .entry)) m)) s →
+        Meets r (withOps (now (ops .entry)) (after st r (now (cmds .exit)) m)) (operate (within room (length (now (cmds .entry)))) c Op.rrcurveto s)) ⌝ }
     ensures { λ r. ⌜ Small.Space st (r .st) room ⌝ }
 {
     let n = st.operands;
@@ -1269,28 +1100,20 @@ fn rrcurveto(
         ops[n - 3],
         ops[n - 2],
         ops[n - 1],
+        same,
         room,
         cleared(st),
-        edges,
-        across,
         cmds,
     )
 }
 
 // 30
-fn vhcurveto(
-    room: usize,
-    st: St,
-    ops: &[f64; 256],
-    edges: &mut [f64; 1024],
-    across: &mut [bool; 512],
-    cmds: &mut [u64],
-) -> Ran
+fn vhcurveto(same: bool, room: usize, st: St, ops: &[f64; 256], cmds: &mut [u64]) -> Ran
     requires { ⌜ Bounds st (length (now cmds)) ⌝ }
     requires { ⌜ st .stems ≤ room ⌝ }
     requires { ⌜ T (finite (st .x)) × T (finite (st .y)) ⌝ }
-    ensures { λ r. ⌜ ((m : Mem) (s : State.State) (c : Run.Outcome) → length (m .stems) ≡ room → Holds st (withOps (now (ops .entry)) (withPath (now (edges .entry)) (now (across .entry)) (now (cmds .entry)) m)) s →
-        Meets r (withOps (now (ops .entry)) (after st r (now (edges .exit)) (now (across .exit)) (now (cmds .exit)) m)) (operate (within room (length (now (cmds .entry)))) c Op.vhcurveto s)) ⌝ }
+    ensures { λ r. ⌜ ((m : Mem) (s : State.State) (c : Run.Outcome) → length (m .stems) ≡ room → Told same s → Holds st (withOps (now (ops .entry)) (withCmds (now (cmds .entry)) m)) s →
+        Meets r (withOps (now (ops .entry)) (after st r (now (cmds .exit)) m)) (operate (within room (length (now (cmds .entry)))) c Op.vhcurveto s)) ⌝ }
     ensures { λ r. ⌜ Small.Space st (r .st) room ⌝ }
 {
     let n = st.operands;
@@ -1304,28 +1127,20 @@ fn vhcurveto(
         ops[n - 2],
         ops[n - 1],
         0.0,
+        same,
         room,
         cleared(st),
-        edges,
-        across,
         cmds,
     )
 }
 
 // 31
-fn hvcurveto(
-    room: usize,
-    st: St,
-    ops: &[f64; 256],
-    edges: &mut [f64; 1024],
-    across: &mut [bool; 512],
-    cmds: &mut [u64],
-) -> Ran
+fn hvcurveto(same: bool, room: usize, st: St, ops: &[f64; 256], cmds: &mut [u64]) -> Ran
     requires { ⌜ Bounds st (length (now cmds)) ⌝ }
     requires { ⌜ st .stems ≤ room ⌝ }
     requires { ⌜ T (finite (st .x)) × T (finite (st .y)) ⌝ }
-    ensures { λ r. ⌜ ((m : Mem) (s : State.State) (c : Run.Outcome) → length (m .stems) ≡ room → Holds st (withOps (now (ops .entry)) (withPath (now (edges .entry)) (now (across .entry)) (now (cmds .entry)) m)) s →
-        Meets r (withOps (now (ops .entry)) (after st r (now (edges .exit)) (now (across .exit)) (now (cmds .exit)) m)) (operate (within room (length (now (cmds .entry)))) c Op.hvcurveto s)) ⌝ }
+    ensures { λ r. ⌜ ((m : Mem) (s : State.State) (c : Run.Outcome) → length (m .stems) ≡ room → Told same s → Holds st (withOps (now (ops .entry)) (withCmds (now (cmds .entry)) m)) s →
+        Meets r (withOps (now (ops .entry)) (after st r (now (cmds .exit)) m)) (operate (within room (length (now (cmds .entry)))) c Op.hvcurveto s)) ⌝ }
     ensures { λ r. ⌜ Small.Space st (r .st) room ⌝ }
 {
     let n = st.operands;
@@ -1339,44 +1154,28 @@ fn hvcurveto(
         ops[n - 2],
         0.0,
         ops[n - 1],
+        same,
         room,
         cleared(st),
-        edges,
-        across,
         cmds,
     )
 }
 
 // 12 33
-fn setcurrentpoint(
-    room: usize,
-    st: St,
-    ops: &[f64; 256],
-    edges: &mut [f64; 1024],
-    across: &mut [bool; 512],
-    cmds: &mut [u64],
-) -> Ran
+fn setcurrentpoint(same: bool, room: usize, st: St, ops: &[f64; 256], cmds: &mut [u64]) -> Ran
     requires { ⌜ Bounds st (length (now cmds)) ⌝ }
     requires { ⌜ st .stems ≤ room ⌝ }
     requires { ⌜ T (finite (st .x)) × T (finite (st .y)) ⌝ }
     requires { ⌜ ((i : ℕ) → i < st .operands → T (finite (getD (now ops) i nan))) ⌝ }
-    ensures { λ r. ⌜ ((m : Mem) (s : State.State) (c : Run.Outcome) → length (m .stems) ≡ room → Holds st (withOps (now (ops .entry)) (withPath (now (edges .entry)) (now (across .entry)) (now (cmds .entry)) m)) s →
-        Meets r (withOps (now (ops .entry)) (after st r (now (edges .exit)) (now (across .exit)) (now (cmds .exit)) m)) (operate (within room (length (now (cmds .entry)))) c Op.setcurrentpoint s)) ⌝ }
+    ensures { λ r. ⌜ ((m : Mem) (s : State.State) (c : Run.Outcome) → length (m .stems) ≡ room → Told same s → Holds st (withOps (now (ops .entry)) (withCmds (now (cmds .entry)) m)) s →
+        Meets r (withOps (now (ops .entry)) (after st r (now (cmds .exit)) m)) (operate (within room (length (now (cmds .entry)))) c Op.setcurrentpoint s)) ⌝ }
     ensures { λ r. ⌜ Small.Space st (r .st) room ⌝ }
 {
     let n = st.operands;
     if n < 2 {
         return made(st, 7);
     }
-    set_point(
-        ops[n - 2],
-        ops[n - 1],
-        room,
-        cleared(st),
-        edges,
-        across,
-        cmds,
-    )
+    set_point(ops[n - 2], ops[n - 1], same, room, cleared(st), cmds)
 }
 
 // ---- hint operators
@@ -1386,8 +1185,8 @@ fn hstem(
     st: St,
     ops: &[f64; 256],
     cells: &[f64; 19],
-    edges: &mut [f64; 1024],
-    across: &mut [bool; 512],
+    edges: &mut [f64; 512],
+    across: &mut [bool; 256],
 ) -> Ran
     requires { ⌜ (st .operands ≤ 256) × (st .hints ≤ 256) ⌝ }
     ensures { λ r. ⌜ ((m : Mem) (s : State.State) (c : Run.Outcome) (room words : ℕ) → Holds st (withOps (now (ops .entry)) (withCells (now (cells .entry)) (withHints (now (edges .entry)) (now (across .entry)) m))) s →
@@ -1413,8 +1212,8 @@ fn vstem(
     st: St,
     ops: &[f64; 256],
     cells: &[f64; 19],
-    edges: &mut [f64; 1024],
-    across: &mut [bool; 512],
+    edges: &mut [f64; 512],
+    across: &mut [bool; 256],
 ) -> Ran
     requires { ⌜ (st .operands ≤ 256) × (st .hints ≤ 256) ⌝ }
     ensures { λ r. ⌜ ((m : Mem) (s : State.State) (c : Run.Outcome) (room words : ℕ) → Holds st (withOps (now (ops .entry)) (withCells (now (cells .entry)) (withHints (now (edges .entry)) (now (across .entry)) m))) s →
@@ -1441,8 +1240,8 @@ fn stems3(
     from: f64,
     st: St,
     ops: &[f64; 256],
-    edges: &mut [f64; 1024],
-    across: &mut [bool; 512],
+    edges: &mut [f64; 512],
+    across: &mut [bool; 256],
 ) -> Ran
     requires { ⌜ (st .operands ≤ 256) × (st .hints ≤ 256) ⌝ }
     ensures { λ r. ⌜ ((m : Mem) (s : State.State) (room words : ℕ) → Holds st (withOps (now (ops .entry)) (withHints (now (edges .entry)) (now (across .entry)) m)) s →
@@ -1508,19 +1307,18 @@ fn hand_back(from: usize, to: usize, st: St, ops: &[f64; 256], ps: &mut [f64; 25
 // 0: the flex is listed, and its end point left for `pop`.
 fn end_flex(
     height: f64,
+    same: bool,
     room: usize,
     st: St,
     ps: &mut [f64; 256],
     cells: &[f64; 19],
-    edges: &mut [f64; 1024],
-    across: &mut [bool; 512],
     cmds: &mut [u64],
 ) -> Ran
     requires { ⌜ Bounds st (length (now cmds)) ⌝ }
     requires { ⌜ st .stems ≤ room ⌝ }
     requires { ⌜ T (finite height) × (st .flexing ≡ true → (i : ℕ) → i < 2 * st .points → Good (getD (now cells) i nan)) ⌝ }
-    ensures { λ r. ⌜ ((m : Mem) (s : State.State) (args : List Float) → height ≡ Run.heightOf args → length (m .stems) ≡ room → Holds st (withPs (now (ps .entry)) (withCells (now (cells .entry)) (withPath (now (edges .entry)) (now (across .entry)) (now (cmds .entry)) m))) s →
-        Meets r (withPs (now (ps .exit)) (withCells (now (cells .entry)) (after st r (now (edges .exit)) (now (across .exit)) (now (cmds .exit)) m))) (Run.otherSubr0 (within room (length (now (cmds .entry)))) args s)) ⌝ }
+    ensures { λ r. ⌜ ((m : Mem) (s : State.State) (args : List Float) → height ≡ Run.heightOf args → length (m .stems) ≡ room → Told same s → Holds st (withPs (now (ps .entry)) (withCells (now (cells .entry)) (withCmds (now (cmds .entry)) m))) s →
+        Meets r (withPs (now (ps .exit)) (withCells (now (cells .entry)) (after st r (now (cmds .exit)) m))) (Run.otherSubr0 (within room (length (now (cmds .entry)))) args s)) ⌝ }
     ensures { λ r. ⌜ Small.Space st (r .st) room ⌝ }
 {
     if !othersubrs::is_whole_flex(st.flexing, st.points) {
@@ -1528,7 +1326,7 @@ fn end_flex(
     }
     let mut s = st;
     s.flexing = false;
-    let c = commit(room, s, edges, across, cmds);
+    let c = commit(same, room, s, cmds);
     if c.flow != 0 {
         return c;
     }
@@ -1572,20 +1370,19 @@ fn collect(st: St, cells: &mut [f64; 19]) -> Ran
 
 // 12 16
 fn callothersubr(
+    same: bool,
     room: usize,
     st: St,
     ops: &[f64; 256],
     ps: &mut [f64; 256],
     cells: &mut [f64; 19],
-    edges: &mut [f64; 1024],
-    across: &mut [bool; 512],
     cmds: &mut [u64],
 ) -> Ran
     requires { ⌜ Bounds st (length (now cmds)) ⌝ }
     requires { ⌜ st .stems ≤ room ⌝ }
     requires { ⌜ Small.Finite st (now ops) (now cells) ⌝ }
-    ensures { λ r. ⌜ ((m : Mem) (s : State.State) → length (m .stems) ≡ room → Holds st (withOps (now (ops .entry)) (withPs (now (ps .entry)) (withCells (now (cells .entry)) (withPath (now (edges .entry)) (now (across .entry)) (now (cmds .entry)) m)))) s →
-        Meets r (withOps (now (ops .entry)) (withPs (now (ps .exit)) (withCells (now (cells .exit)) (after st r (now (edges .exit)) (now (across .exit)) (now (cmds .exit)) m)))) (Run.callOtherSubr (within room (length (now (cmds .entry)))) s)) ⌝ }
+    ensures { λ r. ⌜ ((m : Mem) (s : State.State) → length (m .stems) ≡ room → Told same s → Holds st (withOps (now (ops .entry)) (withPs (now (ps .entry)) (withCells (now (cells .entry)) (withCmds (now (cmds .entry)) m)))) s →
+        Meets r (withOps (now (ops .entry)) (withPs (now (ps .exit)) (withCells (now (cells .exit)) (after st r (now (cmds .exit)) m)))) (Run.callOtherSubr (within room (length (now (cmds .entry)))) s)) ⌝ }
     ensures { λ r. ⌜ Small.Space st (r .st) room ⌝ }
 {
     let n = st.operands;
@@ -1604,9 +1401,9 @@ fn callothersubr(
     let number = binary64::to_i64(ops[left + 1]);
     if number == 0 {
         if m == 0 {
-            return end_flex(50.0, room, s, ps, cells, edges, across, cmds);
+            return end_flex(50.0, same, room, s, ps, cells, cmds);
         }
-        return end_flex(ops[from], room, s, ps, cells, edges, across, cmds);
+        return end_flex(ops[from], same, room, s, ps, cells, cmds);
     }
     if number == 1 {
         s.flexing = true;
@@ -1725,20 +1522,21 @@ fn pop(st: St, ops: &mut [f64; 256], ps: &[f64; 256]) -> Ran
 // Every operator but callsubr.
 fn plain(
     op: u16,
+    same: bool,
     room: usize,
     st: St,
     ops: &mut [f64; 256],
     ps: &mut [f64; 256],
     cells: &mut [f64; 19],
-    edges: &mut [f64; 1024],
-    across: &mut [bool; 512],
+    edges: &mut [f64; 512],
+    across: &mut [bool; 256],
     cmds: &mut [u64],
 ) -> Ran
     requires { ⌜ Bounds st (length (now cmds)) ⌝ }
     requires { ⌜ st .stems ≤ room ⌝ }
     requires { ⌜ Small.Finite st (now ops) (now cells) ⌝ }
-    ensures { λ r. ⌜ ((m : Mem) (s : State.State) → length (m .stems) ≡ room → Holds st (withOps (now (ops .entry)) (withPs (now (ps .entry)) (withCells (now (cells .entry)) (withPath (now (edges .entry)) (now (across .entry)) (now (cmds .entry)) m)))) s →
-        Meets r (withOps (now (ops .exit)) (withPs (now (ps .exit)) (withCells (now (cells .exit)) (after st r (now (edges .exit)) (now (across .exit)) (now (cmds .exit)) m)))) (operate (within room (length (now (cmds .entry)))) (Run.refused 6) (operatorOf op) s)) ⌝ }
+    ensures { λ r. ⌜ ((m : Mem) (s : State.State) → length (m .stems) ≡ room → Told same s → Holds st (withOps (now (ops .entry)) (withPs (now (ps .entry)) (withCells (now (cells .entry)) (withPath (now (edges .entry)) (now (across .entry)) (now (cmds .entry)) m)))) s →
+        Meets r (withOps (now (ops .exit)) (withPs (now (ps .exit)) (withCells (now (cells .exit)) (after st r (now (cmds .exit)) (withHints (now (edges .exit)) (now (across .exit)) m))))) (operate (within room (length (now (cmds .entry)))) (Run.refused 6) (operatorOf op) s)) ⌝ }
     ensures { λ r. ⌜ Small.Space st (r .st) room ⌝ }
 {
     match op {
@@ -1749,19 +1547,19 @@ fn plain(
             return vstem(st, ops, cells, edges, across);
         }
         4 => {
-            return kept(vmoveto(room, st, ops, edges, across, cmds));
+            return kept(vmoveto(same, room, st, ops, cmds));
         }
         5 => {
-            return kept(rlineto(room, st, ops, edges, across, cmds));
+            return kept(rlineto(same, room, st, ops, cmds));
         }
         6 => {
-            return kept(hlineto(room, st, ops, edges, across, cmds));
+            return kept(hlineto(same, room, st, ops, cmds));
         }
         7 => {
-            return kept(vlineto(room, st, ops, edges, across, cmds));
+            return kept(vlineto(same, room, st, ops, cmds));
         }
         8 => {
-            return kept(rrcurveto(room, st, ops, edges, across, cmds));
+            return kept(rrcurveto(same, room, st, ops, cmds));
         }
         9 => {
             return closepath(st);
@@ -1776,16 +1574,16 @@ fn plain(
             return made(cleared(st), 2);
         }
         21 => {
-            return kept(rmoveto(room, st, ops, edges, across, cmds));
+            return kept(rmoveto(same, room, st, ops, cmds));
         }
         22 => {
-            return kept(hmoveto(room, st, ops, edges, across, cmds));
+            return kept(hmoveto(same, room, st, ops, cmds));
         }
         30 => {
-            return kept(vhcurveto(room, st, ops, edges, across, cmds));
+            return kept(vhcurveto(same, room, st, ops, cmds));
         }
         31 => {
-            return kept(hvcurveto(room, st, ops, edges, across, cmds));
+            return kept(hvcurveto(same, room, st, ops, cmds));
         }
         256 => {
             return made(cleared(st), 0);
@@ -1806,13 +1604,13 @@ fn plain(
             return div(st, ops);
         }
         272 => {
-            return kept(callothersubr(room, st, ops, ps, cells, edges, across, cmds));
+            return kept(callothersubr(same, room, st, ops, ps, cells, cmds));
         }
         273 => {
             return pop(st, ops, ps);
         }
         289 => {
-            return kept(setcurrentpoint(room, st, ops, edges, across, cmds));
+            return kept(setcurrentpoint(same, room, st, ops, cmds));
         }
         _ => {
             return made(st, 6);
@@ -1890,7 +1688,7 @@ fn clear(stems: &mut [Stem], i: usize)
 }
 
 // The stem in force at a place.
-fn stem_at(i: usize, edges: &[f64; 1024], across: &[bool; 512]) -> Stem
+fn stem_at(i: usize, edges: &[f64; 512], across: &[bool; 256]) -> Stem
     requires { ⌜ i < 256 ⌝ }
     ensures { λ r. ⌜ r ≡ stemAt (now (edges .entry)) (now (across .entry)) i ⌝ }
 {
@@ -1908,8 +1706,83 @@ fn sum(a: usize, b: usize) -> usize
     a + b
 }
 
+fn stem_from(stems: &mut [Stem], i: usize) -> Stem
+    requires { ⌜ i < length (now stems) ⌝ }
+    ensures { λ r. ⌜ (r ≡ getD (now (stems .entry)) i Small.zeroStem) × (now (stems .exit) ≡ now (stems .entry)) ⌝ }
+{
+    stems[i]
+}
+
+// Whether a record differs from the stem in force at a place.
+fn differs_at(v: Stem, i: usize, edges: &[f64; 512], across: &[bool; 256]) -> bool
+    requires { ⌜ i < 256 ⌝ }
+    ensures { λ r. ⌜ r ≡ not (State.sameStem v (stemAt (now (edges .entry)) (now (across .entry)) i)) ⌝ }
+{
+    !hints::same_stem(
+        v.horizontal,
+        v.pos,
+        v.width,
+        across[i],
+        edges[2 * i],
+        edges[2 * i + 1],
+    )
+}
+
+// Whether n records are the stems in force, in the same order.
+fn all_same(
+    first: usize,
+    n: usize,
+    edges: &[f64; 512],
+    across: &[bool; 256],
+    stems: &mut [Stem],
+) -> bool
+    requires { ⌜ (n ≤ 256) × (first + n ≤ length (now stems)) ⌝ }
+    ensures { λ r. ⌜ (r ≡ State.sameStems (take n (drop first (now (stems .entry)))) (stemsAt 0 n (now (edges .entry)) (now (across .entry)))) × (now (stems .exit) ≡ now (stems .entry)) ⌝ }
+{
+    let mut i = 0;
+    while i < n {
+        if differs_at(stem_from(stems, sum(first, i)), i, edges, across) {
+            return false;
+        }
+        i += 1;
+    }
+    true
+}
+
+// Whether the stems in force changed, and the last group has as many.
+fn may_be_last(st: St) -> bool
+    ensures { λ r. ⌜ r ≡ Small.mayBeLast st ⌝ }
+{
+    if !st.changed {
+        return false;
+    }
+    if st.groups == 0 {
+        return false;
+    }
+    st.last == st.hints
+}
+
+// Where the last group's records begin.
+fn last_from(st: St) -> usize
+    requires { ⌜ st .last ≤ st .stems ⌝ }
+    ensures { λ r. ⌜ r ≡ st .stems - st .last ⌝ }
+{
+    st.stems - st.last
+}
+
+// Whether the stems in force changed and are the last group's, in the same order. With no group they are not.
+fn is_last(st: St, edges: &[f64; 512], across: &[bool; 256], stems: &mut [Stem]) -> bool
+    requires { ⌜ (st .hints ≤ 256) × ((st .last ≤ st .stems) × (st .stems ≤ length (now stems))) ⌝ }
+    ensures { λ r. ⌜ (r ≡ (st .changed && (ltb 0 (st .groups) && State.sameStems (take (st .last) (drop (st .stems - st .last) (now (stems .entry)))) (stemsAt 0 (st .hints) (now (edges .entry)) (now (across .entry)))))) × (now (stems .exit) ≡ now (stems .entry)) ⌝ }
+{
+    if may_be_last(st) {
+        return all_same(last_from(st), st.hints, edges, across, stems);
+    }
+    false
+}
+
 // The stems in force are stored as a group's records.
-fn keep_group(used: usize, n: usize, edges: &[f64; 1024], across: &[bool; 512], stems: &mut [Stem])
+fn keep_group(used: usize, n: usize, edges: &[f64; 512], across: &[bool; 256], stems: &mut [Stem])
     requires { ⌜ (n ≤ 256) × (used + n ≤ length (now stems)) ⌝ }
     ensures { λ _. ⌜ now (stems .exit) ≡ paste (now (stems .entry)) used (stemsAt 0 n (now (edges .entry)) (now (across .entry))) n ⌝ }
 {
@@ -1960,8 +1833,8 @@ fn call_body(
     ops: &mut [f64; 256],
     ps: &mut [f64; 256],
     cells: &mut [f64; 19],
-    edges: &mut [f64; 1024],
-    across: &mut [bool; 512],
+    edges: &mut [f64; 512],
+    across: &mut [bool; 256],
     cmds: &mut [u64],
     stems: &mut [Stem],
 ) -> Ran
@@ -2003,8 +1876,8 @@ fn op(
     ops: &mut [f64; 256],
     ps: &mut [f64; 256],
     cells: &mut [f64; 19],
-    edges: &mut [f64; 1024],
-    across: &mut [bool; 512],
+    edges: &mut [f64; 512],
+    across: &mut [bool; 256],
     cmds: &mut [u64],
     stems: &mut [Stem],
 ) -> Ran
@@ -2028,7 +1901,8 @@ fn op(
         );
     }
     let n = room(stems);
-    let r = plain(op, n, st, ops, ps, cells, edges, across, cmds);
+    let same = is_last(st, edges, across, stems);
+    let r = plain(op, same, n, st, ops, ps, cells, edges, across, cmds);
     let s = r.st;
     let g = s.groups;
     let h = st.groups;
@@ -2049,8 +1923,8 @@ fn run(
     ops: &mut [f64; 256],
     ps: &mut [f64; 256],
     cells: &mut [f64; 19],
-    edges: &mut [f64; 1024],
-    across: &mut [bool; 512],
+    edges: &mut [f64; 512],
+    across: &mut [bool; 256],
     cmds: &mut [u64],
     stems: &mut [Stem],
 ) -> Ran
@@ -2196,8 +2070,8 @@ fn interpret(
     ops: &mut [f64; 256],
     ps: &mut [f64; 256],
     cells: &mut [f64; 19],
-    edges: &mut [f64; 1024],
-    across: &mut [bool; 512],
+    edges: &mut [f64; 512],
+    across: &mut [bool; 256],
     commands: &mut [u64],
     stems: &mut [Stem],
 ) -> Interpreted
@@ -2247,8 +2121,8 @@ pub fn run_charstring(
     let mut ops = [0.0; 256];
     let mut ps = [0.0; 256];
     let mut cells = [0.0; 19];
-    let mut edges = [0.0; 1024];
-    let mut across = [false; 512];
+    let mut edges = [0.0; 512];
+    let mut across = [false; 256];
     interpret(
         charstring,
         bank,

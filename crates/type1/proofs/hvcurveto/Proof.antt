@@ -1,7 +1,7 @@
-use Rattle.type1.proofs.Operands.{does-hvcurveto, short-hvcurveto, clear-bounds, clear-finite, clear-space}
-use Rattle.type1.proofs.Groups.{space-same}
-use lib.Ieee.{ofBits}
 use native.Mathlib.Omega.{arith}
+use lib.Ieee.{ofBits}
+use Rattle.type1.proofs.Groups.{space-same}
+use Rattle.type1.proofs.Operands.{does-hvcurveto, short-hvcurveto, clear-bounds, clear-finite, clear-space}
 use borrow.Author.Needs.{needs}
 use Rattle.type1.proofs.hvcurveto.Statement.{statement}
 use Rattle.type1.proofs.hvcurveto.Tie as tie
@@ -11,77 +11,77 @@ use Rattle.type1.proofs.cleared.Reads as cleared-reads
 use Rattle.type1.proofs.curve_by.Reads as curve-by-reads
 use Rattle.type1.proofs.made.Reads as made-reads
 
--- src/lib.rt:838:9
+-- src/lib.rt:1250:9
 made-requires : tie.Need-made-requires
 made-requires c κs = search needs
 
--- src/lib.rt:838:9
+-- src/lib.rt:1250:9
 returns : tie.Need-returns
 returns c =
-    (short-hvcurveto _ _ _ _ _ _ _ (c .made .ensures) (c .before .if1 .taken), space-same (c .before .before .before .args .st) _ 7 _ (c .made .ensures))
+    (short-hvcurveto _ _ _ _ _ _ (c .made .ensures) (c .before .if1 .taken), space-same (c .before .before .before .args .st) _ 7 _ (c .made .ensures))
 
--- src/lib.rt:841:9
+-- src/lib.rt:1253:9
 mul-curve-by : tie.Need-mul-curve-by
 mul-curve-by c = search needs
 
--- src/lib.rt:841:9
+-- src/lib.rt:1253:9
 element-copy-out-curve-by : tie.Need-element-copy-out-curve-by
 element-copy-out-curve-by c = search needs
 
--- src/lib.rt:843:13
+-- src/lib.rt:1255:13
 sub-curve-by : tie.Need-sub-curve-by
 sub-curve-by c = search needs
 
--- src/lib.rt:843:9
+-- src/lib.rt:1255:9
 mul-curve-by-2 : tie.Need-mul-curve-by-2
 mul-curve-by-2 c = search needs
 
--- src/lib.rt:843:9
+-- src/lib.rt:1255:9
 element-copy-out-curve-by-2 : tie.Need-element-copy-out-curve-by-2
 element-copy-out-curve-by-2 c = search needs
 
--- src/lib.rt:844:13
+-- src/lib.rt:1256:13
 sub-curve-by-2 : tie.Need-sub-curve-by-2
 sub-curve-by-2 c = search needs
 
--- src/lib.rt:844:9
+-- src/lib.rt:1256:9
 mul-curve-by-3 : tie.Need-mul-curve-by-3
 mul-curve-by-3 c = search needs
 
--- src/lib.rt:844:9
+-- src/lib.rt:1256:9
 element-copy-out-curve-by-3 : tie.Need-element-copy-out-curve-by-3
 element-copy-out-curve-by-3 c = search needs
 
--- src/lib.rt:846:13
+-- src/lib.rt:1258:13
 sub-curve-by-3 : tie.Need-sub-curve-by-3
 sub-curve-by-3 c = search needs
 
--- src/lib.rt:846:9
+-- src/lib.rt:1258:9
 mul-curve-by-4 : tie.Need-mul-curve-by-4
 mul-curve-by-4 c = search needs
 
--- src/lib.rt:846:9
+-- src/lib.rt:1258:9
 element-copy-out-curve-by-4 : tie.Need-element-copy-out-curve-by-4
 element-copy-out-curve-by-4 c = search needs
 
--- src/lib.rt:848:9
+-- src/lib.rt:1261:9
 cleared-requires : tie.Need-cleared-requires
 cleared-requires c κs = search needs
 
--- src/lib.rt:840:5
+-- src/lib.rt:1252:5
 curve-by-requires : tie.Need-curve-by-requires
 curve-by-requires c κs =
-    (clear-bounds _ _ _ _ (c .before .before .before .cleared .ensures) (c .before .before .before .before .before .before .before .before .before .before .pre .0) (c .before .before .before .before .before .before .before .before .before .before .pre .1 .0) .0, (clear-bounds _ _ _ _ (c .before .before .before .cleared .ensures) (c .before .before .before .before .before .before .before .before .before .before .pre .0) (c .before .before .before .before .before .before .before .before .before .before .pre .1 .0) .1, clear-finite (c .before .before .before .before .before .before .before .before .before .before .args .st) _ (c .before .before .before .cleared .ensures) (c .before .before .before .before .before .before .before .before .before .before .pre .1 .1)))
+    (clear-bounds _ _ _ _ (c .before .cleared .ensures) (c .before .before .before .before .before .before .before .before .pre .0) (c .before .before .before .before .before .before .before .before .pre .1 .0) .0, (clear-bounds _ _ _ _ (c .before .cleared .ensures) (c .before .before .before .before .before .before .before .before .pre .0) (c .before .before .before .before .before .before .before .before .pre .1 .0) .1, clear-finite (c .before .before .before .before .before .before .before .before .args .st) _ (c .before .cleared .ensures) (c .before .before .before .before .before .before .before .before .pre .1 .1)))
 
--- src/lib.rt:821:1
+-- src/lib.rt:1234:1
 same-length : tie.Need-same-length
 same-length c = search needs
 
--- src/lib.rt:821:1
+-- src/lib.rt:1234:1
 returns-2 : tie.Need-returns-2
 unfolding ofBits
 returns-2 c =
-    (does-hvcurveto (c .before .before .before .before .before .before .before .before .before .before .before .before .before .args .st) _ _ _ _ _ _ _ _ _ _ (c .before .before .before .before .before .before .cleared .ensures) (c .before .before .before .before .before .before .before .before .before .before .before .if1 .left) (c .before .before .curve-by .ensures .0), clear-space (c .before .before .before .before .before .before .before .before .before .before .before .before .before .args .st) _ (c .before .before .curve-by .result) _ (c .before .before .before .before .before .before .cleared .ensures) (c .before .before .curve-by .ensures .1))
+    (does-hvcurveto _ (c .before .before .before .before .before .before .before .before .before .before .before .args .st) _ _ _ _ _ _ (c .before .before .before .before .cleared .ensures) (c .before .before .before .before .before .before .before .before .before .if1 .left) (c .before .before .curve-by .ensures .0), clear-space (c .before .before .before .before .before .before .before .before .before .before .before .args .st) _ (c .before .before .curve-by .result) _ (c .before .before .before .before .cleared .ensures) (c .before .before .curve-by .ensures .1))
 
 pub hvcurveto-spec : {M : Type 1} → statement M
 hvcurveto-spec =

@@ -82,7 +82,7 @@ mineT : (h : Stem) (u : Val) → Is T.the-row h (u ∷ []) → Is T.the-row h (m
 mineT h u i = subst (Is T.the-row h) (LL.tells T.the-type T′.the-laws h (u ∷ []) i) i
 
 abbrev pub stayed : Stays (f.ended .signature .params) (f.ended .kept)
-stayed = (stay-none (λ _. usize) yes, (stay-none (λ _. usize) yes, (stay-none-ref (0 ∷ []) tt (ArrayOf (plain (λ _. f64)) (λ _. tt) 1024) yes, (stay-none-ref (1 ∷ []) tt (ArrayOf (plain (λ _. bool)) (λ _. tt) 512) yes, (stay-slice (2 ∷ []) tt (plain (λ _. T.the-row)), tt)))))
+stayed = (stay-none (λ _. usize) yes, (stay-none (λ _. usize) yes, (stay-none-ref (0 ∷ []) tt (ArrayOf (plain (λ _. f64)) (λ _. tt) 512) yes, (stay-none-ref (1 ∷ []) tt (ArrayOf (plain (λ _. bool)) (λ _. tt) 256) yes, (stay-slice (2 ∷ []) tt (plain (λ _. T.the-row)), tt)))))
 
 module _ {M : Type 1} (𝓤 : URA M) (H : Heap 𝓤) (A : Atoms 𝓤) (W : Given 𝓤 H A) (mem : Memory → SProp 𝓤) (run′ : Routine → Fun 𝓤) (𝓣 : Tables 𝓤 H) (κedges : Lft) (qedges : Share) (xedges : RefT (List Float)) (κacross : Lft) (qacross : Share) (xacross : RefT (List Bool)) (κstems : Lft) (qstems : Share) (bstems ostems : ℕ) (γstems : GName) (ysstems : List Stem) (used : ℕ) (n : ℕ)
     (fitstems : Room T.the-row (length ysstems)) (used-fits : used < 2 ^ 64) (n-fits : n < 2 ^ 64) where
@@ -114,18 +114,18 @@ module _ {M : Type 1} (𝓤 : URA M) (H : Heap 𝓤) (A : Atoms 𝓤) (W : Given
   Post = walkOf 𝓤 H A f.ended stayed (f.clauses 𝓤 H A mem run′) .post bound
 
   exits : (r : Unit {0}) (w : Val) (usstems : List Stem) → usstems ≡ paste ysstems used (stemsAt 0 n (xedges .now) (xacross .now)) n → length usstems ≡ mstems
-      → ent 𝓤 (⋆ 𝓤 H A (‵ (Nothing .own r (w ∷ [])) ∷ ‵ (ShrRef (named 0) κedges (Array f64 1024) .own xedges (vptr (xedges .ptr .0) (xedges .ptr .1) ∷ [])) ∷ ‵ (flft κedges qedges) ∷ ‵ (ShrRef (named 0) κacross (Array bool 512) .own xacross (vptr (xacross .ptr .0) (xacross .ptr .1) ∷ [])) ∷ ‵ (flft κacross qacross) ∷ ‵ (Own T.the-row mstems bstems ostems κstems γstems usstems) ∷ ‵ (flft κstems qstems) ∷ [])) (Post w)
+      → ent 𝓤 (⋆ 𝓤 H A (‵ (Nothing .own r (w ∷ [])) ∷ ‵ (ShrRef (named 0) κedges (Array f64 512) .own xedges (vptr (xedges .ptr .0) (xedges .ptr .1) ∷ [])) ∷ ‵ (flft κedges qedges) ∷ ‵ (ShrRef (named 0) κacross (Array bool 256) .own xacross (vptr (xacross .ptr .0) (xacross .ptr .1) ∷ [])) ∷ ‵ (flft κacross qacross) ∷ ‵ (Own T.the-row mstems bstems ostems κstems γstems usstems) ∷ ‵ (flft κstems qstems) ∷ [])) (Post w)
   exits r w usstems e lstems =
-      qed W (‵ (Nothing .own r (w ∷ [])) ∷ ‵ (ShrRef (named 0) κedges (Array f64 1024) .own xedges (vptr (xedges .ptr .0) (xedges .ptr .1) ∷ [])) ∷ ‵ (flft κedges qedges) ∷ ‵ (ShrRef (named 0) κacross (Array bool 512) .own xacross (vptr (xacross .ptr .0) (xacross .ptr .1) ∷ [])) ∷ ‵ (flft κacross qacross) ∷ ‵ (Own T.the-row mstems bstems ostems κstems γstems usstems) ∷ ‵ (flft κstems qstems) ∷ []) ∵ suffices ! _ (ends-at 𝓤 H A f.ended stayed (f.clauses 𝓤 H A mem run′) W bound w r (tt, (tt, (tt, (tt, (usstems, tt))))) (tt, (tt, (tt, (tt, (lstems, tt)))))) $ says ! e $
+      qed W (‵ (Nothing .own r (w ∷ [])) ∷ ‵ (ShrRef (named 0) κedges (Array f64 512) .own xedges (vptr (xedges .ptr .0) (xedges .ptr .1) ∷ [])) ∷ ‵ (flft κedges qedges) ∷ ‵ (ShrRef (named 0) κacross (Array bool 256) .own xacross (vptr (xacross .ptr .0) (xacross .ptr .1) ∷ [])) ∷ ‵ (flft κacross qacross) ∷ ‵ (Own T.the-row mstems bstems ostems κstems γstems usstems) ∷ ‵ (flft κstems qstems) ∷ []) ∵ suffices ! _ (ends-at 𝓤 H A f.ended stayed (f.clauses 𝓤 H A mem run′) W bound w r (tt, (tt, (tt, (tt, (usstems, tt))))) (tt, (tt, (tt, (tt, (lstems, tt)))))) $ says ! e $
       nothing ! $ move ! (7 ∷ 0 ∷ []) $ join ! $ move ! (5 ∷ 0 ∷ []) $ join ! $ move ! (3 ∷ 0 ∷ []) $ join ! $ frame ! $ nothing ! $ move ! (4 ∷ 0 ∷ []) $ fjoin ! $ move ! (3 ∷ 0 ∷ []) $ fjoin ! $ move ! (2 ∷ 0 ∷ []) $ fjoin ! $ owned ! usize (Is usize) (uint-makes 𝓤 H A W w64) n _ (refl, n-fits) $ fjoin ! $ owned ! usize (Is usize) (uint-makes 𝓤 H A W w64) used _ (refl, used-fits) $ fjoin ! $ done !
 
   module _ (known-sum : Triple 𝓤 (C #type1·sum) (SumC 𝓤 H A mem run′)) (known-stem-at : Triple 𝓤 (C #type1·stem-at) (StemAtC 𝓤 H A mem run′)) (known-put : Triple 𝓤 (C #type1·put) (PutC 𝓤 H A mem run′)) (need : (n ≤ 256) × (used + n ≤ length ysstems)) where
     abbrev En : (l₀ l₁ l₂ l₃ l₄ l₅ l₆ l₇ l₈ l₉ l₁₀ l₁₁ l₁₂ : ℕ) → Env 𝓤 H
-    En l₀ l₁ l₂ l₃ l₄ l₅ l₆ l₇ l₈ l₉ l₁₀ l₁₁ l₁₂ = (tyUnit, l₀) ∷ (word, l₁) ∷ (word, l₂) ∷ (sF (named 0) 1024, l₃) ∷ (sA (named 1), l₄) ∷ (sliceTy (tS (named 2)), l₅) ∷ (word, l₆) ∷ (tyBool, l₇) ∷ (tyUnit, l₈) ∷ (tS erased, l₉) ∷ (sliceTy (tS erased), l₁₀) ∷ (word, l₁₁) ∷ (tTt, l₁₂) ∷ []
+    En l₀ l₁ l₂ l₃ l₄ l₅ l₆ l₇ l₈ l₉ l₁₀ l₁₁ l₁₂ = (tyUnit, l₀) ∷ (word, l₁) ∷ (word, l₂) ∷ (sF (named 0) 512, l₃) ∷ (sA (named 1), l₄) ∷ (sliceTy (tS (named 2)), l₅) ∷ (word, l₆) ∷ (tyBool, l₇) ∷ (tyUnit, l₈) ∷ (tS erased, l₉) ∷ (sliceTy (tS erased), l₁₀) ∷ (word, l₁₁) ∷ (tTt, l₁₂) ∷ []
 
     -- at the head of the loop
     abbrev At : ℕ → (List Stem) → (l₀ l₁ l₂ l₃ l₄ l₅ l₆ l₇ l₈ l₉ l₁₀ l₁₁ l₁₂ : ℕ) → List (Item 𝓤)
-    At i zs l₀ l₁ l₂ l₃ l₄ l₅ l₆ l₇ l₈ l₉ l₁₀ l₁₁ l₁₂ = ‵ (ShrRef (named 0) κedges (Array f64 1024) .own xedges (vptr (xedges .ptr .0) (xedges .ptr .1) ∷ [])) ∷ ‵ (flft κedges qedges) ∷ ‵ (ShrRef (named 0) κacross (Array bool 512) .own xacross (vptr (xacross .ptr .0) (xacross .ptr .1) ∷ [])) ∷ ‵ (flft κacross qacross) ∷ ‵ (Own T.the-row mstems bstems ostems κstems γstems zs) ∷ ‵ (flft κstems qstems) ∷ ‵ (froom tTt l₁₂ 0) ∷ ‵ (fdies tTt l₁₂) ∷ ‵ (froom word l₁₁ 0) ∷ ‵ (fdies word l₁₁) ∷ ‵ (froom (sliceTy (tS erased)) l₁₀ 0) ∷ ‵ (fdies (sliceTy (tS erased)) l₁₀) ∷ ‵ (froom (tS erased) l₉ 0) ∷ ‵ (fdies (tS erased) l₉) ∷ ‵ (froom tyUnit l₈ 0) ∷ ‵ (fdies tyUnit l₈) ∷ ‵ (froom tyBool l₇ 0) ∷ ‵ (fdies tyBool l₇) ∷ ‵ (fat fullShare word l₆ 0 (vint w64 i)) ∷ ‵ (fdies word l₆) ∷ ‵ (fat fullShare (sliceTy (tS (named 2))) l₅ 0 (sliceVal (bstems, ostems) mstems)) ∷ ‵ (fdies (sliceTy (tS (named 2))) l₅) ∷ ‵ (fat fullShare (sA (named 1)) l₄ 0 (vptr (xacross .ptr .0) (xacross .ptr .1))) ∷ ‵ (fdies (sA (named 1)) l₄) ∷ ‵ (fat fullShare (sF (named 0) 1024) l₃ 0 (vptr (xedges .ptr .0) (xedges .ptr .1))) ∷ ‵ (fdies (sF (named 0) 1024) l₃) ∷ ‵ (fat fullShare word l₂ 0 (vint w64 n)) ∷ ‵ (fdies word l₂) ∷ ‵ (fat fullShare word l₁ 0 (vint w64 used)) ∷ ‵ (fdies word l₁) ∷ ‵ (froom tyUnit l₀ 0) ∷ ‵ (fdies tyUnit l₀) ∷ []
+    At i zs l₀ l₁ l₂ l₃ l₄ l₅ l₆ l₇ l₈ l₉ l₁₀ l₁₁ l₁₂ = ‵ (ShrRef (named 0) κedges (Array f64 512) .own xedges (vptr (xedges .ptr .0) (xedges .ptr .1) ∷ [])) ∷ ‵ (flft κedges qedges) ∷ ‵ (ShrRef (named 0) κacross (Array bool 256) .own xacross (vptr (xacross .ptr .0) (xacross .ptr .1) ∷ [])) ∷ ‵ (flft κacross qacross) ∷ ‵ (Own T.the-row mstems bstems ostems κstems γstems zs) ∷ ‵ (flft κstems qstems) ∷ ‵ (froom tTt l₁₂ 0) ∷ ‵ (fdies tTt l₁₂) ∷ ‵ (froom word l₁₁ 0) ∷ ‵ (fdies word l₁₁) ∷ ‵ (froom (sliceTy (tS erased)) l₁₀ 0) ∷ ‵ (fdies (sliceTy (tS erased)) l₁₀) ∷ ‵ (froom (tS erased) l₉ 0) ∷ ‵ (fdies (tS erased) l₉) ∷ ‵ (froom tyUnit l₈ 0) ∷ ‵ (fdies tyUnit l₈) ∷ ‵ (froom tyBool l₇ 0) ∷ ‵ (fdies tyBool l₇) ∷ ‵ (fat fullShare word l₆ 0 (vint w64 i)) ∷ ‵ (fdies word l₆) ∷ ‵ (fat fullShare (sliceTy (tS (named 2))) l₅ 0 (sliceVal (bstems, ostems) mstems)) ∷ ‵ (fdies (sliceTy (tS (named 2))) l₅) ∷ ‵ (fat fullShare (sA (named 1)) l₄ 0 (vptr (xacross .ptr .0) (xacross .ptr .1))) ∷ ‵ (fdies (sA (named 1)) l₄) ∷ ‵ (fat fullShare (sF (named 0) 512) l₃ 0 (vptr (xedges .ptr .0) (xedges .ptr .1))) ∷ ‵ (fdies (sF (named 0) 512) l₃) ∷ ‵ (fat fullShare word l₂ 0 (vint w64 n)) ∷ ‵ (fdies word l₂) ∷ ‵ (fat fullShare word l₁ 0 (vint w64 used)) ∷ ‵ (fdies word l₁) ∷ ‵ (froom tyUnit l₀ 0) ∷ ‵ (fdies tyUnit l₀) ∷ []
 
     -- what holds there
     abbrev Held : ℕ → (List Stem) → Type 0
@@ -161,7 +161,7 @@ module _ {M : Type 1} (𝓤 : URA M) (H : Heap 𝓤) (A : Atoms 𝓤) (W : Given
         -- `sum`
         nothing ! $ asks-all ! fm usize (Is usize) (shows 𝓤 H A usize) (Unit {0} × (Unit {0} × Unit {0})) (λ (r : usize .Denot) (lasts : (Unit {0} × (Unit {0} × Unit {0}))). r ≡ used + i) (λ (lasts : (Unit {0} × (Unit {0} × Unit {0}))). (fsep ftrue (fsep ftrue ftrue))) (‵ ftrue) (‵ ftrue) (vint w64 used ∷ vint w64 i ∷ []) (sum-as 𝓤 H A mem run′ W C known-sum (used) (i) (used-fits) (held .0) (sum-fits used i n mstems small (need .1) (fitstems .0))) (and-then ! (load ! (from ! (stop !)) (look ! 29 refl)) (and-then ! (load ! (from ! (stop !)) (look ! 19 refl)) (no-more !))) (λ w1 r1 zs1 e1 is1. land ! (from ! (stop !)) (init ! 11 refl (uint-lawful 𝓤 H A W w64 .typed r1 _ is1 .0)) $ rewrite ! 11 (λ (u : Val). ‵ (fat fullShare word l₁₁ 0 u)) (ap only (is1 .0)) refl $ drop ! $ drop ! $ fsplit ! $ drop ! $ fsplit ! $ drop ! $ drop ! $
         -- `stem_at`
-        use1 W (‵ (ShrRef (named 0) κedges (Array f64 1024) .own xedges (vptr (xedges .ptr .0) (xedges .ptr .1) ∷ [])) ⊛ ‵ (ShrRef (named 0) κedges (Array f64 1024) .own xedges (vptr (xedges .ptr .0) (xedges .ptr .1) ∷ []))) (shr-copy 𝓤 H A W (named 0) κedges (Array f64 1024) .twice xedges (vptr (xedges .ptr .0) (xedges .ptr .1) ∷ [])) $ split ! $ move ! (2 ∷ 1 ∷ []) $ join ! $ move ! (2 ∷ []) $ use1 W (‵ (ShrRef (named 0) κacross (Array bool 512) .own xacross (vptr (xacross .ptr .0) (xacross .ptr .1) ∷ [])) ⊛ ‵ (ShrRef (named 0) κacross (Array bool 512) .own xacross (vptr (xacross .ptr .0) (xacross .ptr .1) ∷ []))) (shr-copy 𝓤 H A W (named 0) κacross (Array bool 512) .twice xacross (vptr (xacross .ptr .0) (xacross .ptr .1) ∷ [])) $ split ! $ move ! (4 ∷ 1 ∷ []) $ join ! $ move ! (2 ∷ 0 ∷ []) $ join ! $ asks-all ! fm T.the-row (Is T.the-row) (shows 𝓤 H A T.the-row) (Unit {0} × (Unit {0} × (Unit {0} × Unit {0}))) (λ (r : T.the-row .Denot) (lasts : (Unit {0} × (Unit {0} × (Unit {0} × Unit {0})))). r ≡ stemAt (xedges .now) (xacross .now) i) (λ (lasts : (Unit {0} × (Unit {0} × (Unit {0} × Unit {0})))). (fsep ftrue (fsep ftrue (fsep ftrue ftrue)))) (‵ (flft κedges qedges) ⊛ (‵ (flft κacross qacross) ⊛ ‵ ftrue)) ((‵ (flft κedges qedges) ⊛ ‵ (ShrRef (named 0) κedges (Array f64 1024) .own xedges (vptr (xedges .ptr .0) (xedges .ptr .1) ∷ []))) ⊛ (‵ (flft κacross qacross) ⊛ ‵ (ShrRef (named 0) κacross (Array bool 512) .own xacross (vptr (xacross .ptr .0) (xacross .ptr .1) ∷ [])))) (vint w64 i ∷ vptr (xedges .ptr .0) (xedges .ptr .1) ∷ vptr (xacross .ptr .0) (xacross .ptr .1) ∷ []) (stem-at-as 𝓤 H A mem run′ W C known-stem-at κedges qedges xedges κacross qacross xacross (i) (held .0) (omega (arith, small, need .0))) (and-then ! (load ! (from ! (stop !)) (look ! 17 refl)) (and-then ! (load ! (from ! (stop !)) (look ! 23 refl)) (and-then ! (load ! (from ! (stop !)) (look ! 21 refl)) (no-more !)))) (λ w2 r2 zs2 e2 is2. land ! (from ! (stop !)) (init ! 7 refl (typedT 𝓤 H A W r2 _ is2)) $ rewrite ! 7 (λ (u : Val). ‵ (fat fullShare tTt l₁₂ 0 u)) (ap only (LL.tells T.the-type T′.the-laws r2 (w2 ∷ []) is2)) refl $ drop ! $ split ! $ move ! (1 ∷ []) $ split ! $ move ! (1 ∷ []) $ drop ! $ move ! (2 ∷ []) $ fsplit ! $ drop ! $ fsplit ! $ drop ! $ fsplit ! $ drop ! $ drop ! $
+        use1 W (‵ (ShrRef (named 0) κedges (Array f64 512) .own xedges (vptr (xedges .ptr .0) (xedges .ptr .1) ∷ [])) ⊛ ‵ (ShrRef (named 0) κedges (Array f64 512) .own xedges (vptr (xedges .ptr .0) (xedges .ptr .1) ∷ []))) (shr-copy 𝓤 H A W (named 0) κedges (Array f64 512) .twice xedges (vptr (xedges .ptr .0) (xedges .ptr .1) ∷ [])) $ split ! $ move ! (2 ∷ 1 ∷ []) $ join ! $ move ! (2 ∷ []) $ use1 W (‵ (ShrRef (named 0) κacross (Array bool 256) .own xacross (vptr (xacross .ptr .0) (xacross .ptr .1) ∷ [])) ⊛ ‵ (ShrRef (named 0) κacross (Array bool 256) .own xacross (vptr (xacross .ptr .0) (xacross .ptr .1) ∷ []))) (shr-copy 𝓤 H A W (named 0) κacross (Array bool 256) .twice xacross (vptr (xacross .ptr .0) (xacross .ptr .1) ∷ [])) $ split ! $ move ! (4 ∷ 1 ∷ []) $ join ! $ move ! (2 ∷ 0 ∷ []) $ join ! $ asks-all ! fm T.the-row (Is T.the-row) (shows 𝓤 H A T.the-row) (Unit {0} × (Unit {0} × (Unit {0} × Unit {0}))) (λ (r : T.the-row .Denot) (lasts : (Unit {0} × (Unit {0} × (Unit {0} × Unit {0})))). r ≡ stemAt (xedges .now) (xacross .now) i) (λ (lasts : (Unit {0} × (Unit {0} × (Unit {0} × Unit {0})))). (fsep ftrue (fsep ftrue (fsep ftrue ftrue)))) (‵ (flft κedges qedges) ⊛ (‵ (flft κacross qacross) ⊛ ‵ ftrue)) ((‵ (flft κedges qedges) ⊛ ‵ (ShrRef (named 0) κedges (Array f64 512) .own xedges (vptr (xedges .ptr .0) (xedges .ptr .1) ∷ []))) ⊛ (‵ (flft κacross qacross) ⊛ ‵ (ShrRef (named 0) κacross (Array bool 256) .own xacross (vptr (xacross .ptr .0) (xacross .ptr .1) ∷ [])))) (vint w64 i ∷ vptr (xedges .ptr .0) (xedges .ptr .1) ∷ vptr (xacross .ptr .0) (xacross .ptr .1) ∷ []) (stem-at-as 𝓤 H A mem run′ W C known-stem-at κedges qedges xedges κacross qacross xacross (i) (held .0) (omega (arith, small, need .0))) (and-then ! (load ! (from ! (stop !)) (look ! 17 refl)) (and-then ! (load ! (from ! (stop !)) (look ! 23 refl)) (and-then ! (load ! (from ! (stop !)) (look ! 21 refl)) (no-more !)))) (λ w2 r2 zs2 e2 is2. land ! (from ! (stop !)) (init ! 7 refl (typedT 𝓤 H A W r2 _ is2)) $ rewrite ! 7 (λ (u : Val). ‵ (fat fullShare tTt l₁₂ 0 u)) (ap only (LL.tells T.the-type T′.the-laws r2 (w2 ∷ []) is2)) refl $ drop ! $ split ! $ move ! (1 ∷ []) $ split ! $ move ! (1 ∷ []) $ drop ! $ move ! (2 ∷ []) $ fsplit ! $ drop ! $ fsplit ! $ drop ! $ fsplit ! $ drop ! $ drop ! $
         -- `put`
         move ! (4 ∷ 5 ∷ []) $ lend ! tt T.the-row mstems bstems ostems zs (held .1 .1 .0) (λ νstems3 δstems3. asks-all ! fm Nothing (Is Nothing) (shows 𝓤 H A Nothing) (List Stem × (Unit {0} × (Unit {0} × Unit {0}))) (λ (r : Nothing .Denot) (lasts : (List Stem × (Unit {0} × (Unit {0} × Unit {0})))). lasts .0 ≡ set zs r1 r2) (λ (lasts : (List Stem × (Unit {0} × (Unit {0} × Unit {0})))). (fsep (fsep (finally T.the-row δstems3 (lasts .0)) (feq ℕ (length (lasts .0)) (length zs))) (fsep ftrue (fsep ftrue ftrue)))) (‵ (flft (νstems3 ∷ []) fullShare) ⊛ ‵ ftrue) (‵ (flft (νstems3 ∷ []) fullShare) ⊛ ‵ (Own T.the-row mstems bstems ostems (νstems3 ∷ []) δstems3 zs)) (sliceVal (bstems, ostems) mstems ∷ vint w64 r1 ∷ machT r2 ∷ []) (put-as 𝓤 H A mem run′ W C known-put (νstems3 ∷ []) fullShare mstems bstems ostems δstems3 zs (r1) (r2) (is1 .1) (mineT r2 w2 is2) (subst (λ (k : ℕ). r1 < k) (sym (held .1 .1 .0)) (subst (λ (k : ℕ). k < mstems) (sym e1) (in-store used i n mstems small (need .1))))) (and-then ! (load ! (from ! (stop !)) (look ! 10 refl)) (and-then ! (load ! (from ! (stop !)) (look ! 8 refl)) (and-then ! (load ! (from ! (stop !)) (look ! 6 refl)) (no-more !)))) (λ w3 r3 zs3 e3 is3. land ! (from ! (stop !)) (init ! 16 refl (nothing-lawful 𝓤 H A W .typed r3 _ is3 .0)) $ drop ! $ split ! $ move ! (1 ∷ []) $ drop ! $ move ! (1 ∷ []) $ fsplit ! $ fsplit ! $ move ! (1 ∷ []) $ feqL ! (λ lstems3. move ! (1 ∷ []) $ fsplit ! $ drop ! $ fsplit ! $ drop ! $ drop ! $
         move ! (1 ∷ 2 ∷ 0 ∷ []) $ returned ! tt T.the-row mstems bstems ostems νstems3 δstems3 zs (zs3 .0) (held .1 .1 .0) lstems3 fitstems (
@@ -207,16 +207,16 @@ module _ {M : Type 1} (𝓤 : URA M) (H : Heap 𝓤) (A : Atoms 𝓤) (W : Given
     -- the MIR, up to the loop
     pub walk : ent 𝓤 (onEntry 𝓤 H A f.signature (κedges, (κacross, (κstems, tt))) (qedges, (qacross, (qstems, tt))) a vals) (WpFn 𝓤 H C Λ code.function args Post)
     walk =
-        qed W ((‵ (flft κedges qedges) ⊛ (‵ (flft κacross qacross) ⊛ (‵ (flft κstems qstems) ⊛ ‵ ftrue))) ∷ ‵ (owns (usize ∷ usize ∷ ShrRef (named 0) κedges (Array f64 1024) ∷ ShrRef (named 1) κacross (Array bool 512) ∷ MutSlice (named 2) κstems T.the-row ∷ []) a vals) ∷ []) ∵ enter ! C Λ code.function args _ $
+        qed W ((‵ (flft κedges qedges) ⊛ (‵ (flft κacross qacross) ⊛ (‵ (flft κstems qstems) ⊛ ‵ ftrue))) ∷ ‵ (owns (usize ∷ usize ∷ ShrRef (named 0) κedges (Array f64 512) ∷ ShrRef (named 1) κacross (Array bool 256) ∷ MutSlice (named 2) κstems T.the-row ∷ []) a vals) ∷ []) ∵ enter ! C Λ code.function args _ $
         alloc1 ! (λ l₀. alloc1 ! (λ l₁. alloc1 ! (λ l₂. alloc1 ! (λ l₃. alloc1 ! (λ l₄. alloc1 ! (λ l₅. alloc1 ! (λ l₆. alloc1 ! (λ l₇. alloc1 ! (λ l₈. alloc1 ! (λ l₉. alloc1 ! (λ l₁₀. alloc1 ! (λ l₁₁. alloc1 ! (λ l₁₂. alloc0 ! $ params1 ! $
         pass1 ! (init ! 22 refl (tt, record { fits = used-fits })) $ pass1 ! (init ! 20 refl (tt, record { fits = n-fits })) $ pass1 ! (init ! 18 refl (tt, tt)) $ pass1 ! (init ! 16 refl (tt, tt)) $ pass1 ! (init ! 14 refl (tt, (tt, (record { fits = fitstems .0 }, tt)))) $ pass0 ! $ move ! (27 ∷ []) $ fsplit ! $ drop ! $ fsplit ! $ drop ! $ fsplit ! $ move ! (1 ∷ []) $ fsplit ! $ move ! (1 ∷ []) $ fsplit ! $ move ! (1 ∷ []) $ drop ! $ move ! (29 ∷ []) $ split ! $ move ! (1 ∷ []) $ split ! $ move ! (1 ∷ []) $ split ! $ move ! (1 ∷ []) $ drop ! $ move ! (5 ∷ 2 ∷ 4 ∷ 1 ∷ 3 ∷ 0 ∷ []) $
         assigns ! (of-opd ! (lit ! tt)) (from ! (stop !)) (init ! 18 refl (tt, record { fits = lit< tt })) $ keep ! (0 ∷ 1 ∷ 2 ∷ 3 ∷ 4 ∷ 5 ∷ 6 ∷ 7 ∷ 8 ∷ 9 ∷ 10 ∷ 11 ∷ 12 ∷ 13 ∷ 14 ∷ 15 ∷ 16 ∷ 17 ∷ 18 ∷ 19 ∷ 20 ∷ 21 ∷ 22 ∷ 23 ∷ 24 ∷ 25 ∷ 26 ∷ 27 ∷ 28 ∷ 29 ∷ 30 ∷ 31 ∷ []) $ by ! (loops l₀ l₁ l₂ l₃ l₄ l₅ l₆ l₇ l₈ l₉ l₁₀ l₁₁ l₁₂))))))))))))))
 
 module _ {M : Type 1} (𝓤 : URA M) (H : Heap 𝓤) (A : Atoms 𝓤) (W : Given 𝓤 H A) (mem : Memory → SProp 𝓤) (run′ : Routine → Fun 𝓤) where
   meets : (𝓣 : Tables 𝓤 H) → (let C : Calls 𝓤 H = 𝓣 .C in Triple 𝓤 (C #type1·sum) (SumC 𝓤 H A mem run′) → Triple 𝓤 (C #type1·stem-at) (StemAtC 𝓤 H A mem run′) → Triple 𝓤 (C #type1·put) (PutC 𝓤 H A mem run′) → Meets 𝓤 H A f.signature (WpFn 𝓤 H (𝓣 .C) (𝓣 .Λ) code.function) (f.spec 𝓤 H A mem run′))
-  meets 𝓣 k0 k1 k2 = walk-meets 𝓤 H A f.ended stayed W (goes-none 𝓤 H A W 3 (λ _. usize) yes (λ κs x f. refl), (goes-none 𝓤 H A W 3 (λ _. usize) yes (λ κs x f. refl), (goes-none-ref 𝓤 H A W 3 (0 ∷ []) tt (ArrayOf (plain (λ _. f64)) (λ _. tt) 1024) yes, (goes-none-ref 𝓤 H A W 3 (1 ∷ []) tt (ArrayOf (plain (λ _. bool)) (λ _. tt) 512) yes, (goes-slice 𝓤 H A W 3 2 tt (plain (λ _. T.the-row)), tt))))) (f.clauses 𝓤 H A mem run′)
+  meets 𝓣 k0 k1 k2 = walk-meets 𝓤 H A f.ended stayed W (goes-none 𝓤 H A W 3 (λ _. usize) yes (λ κs x f. refl), (goes-none 𝓤 H A W 3 (λ _. usize) yes (λ κs x f. refl), (goes-none-ref 𝓤 H A W 3 (0 ∷ []) tt (ArrayOf (plain (λ _. f64)) (λ _. tt) 512) yes, (goes-none-ref 𝓤 H A W 3 (1 ∷ []) tt (ArrayOf (plain (λ _. bool)) (λ _. tt) 256) yes, (goes-slice 𝓤 H A W 3 2 tt (plain (λ _. T.the-row)), tt))))) (f.clauses 𝓤 H A mem run′)
       (WpFn 𝓤 H (𝓣 .C) (𝓣 .Λ) code.function) (WpFn-mono 𝓤 H (W .laws) 𝓣 code.function)
-      (walked 𝓤 H A f.ended stayed (f.clauses 𝓤 H A mem run′) (WpFn 𝓤 H (𝓣 .C) (𝓣 .Λ) code.function) (λ κs. (uint-vals w64, (uint-vals w64, (ptr-vals, (ptr-vals, (slice-vals, tt)))))) (λ κs. (uint-tells w64, (uint-tells w64, (shr-tells (named 0) (κs .0) (Array f64 1024), (shr-tells (named 1) (κs .1 .0) (Array bool 512), (mut-slice-tells (named 2) (κs .1 .1 .0) T.the-row, tt))))))
+      (walked 𝓤 H A f.ended stayed (f.clauses 𝓤 H A mem run′) (WpFn 𝓤 H (𝓣 .C) (𝓣 .Λ) code.function) (λ κs. (uint-vals w64, (uint-vals w64, (ptr-vals, (ptr-vals, (slice-vals, tt)))))) (λ κs. (uint-tells w64, (uint-tells w64, (shr-tells (named 0) (κs .0) (Array f64 512), (shr-tells (named 1) (κs .1 .0) (Array bool 256), (mut-slice-tells (named 2) (κs .1 .1 .0) T.the-row, tt))))))
       (λ κs qs bounds a g are. needs 𝓤 (((a .1 .0) ≤ 256) × ((a .0) + (a .1 .0) ≤ length (a .1 .1 .1 .1 .0 .now))) _ (λ need. walk 𝓤 H A W mem run′ 𝓣 (κs .0) (qs .0) (a .1 .1 .0) (κs .1 .0) (qs .1 .0) (a .1 .1 .1 .0) (κs .1 .1 .0) (qs .1 .1 .0) ((a .1 .1 .1 .1 .0) .ptr .0) ((a .1 .1 .1 .1 .0) .ptr .1) ((a .1 .1 .1 .1 .0) .name) ((a .1 .1 .1 .1 .0) .now) (a .0) (a .1 .0) (are .1 .1 .1 .1 .0 .0 .1) (are .0 .1) (are .1 .0 .1) k0 k1 k2 need)))
 
 pub keep-group-spec : {M : Type 1} → stated.statement M

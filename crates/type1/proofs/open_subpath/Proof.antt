@@ -1,6 +1,6 @@
-use Rattle.type1.proofs.Paths.{opens-first, opened-path, opened-grown}
-use mathlib.Core.Path.{_≡_, refl, sym, ap, _∙_}
 use lib.Dec.{lit<}
+use mathlib.Core.Path.{_≡_, refl, sym, ap, _∙_}
+use Rattle.type1.proofs.Paths.{opens-first, opened-path, opened-grown}
 use borrow.Author.Needs.{needs}
 use Rattle.type1.proofs.open_subpath.Statement.{statement}
 use Rattle.type1.proofs.open_subpath.Tie as tie
@@ -9,23 +9,23 @@ use Rattle.type1.proofs.open_subpath.Lts as lts
 use Rattle.type1.proofs.list_point.Reads as list-point-reads
 use Rattle.type1.proofs.opened.Reads as opened-reads
 
--- src/lib.rt:381:12
+-- src/lib.rt:859:12
 list-point-requires : tie.Need-list-point-requires
 list-point-requires c κs =
-    (c .before .before .before .before .pre .0, (c .before .before .before .before .pre .1 .0, ((lit< tt, lit< tt), c .before .before .before .before .pre .1 .1)))
+    (c .before .before .pre .0, (c .before .before .pre .1 .0, ((lit< tt, lit< tt), c .before .before .pre .1 .1)))
 
--- src/lib.rt:381:5
+-- src/lib.rt:859:5
 opened-requires : tie.Need-opened-requires
 opened-requires c κs = search needs
 
--- src/lib.rt:366:1
+-- src/lib.rt:845:1
 same-length : tie.Need-same-length
 same-length c = search needs
 
--- src/lib.rt:366:1
+-- src/lib.rt:845:1
 returns : tie.Need-returns
 returns c =
-    (opens-first (c .before .before .before .before .before .before .before .before .args .st) (c .before .before .before .list-point .result) _ _ _ _ _ _ _ _ (c .opened .ensures) (c .before .before .before .list-point .ensures .0), (opened-path (c .before .before .before .before .before .before .before .before .args .st) (c .before .before .before .list-point .result) _ _ (c .opened .ensures) (c .before .before .before .list-point .ensures .1 .0), opened-grown (c .before .before .before .before .before .before .before .before .args .st) (c .before .before .before .list-point .result) _ _ _ (c .opened .ensures) (c .before .before .before .list-point .ensures .1 .1 .0)))
+    (opens-first _ (c .before .before .before .before .before .before .args .st) (c .before .before .before .list-point .result) _ _ _ _ (c .opened .ensures) (c .before .before .before .list-point .ensures .0), (opened-path (c .before .before .before .before .before .before .args .st) (c .before .before .before .list-point .result) _ _ (c .opened .ensures) (c .before .before .before .list-point .ensures .1 .0), opened-grown (c .before .before .before .before .before .before .args .st) (c .before .before .before .list-point .result) _ _ _ (c .opened .ensures) (c .before .before .before .list-point .ensures .1 .1)))
 
 pub open-subpath-spec : {M : Type 1} → statement M
 open-subpath-spec = tie.close (tie.spec list-point-requires opened-requires same-length returns)

@@ -1,7 +1,7 @@
-use Rattle.type1.proofs.Operands.{does-setcurrentpoint, short-setcurrentpoint, clear-bounds, clear-finite, clear-space}
-use Rattle.type1.proofs.Groups.{space-same}
-use lib.Ieee.{ofBits}
 use native.Mathlib.Omega.{arith}
+use lib.Ieee.{ofBits}
+use Rattle.type1.proofs.Groups.{space-same}
+use Rattle.type1.proofs.Operands.{does-setcurrentpoint, short-setcurrentpoint, clear-bounds, clear-finite, clear-space}
 use borrow.Author.Needs.{needs}
 use Rattle.type1.proofs.setcurrentpoint.Statement.{statement}
 use Rattle.type1.proofs.setcurrentpoint.Tie as tie
@@ -11,52 +11,52 @@ use Rattle.type1.proofs.cleared.Reads as cleared-reads
 use Rattle.type1.proofs.made.Reads as made-reads
 use Rattle.type1.proofs.set_point.Reads as set-point-reads
 
--- src/lib.rt:700:9
+-- src/lib.rt:1284:9
 made-requires : tie.Need-made-requires
 made-requires c κs = search needs
 
--- src/lib.rt:700:9
+-- src/lib.rt:1284:9
 returns : tie.Need-returns
 returns c =
-    (short-setcurrentpoint _ _ _ _ _ _ _ (c .made .ensures) (c .before .if1 .taken), space-same (c .before .before .before .args .st) _ 7 _ (c .made .ensures))
+    (short-setcurrentpoint _ _ _ _ _ _ (c .made .ensures) (c .before .if1 .taken), space-same (c .before .before .before .args .st) _ 7 _ (c .made .ensures))
 
--- src/lib.rt:703:9
+-- src/lib.rt:1287:9
 mul-set-point : tie.Need-mul-set-point
 mul-set-point c = search needs
 
--- src/lib.rt:703:9
+-- src/lib.rt:1287:9
 element-copy-out-set-point : tie.Need-element-copy-out-set-point
 element-copy-out-set-point c = search needs
 
--- src/lib.rt:704:13
+-- src/lib.rt:1288:13
 sub-set-point : tie.Need-sub-set-point
 sub-set-point c = search needs
 
--- src/lib.rt:704:9
+-- src/lib.rt:1288:9
 mul-set-point-2 : tie.Need-mul-set-point-2
 mul-set-point-2 c = search needs
 
--- src/lib.rt:704:9
+-- src/lib.rt:1288:9
 element-copy-out-set-point-2 : tie.Need-element-copy-out-set-point-2
 element-copy-out-set-point-2 c = search needs
 
--- src/lib.rt:706:9
+-- src/lib.rt:1291:9
 cleared-requires : tie.Need-cleared-requires
 cleared-requires c κs = search needs
 
--- src/lib.rt:702:5
+-- src/lib.rt:1286:5
 set-point-requires : tie.Need-set-point-requires
 set-point-requires c κs =
-    (clear-bounds _ _ _ _ (c .before .before .before .cleared .ensures) (c .before .before .before .before .before .before .before .before .pre .0) (c .before .before .before .before .before .before .before .before .pre .1 .0) .0, (clear-bounds _ _ _ _ (c .before .before .before .cleared .ensures) (c .before .before .before .before .before .before .before .before .pre .0) (c .before .before .before .before .before .before .before .before .pre .1 .0) .1, (c .before .before .before .before .before .before .before .before .pre .1 .1 .1 _ (omega arith), c .before .before .before .before .before .before .before .before .pre .1 .1 .1 _ (omega arith))))
+    (clear-bounds _ _ _ _ (c .before .cleared .ensures) (c .before .before .before .before .before .before .pre .0) (c .before .before .before .before .before .before .pre .1 .0) .0, (clear-bounds _ _ _ _ (c .before .cleared .ensures) (c .before .before .before .before .before .before .pre .0) (c .before .before .before .before .before .before .pre .1 .0) .1, (c .before .before .before .before .before .before .pre .1 .1 .1 _ (omega arith), c .before .before .before .before .before .before .pre .1 .1 .1 _ (omega arith))))
 
--- src/lib.rt:682:1
+-- src/lib.rt:1267:1
 same-length : tie.Need-same-length
 same-length c = search needs
 
--- src/lib.rt:682:1
+-- src/lib.rt:1267:1
 returns-2 : tie.Need-returns-2
 returns-2 c =
-    (does-setcurrentpoint (c .before .before .before .before .before .before .before .before .before .before .before .args .st) _ _ _ _ _ _ _ _ _ _ (c .before .before .before .before .before .before .cleared .ensures) (c .before .before .before .before .before .before .before .before .before .if1 .left) (c .before .before .set-point .ensures .0), clear-space (c .before .before .before .before .before .before .before .before .before .before .before .args .st) _ (c .before .before .set-point .result) _ (c .before .before .before .before .before .before .cleared .ensures) (c .before .before .set-point .ensures .1))
+    (does-setcurrentpoint _ (c .before .before .before .before .before .before .before .before .before .args .st) _ _ _ _ _ _ (c .before .before .before .before .cleared .ensures) (c .before .before .before .before .before .before .before .if1 .left) (c .before .before .set-point .ensures .0), clear-space (c .before .before .before .before .before .before .before .before .before .args .st) _ (c .before .before .set-point .result) _ (c .before .before .before .before .cleared .ensures) (c .before .before .set-point .ensures .1))
 
 pub setcurrentpoint-spec : {M : Type 1} → statement M
 setcurrentpoint-spec =
