@@ -11,15 +11,24 @@ ghost use Rattle.type2.specs.Machine.{lines, curves};
 ghost use Rattle.type2.specs.Path.{reaches, takes};
 ghost use Rattle.type2.specs.Width.{pushWidth};
 
-// `binary64::round`, at once for a whole number. Below 2 ^ 51 the sum with 1.5 * 2 ^ 52 is rounded to a
-// whole number, so that only a whole number comes back from it as it was.
+// `binary64::round`, at once for a whole number and where there is no tie. Below 2 ^ 51 the sum with
+// 1.5 * 2 ^ 52 is rounded to a whole number, which is within a half of v. A zero's sign is v's.
 fn nearest(v: f64) -> f64
     ensures { λ r. ⌜ r ≡ roundAway v ⌝ }
 {
     if v < 2251799813685248.0 {
         if -2251799813685248.0 < v {
-            if (v + 6755399441055744.0) - 6755399441055744.0 == v {
+            let r = (v + 6755399441055744.0) - 6755399441055744.0;
+            if r == v {
                 return v;
+            }
+            let d = v - r;
+            if d < 0.5 {
+                if -0.5 < d {
+                    if r != 0.0 {
+                        return r;
+                    }
+                }
             }
         }
     }
