@@ -1678,6 +1678,7 @@ fn sum(a: usize, b: usize) -> usize
     a + b
 }
 
+// The record at a place.
 fn stem_from(stems: &mut [Stem], i: usize) -> Stem
     requires { ⌜ i < length (now stems) ⌝ }
     ensures { λ r. ⌜ (r ≡ getD (now (stems .entry)) i Small.zeroStem) × (now (stems .exit) ≡ now (stems .entry)) ⌝ }
@@ -1721,19 +1722,6 @@ fn all_same(
     true
 }
 
-// Whether the stems in force changed, and the last group has as many.
-fn may_be_last(st: St) -> bool
-    ensures { λ r. ⌜ r ≡ Small.mayBeLast st ⌝ }
-{
-    if !st.changed {
-        return false;
-    }
-    if st.groups == 0 {
-        return false;
-    }
-    st.last == st.hints
-}
-
 // Where the last group's records begin.
 fn last_from(st: St) -> usize
     requires { ⌜ st .last ≤ st .stems ⌝ }
@@ -1747,7 +1735,7 @@ fn is_last(st: St, edges: &[f64; 512], across: &[bool; 256], stems: &mut [Stem])
     requires { ⌜ (st .hints ≤ 256) × ((st .last ≤ st .stems) × (st .stems ≤ length (now stems))) ⌝ }
     ensures { λ r. ⌜ (r ≡ (st .changed && (ltb 0 (st .groups) && State.sameStems (take (st .last) (drop (st .stems - st .last) (now (stems .entry)))) (stemsAt 0 (st .hints) (now (edges .entry)) (now (across .entry)))))) × (now (stems .exit) ≡ now (stems .entry)) ⌝ }
 {
-    if may_be_last(st) {
+    if hints::may_be_last(st.changed, st.groups, st.last, st.hints) {
         return all_same(last_from(st), st.hints, edges, across, stems);
     }
     false
