@@ -1,9 +1,9 @@
--- Definitions: the stems in force, in arrays, and when a new group is refused. Document 01, "Hints" and "Numbers the board logs".
+-- Definitions: the stems in force, in arrays, whether they can be the last group's, and when a new group is refused. Document 01, "Hints" and "Numbers the board logs".
 -- Stem i is a place of `across` (whether it is horizontal) and two of `edges` (its first edge and its width).
 use Prim.Native.Nat.{ℕ, zero, suc, _+_, _*_}
-use mathlib.Core.Bool.{Bool, true, false, cond, _&&_, _||_, Bool·beq}
+use mathlib.Core.Bool.{Bool, false, cond, _&&_, _||_, Bool·beq}
 use mathlib.Core.List.{List}
-use lib.Dec.{leb, ltb}
+use lib.Dec.{eqb, leb, ltb}
 use lib.ListN.{getD}
 use lib.Ieee.{Float, nan, eq}
 
@@ -27,6 +27,10 @@ cut n = cond (ltb n 256) n 256
 -- "A stem equal to one in force is not added": whether there is one among so many
 unfoldable pub inForce : ℕ → List Float → List Bool → Bool → Float → Float → Bool
 inForce count e a h p w = isAmong (cut count) e a h p w
+
+-- "unless they are the last group's in the same order": whether changed stems can be, of so many groups, with so many stems in the last one and so many in force; with no group they cannot
+unfoldable pub mayBeLast : Bool → ℕ → ℕ → ℕ → Bool
+mayBeLast changed groups last count = changed && (ltb 0 groups && eqb last count)
 
 -- the number with which a new group of n stems is refused, or 0: 16 for a 257th group, or where a stem store of so many records has no room beyond those used; then 17 where a command store of so many words has no room for an entry, of 14 words, more
 unfoldable pub newGroup : ℕ → ℕ → ℕ → ℕ → ℕ → ℕ → ℕ

@@ -3,6 +3,7 @@
 --     cut-below                  256 or fewer are not cut
 --     other-way, same-way, other-edge      two stems, field by field
 --     force-at, force-none       what `inForce` is when the stems have been gone through
+--     may-quiet, may-none, may-count       what `mayBeLast` is, by its tests
 --     group-number               16 or 17, by the two tests
 use Prim.Native.Nat.{ℕ, zero, suc, _+_, _*_, _≤_, _<_}
 use native.Mathlib.Nat.{pos-of-ne-zero}
@@ -11,12 +12,11 @@ use native.Mathlib.Omega.{arith}
 use mathlib.Core.Path.{_≡_, refl, sym, ap, ap₂, _∙_}
 use mathlib.Core.Bool.{Bool, true, false, not, cond, _&&_, _||_, Bool·beq, true≢false}
 use mathlib.Core.List.{List}
-use borrow.Author.Tests.{eqb-true, eqb-false, eq-eqb, ne-eqb, lt-ltb, le-ltb, ltb-false}
+use borrow.Author.Tests.{eqb-true, eqb-false, lt-ltb, le-ltb, ltb-false}
 use lib.Dec.{eqb, leb, ltb}
 use lib.Arith.{lt-of-le-ne}
-use lib.ListN.{getD}
-use lib.Ieee.{Float, nan, eq}
-use Rattle.hints.specs.Hints.{sameStem, sameAt, isAmong, cut, inForce, newGroup}
+use lib.Ieee.{Float, eq}
+use Rattle.hints.specs.Hints.{sameStem, sameAt, isAmong, cut, inForce, mayBeLast, newGroup}
 
 or-true : (b : Bool) → (b || true) ≡ true
 or-true true = refl
@@ -74,6 +74,19 @@ module _ (e : List Float) (a : List Bool) where
     pub force-none : (i : ℕ) → i ≤ n → n ≤ i → isAmong i e a h p w ≡ false → false ≡ inForce count e a h p w
     unfolding inForce
     force-none i l m k = sym (ap (λ (j : ℕ). isAmong j e a h p w) (let z : cut count ≡ i = omega arith in z) ∙ k)
+
+-- ---- whether the stems in force can be the last group's
+pub may-quiet : (c : Bool) (g l n : ℕ) → c ≡ false → false ≡ mayBeLast c g l n
+unfolding mayBeLast
+may-quiet c g l n h = sym (ap (λ (b : Bool). b && (ltb 0 g && eqb l n)) h)
+
+pub may-none : (c : Bool) (g l n : ℕ) → g ≡ 0 → false ≡ mayBeLast c g l n
+unfolding mayBeLast
+may-none c g l n h = sym (ap (λ (b : Bool). c && (b && eqb l n)) (le-ltb 0 g (omega arith)) ∙ and-false c)
+
+pub may-count : (c : Bool) (g l n : ℕ) → c ≡ true → (g ≡ 0 → ⊥) → eqb l n ≡ mayBeLast c g l n
+unfolding mayBeLast
+may-count c g l n h k = sym (ap₂ (λ (a b : Bool). a && (b && eqb l n)) h (lt-ltb 0 g (pos-of-ne-zero k)))
 
 -- ---- a new group
 pub group-number : (groups records used n words entries : ℕ) (b d : Bool) → (leb (groups + 1) 256 && leb (used + n) records) ≡ b → leb (14 * (entries + 1)) words ≡ d → newGroup groups records used n words entries ≡ cond b (cond d 0 17) 16

@@ -1,7 +1,7 @@
-// Stem hints: the stems in force, and when a new group is refused.
+// Stem hints: the stems in force, whether they can be the last group's, and when a new group is refused.
 ghost use mathlib.Core.Path.{_≡_};
 ghost use Prim.Native.Nat.{_≤_};
-ghost use Rattle.hints.specs.Hints.{sameStem, cut, inForce, newGroup};
+ghost use Rattle.hints.specs.Hints.{sameStem, cut, inForce, mayBeLast, newGroup};
 
 // Groups, and stems in force, at the most.
 const MOST: usize = 256;
@@ -56,6 +56,19 @@ pub fn in_force(
         i += 1;
     }
     false
+}
+
+// Whether the stems in force can be the last group's: they changed, there is a group, and it has as many.
+pub fn may_be_last(changed: bool, groups: usize, last: usize, count: usize) -> bool
+    ensures { λ r. ⌜ r ≡ mayBeLast changed groups last count ⌝ }
+{
+    if !changed {
+        return false;
+    }
+    if groups == 0 {
+        return false;
+    }
+    last == count
 }
 
 // The number with which a new group of n stems is refused, 0 where it is not: of so many groups, with so many records

@@ -1,12 +1,11 @@
 -- Laws: the stems in force become a group.
 use mathlib.Core.Path.{_≡_, refl, sym, ap, ap₂, _∙_, subst}
 use Prim.Native.Nat.{ℕ, zero, suc, _+_, _-_, _*_, _≤_, _<_, min}
-use native.Mathlib.Nat.{pos-of-ne-zero}
 use native.Mathlib.Numerals.{add-one}
 use native.Mathlib.Omega.{arith}
 use mathlib.Core.Bool.{Bool, true, false, cond, _&&_, true≢false}
 use mathlib.Core.List.{List, [], _∷_, _++_, append-nil, append-assoc}
-use borrow.Author.Tests.{eq-eqb, ne-eqb, le-leb, leb-true, eqb-true, eqb-false, lt-ltb, le-ltb, ltb-true, ltb-false}
+use borrow.Author.Tests.{eq-eqb, ne-eqb, le-leb, leb-true, eqb-true, eqb-false, ltb-true, ltb-false}
 use lib.Dec.{eqb, leb, ltb, lit≤}
 use lib.Arith.{lt-of-le-ne}
 use lib.ListN.{length, take, drop, length-append, length-take}
@@ -20,7 +19,7 @@ use Rattle.type1.specs.declared.Ran.{Ran}
 use Rattle.type1.specs.State.{Command, Group, State, settled, stemCount, lastIs, sameStems}
 use Rattle.type1.specs.Run.{pick, Limits, within, Outcome, going, check, newGroup, commit}
 use Rattle.type1.specs.Memory.{Mem, word, commandIn, drawnIn, groupIn, groupsIn, stemsAt, abs, Bounds, Fit, Holds, Meets, kept, after, withCmds, withStems, Told, Path}
-use Rattle.type1.specs.Small.{ranOf, Grown, Space, mayBeLast}
+use Rattle.type1.specs.Small.{ranOf, Grown, Space}
 use Rattle.type1.proofs.Store.{Wrote, drawn-same, groups-same, entries-is}
 use Rattle.type1.proofs.Hints.{stems-length}
 
@@ -274,20 +273,6 @@ last-is t m s H =
 pub found-told : (t : St) (m : Mem) (same : Bool) → Fit t m → same ≡ (t .changed && (ltb 0 (t .groups) && sameStems (take (t .last) (drop (t .stems - t .last) (m .stems))) (stemsAt 0 (t .hints) (m .edges) (m .across)))) → Told same (abs t m)
 unfolding abs
 found-told t m same F e h = e ∙ ap (λ (b : Bool). b && (ltb 0 (t .groups) && sameStems (take (t .last) (drop (t .stems - t .last) (m .stems))) (stemsAt 0 (t .hints) (m .edges) (m .across)))) h ∙ sym (last-is t m (abs t m) (record { is = refl; fit = F }))
-
--- ---- what `may_be_last` answers
-and-none : (a b : Bool) → b ≡ false → false ≡ (a && b)
-and-none true b h = sym h
-and-none false b h = refl
-
-pub not-changed : (t : St) → t .changed ≡ false → false ≡ mayBeLast t
-not-changed t h = sym (ap (λ (b : Bool). b && (ltb 0 (t .groups) && eqb (t .last) (t .hints))) h)
-
-pub no-group-yet : (t : St) → t .groups ≡ 0 → false ≡ mayBeLast t
-no-group-yet t h = and-none (t .changed) (ltb 0 (t .groups) && eqb (t .last) (t .hints)) (ap (λ (b : Bool). b && eqb (t .last) (t .hints)) (le-ltb 0 (t .groups) (omega arith)))
-
-pub as-many : (t : St) → t .changed ≡ true → (t .groups ≡ 0 → ⊥) → eqb (t .last) (t .hints) ≡ mayBeLast t
-as-many t h n = sym (ap₂ (λ (a b : Bool). a && (b && eqb (t .last) (t .hints))) h (lt-ltb 0 (t .groups) (pos-of-ne-zero n)))
 
 abbrev pub unchanged : St → St
 unchanged t = record { operands = t .operands; postscript = t .postscript; x = t .x; y = t .y; opened = t .opened; flexing = t .flexing; points = t .points; hints = t .hints; changed = false; last = t .last; groups = t .groups; stems = t .stems; entries = t .entries; divided = t .divided; ran = t .ran }

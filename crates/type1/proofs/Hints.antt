@@ -13,7 +13,7 @@ use lib.ListN.{length, getD, set, take, drop, length-set, length-append, length-
 use lib.Seq.{getD-set-same, getD-set-other, getD-drop, take-suc, length-take-le}
 use lib.Ieee.{Float, nan}
 use lib.Ieee.Scale.{finite}
-use Rattle.hints.specs.Hints.{isAmong, inForce}
+use Rattle.hints.specs.Hints.{isAmong, inForce, mayBeLast}
 use Rattle.hints.specs.Laws.{cut-below}
 use Rattle.type1.specs.declared.Stem.{Stem}
 use Rattle.type1.specs.declared.St.{St}
@@ -22,7 +22,7 @@ use Rattle.type1.specs.State.{State, withHints, sameStem, isIn, sameStem
 use Rattle.type1.specs.Run.{pick, within, going, check, stemOf, stem}
 use Rattle.type1.specs.Memory.{Mem, stemAt, stemsAt, abs, Holds, Meets}
 use Rattle.type1.specs.Memory as Memory
-use Rattle.type1.specs.Small.{ranOf, zeroStem, mayBeLast}
+use Rattle.type1.specs.Small.{ranOf, zeroStem}
 
 -- ---- a stem more at the end
 in-more : (l : List Stem) (t s : Stem) → isIn (l ++ (t ∷ [])) s ≡ (isIn l s || sameStem t s)
@@ -234,7 +234,7 @@ module _ (z : List Stem) (first : ℕ) (e : List Float) (a : List Bool) where
   pub same-end : (i n : ℕ) → ltb i n ≡ false → i ≤ n → both i ≡ true → true ≡ both n
   same-end i n over l p = sym (ap both (let k = ltb-false i n over in let y : n ≡ i = omega arith in y) ∙ p)
 
--- ---- what `is_last` answers, by `may_be_last` and `all_same`
+-- ---- what `is_last` answers, by `hints::may_be_last` and `all_same`
 module _ (t : St) (z : List Stem) (e : List Float) (a : List Bool) (low : t .last ≤ t .stems) (room : t .stems ≤ length z) where
   abbrev found : Bool
   found = t .changed && (ltb 0 (t .groups) && sameStems (take (t .last) (drop (t .stems - t .last) z)) (stemsAt 0 (t .hints) e a))
@@ -245,8 +245,9 @@ module _ (t : St) (z : List Stem) (e : List Float) (a : List Bool) (low : t .las
   all-three true false d h = absurd h
   all-three false g d h = absurd h
 
-  module _ (b : Bool) (r : ℕ) (is : b ≡ mayBeLast t) (er : r ≡ t .stems - t .last) (so : T b) where
+  module _ (b : Bool) (r : ℕ) (is : b ≡ mayBeLast (t .changed) (t .groups) (t .last) (t .hints)) (er : r ≡ t .stems - t .last) (so : T b) where
     three : (t .changed ≡ true) × (ltb 0 (t .groups) ≡ true) × (eqb (t .last) (t .hints) ≡ true)
+    unfolding mayBeLast
     three = all-three (t .changed) (ltb 0 (t .groups)) (eqb (t .last) (t .hints)) (subst T is so)
 
     as-many : t .last ≡ t .hints
@@ -260,7 +261,8 @@ module _ (t : St) (z : List Stem) (e : List Float) (a : List Bool) (low : t .las
         ed ∙ ap₂ (λ (j k : ℕ). sameStems (take j (drop k z)) (stemsAt 0 (t .hints) e a)) (sym as-many) er
         ∙ sym (ap₂ (λ (x y : Bool). x && (y && sameStems (take (t .last) (drop (t .stems - t .last) z)) (stemsAt 0 (t .hints) e a))) (three .0) (three .1))
 
-  pub last-not : (b : Bool) → b ≡ mayBeLast t → T (not b) → false ≡ found
+  pub last-not : (b : Bool) → b ≡ mayBeLast (t .changed) (t .groups) (t .last) (t .hints) → T (not b) → false ≡ found
+  unfolding mayBeLast
   last-not b is h = by-tests (t .changed) (ltb 0 (t .groups)) (eqb (t .last) (t .hints)) refl (subst (λ (x : Bool). T (not x)) is h)
     where
       by-tests : (c g d : Bool) → eqb (t .last) (t .hints) ≡ d → T (not (c && (g && d))) → false ≡ (c && (g && sameStems (take (t .last) (drop (t .stems - t .last) z)) (stemsAt 0 (t .hints) e a)))

@@ -1,10 +1,10 @@
 -- Definitions: what the small functions answer, and what is asked of the numbers in the arrays.
 use Prim.Native.Nat.{ℕ, _+_, _-_, _*_, _≤_, _<_}
 use mathlib.Core.Path.{_≡_}
-use mathlib.Core.Bool.{Bool, true, false, _&&_}
+use mathlib.Core.Bool.{Bool, true, false}
 use mathlib.Core.List.{List}
-use lib.Dec.{T, eqb, ltb}
-use lib.ListN.{length, getD}
+use lib.Dec.{T, eqb}
+use lib.ListN.{getD}
 use lib.Ieee.{Float, nan}
 use lib.Ieee.Scale.{finite}
 use Rattle.charstring.specs.Cipher.{maxCharstringBytes}
@@ -67,7 +67,3 @@ Space t u room = (u .groups ≡ t .groups → ⊥) → t .stems + t .hints ≤ r
 -- the zero record: vertical, 0, 0 (document 01, "Forms of the Rust that need another")
 abbrev pub zeroStem : Stem
 zeroStem = record { horizontal = false; pos = plusZero; width = plusZero }
-
--- the stems in force changed, and are as many as the last group's
-abbrev pub mayBeLast : St → Bool
-mayBeLast t = t .changed && (ltb 0 (t .groups) && eqb (t .last) (t .hints))

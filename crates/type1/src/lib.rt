@@ -553,7 +553,26 @@ fn token(
 fn made(st: St, flow: u8) -> Ran
     ensures { λ r. ⌜ r ≡ Small.ranOf st flow ⌝ }
 {
-    Ran { st, flow }
+    Ran {
+        st: St {
+            operands: st.operands,
+            postscript: st.postscript,
+            x: st.x,
+            y: st.y,
+            points: st.points,
+            hints: st.hints,
+            last: st.last,
+            groups: st.groups,
+            stems: st.stems,
+            entries: st.entries,
+            ran: st.ran,
+            opened: st.opened,
+            flexing: st.flexing,
+            changed: st.changed,
+            divided: st.divided,
+        },
+        flow,
+    }
 }
 
 // The same answer, field by field: LLVM then keeps the fields in registers.
@@ -1706,6 +1725,7 @@ fn sum(a: usize, b: usize) -> usize
     a + b
 }
 
+// The record at a place.
 fn stem_from(stems: &mut [Stem], i: usize) -> Stem
     requires { ⌜ i < length (now stems) ⌝ }
     ensures { λ r. ⌜ (r ≡ getD (now (stems .entry)) i Small.zeroStem) × (now (stems .exit) ≡ now (stems .entry)) ⌝ }
@@ -1749,19 +1769,6 @@ fn all_same(
     true
 }
 
-// Whether the stems in force changed, and the last group has as many.
-fn may_be_last(st: St) -> bool
-    ensures { λ r. ⌜ r ≡ Small.mayBeLast st ⌝ }
-{
-    if !st.changed {
-        return false;
-    }
-    if st.groups == 0 {
-        return false;
-    }
-    st.last == st.hints
-}
-
 // Where the last group's records begin.
 fn last_from(st: St) -> usize
     requires { ⌜ st .last ≤ st .stems ⌝ }
@@ -1775,7 +1782,7 @@ fn is_last(st: St, edges: &[f64; 512], across: &[bool; 256], stems: &mut [Stem])
     requires { ⌜ (st .hints ≤ 256) × ((st .last ≤ st .stems) × (st .stems ≤ length (now stems))) ⌝ }
     ensures { λ r. ⌜ (r ≡ (st .changed && (ltb 0 (st .groups) && State.sameStems (take (st .last) (drop (st .stems - st .last) (now (stems .entry)))) (stemsAt 0 (st .hints) (now (edges .entry)) (now (across .entry)))))) × (now (stems .exit) ≡ now (stems .entry)) ⌝ }
 {
-    if may_be_last(st) {
+    if hints::may_be_last(st.changed, st.groups, st.last, st.hints) {
         return all_same(last_from(st), st.hints, edges, across, stems);
     }
     false

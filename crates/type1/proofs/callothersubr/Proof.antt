@@ -17,131 +17,103 @@ use Rattle.type1.proofs.end_flex.Reads as end-flex-reads
 use Rattle.type1.proofs.hand_back.Reads as hand-back-reads
 use Rattle.type1.proofs.made.Reads as made-reads
 
--- src/lib.rt:1505:9
 made-requires : tie.Need-made-requires
 made-requires c κs = search needs
 
--- src/lib.rt:1505:9
 returns : tie.Need-returns
 returns c =
     (others-none _ _ _ _ _ _ _ _ _ _ _ (c .made .ensures) (c .before .if1 .taken), λ n. absurd (n (ap (λ (q : Ran). q .st .groups) (c .made .ensures))))
 
--- src/lib.rt:1508:38
 mul-arguments : tie.Need-mul-arguments
 mul-arguments c = search needs
 
--- src/lib.rt:1508:38
 element-copy-out-arguments : tie.Need-element-copy-out-arguments
 element-copy-out-arguments c = search needs
 
--- src/lib.rt:1508:9
 arguments-requires : tie.Need-arguments-requires
 arguments-requires c κs = search needs
 
--- src/lib.rt:1510:9
 made-requires-2 : tie.Need-made-requires-2
 made-requires-2 c κs = search needs
 
--- src/lib.rt:1510:9
 returns-2 : tie.Need-returns-2
 returns-2 c =
     (others-refused _ _ _ _ _ _ _ _ (c .before .before .before .before .before .if1 .left) _ _ _ _ (c .before .before .before .arguments .ensures) (c .before .if2 .taken) (c .made2 .ensures), λ n. absurd (n (ap (λ (q : Ran). q .st .groups) (c .made2 .ensures))))
 
--- src/lib.rt:1513:16
 sub-from : tie.Need-sub-from
 sub-from c =
     (taken-told _ _ _ (c .before .before .arguments .ensures) (c .if2 .left)) .2
 
--- src/lib.rt:1516:39
 add-to-i64 : tie.Need-add-to-i64
 add-to-i64 c = search needs
 
--- src/lib.rt:1516:35
 mul-to-i64 : tie.Need-mul-to-i64
 mul-to-i64 c = search needs
 
--- src/lib.rt:1516:35
 element-copy-out-to-i64 : tie.Need-element-copy-out-to-i64
 element-copy-out-to-i64 c = search needs
 
--- src/lib.rt:1516:9
 to-i64-requires : tie.Need-to-i64-requires
 to-i64-requires c κs = search needs
 
--- src/lib.rt:1519:13
 end-flex-requires : tie.Need-end-flex-requires
 unfolding ofBits
 end-flex-requires c κs =
     (fewer-bounds (c .before .before .before .before .before .before .before .before .before .before .before .before .before .args .st) _ _ (c .before .before .before .before .before .before .before .before .before .before .before .before .before .pre .0) (omega (arith, (taken-told _ _ _ (c .before .before .before .before .before .before .before .before .before .arguments .ensures) (c .before .before .before .before .before .before .before .if2 .left)) .2)), (c .before .before .before .before .before .before .before .before .before .before .before .before .before .pre .1 .0, (tt, c .before .before .before .before .before .before .before .before .before .before .before .before .before .pre .1 .1 .points)))
 
--- src/lib.rt:1519:13
 same-length : tie.Need-same-length
 same-length c = search needs
 
--- src/lib.rt:1519:13
 returns-3 : tie.Need-returns-3
 unfolding ofBits
 returns-3 c =
     (others-flex _ _ _ _ _ _ _ _ (c .before .before .before .before .before .before .before .before .before .before .before .before .before .before .if1 .left) ((taken-told _ _ _ (c .before .before .before .before .before .before .before .before .before .before .before .before .arguments .ensures) (c .before .before .before .before .before .before .before .before .before .before .if2 .left)) .0) _ ((taken-told _ _ _ (c .before .before .before .before .before .before .before .before .before .before .before .before .arguments .ensures) (c .before .before .before .before .before .before .before .before .before .before .if2 .left)) .1) ((taken-told _ _ _ (c .before .before .before .before .before .before .before .before .before .before .before .before .arguments .ensures) (c .before .before .before .before .before .before .before .before .before .before .if2 .left)) .2) _ (c .before .before .before .before .before .before .before .before .to-i64 .ensures) (c .before .before .before .before .before .before .before .before .to-i64 .ok) _ _ _ (c .before .before .before .before .before .before .before .if3 .taken) (λ o b. height-none _ _ _ (c .before .before .before .before .before .before .if4 .taken)) (c .before .before .end-flex .ensures .0), c .before .before .end-flex .ensures .1)
 
--- src/lib.rt:1521:25
 mul-end-flex : tie.Need-mul-end-flex
 mul-end-flex c = search needs
 
--- src/lib.rt:1521:25
 element-copy-out-end-flex : tie.Need-element-copy-out-end-flex
 element-copy-out-end-flex c = search needs
 
--- src/lib.rt:1521:9
 end-flex-requires-2 : tie.Need-end-flex-requires-2
 end-flex-requires-2 c κs =
     (fewer-bounds (c .before .before .before .before .before .before .before .before .before .before .before .before .before .before .args .st) _ _ (c .before .before .before .before .before .before .before .before .before .before .before .before .before .before .pre .0) (omega (arith, (taken-told _ _ _ (c .before .before .before .before .before .before .before .before .before .before .arguments .ensures) (c .before .before .before .before .before .before .before .before .if2 .left)) .2)), (c .before .before .before .before .before .before .before .before .before .before .before .before .before .before .pre .1 .0, (c .before .before .before .before .before .before .before .before .before .before .before .before .before .before .pre .1 .1 .operands _ (omega (arith, c .before .before .before .before .before .before .before .before .before .before .before .before .if1 .left)), c .before .before .before .before .before .before .before .before .before .before .before .before .before .before .pre .1 .1 .points)))
 
--- src/lib.rt:1521:9
 same-length-2 : tie.Need-same-length-2
 same-length-2 c = search needs
 
--- src/lib.rt:1521:9
 returns-4 : tie.Need-returns-4
 unfolding ofBits
 returns-4 c =
     (others-flex _ _ _ _ _ _ _ _ (c .before .before .before .before .before .before .before .before .before .before .before .before .before .before .before .if1 .left) ((taken-told _ _ _ (c .before .before .before .before .before .before .before .before .before .before .before .before .before .arguments .ensures) (c .before .before .before .before .before .before .before .before .before .before .before .if2 .left)) .0) _ ((taken-told _ _ _ (c .before .before .before .before .before .before .before .before .before .before .before .before .before .arguments .ensures) (c .before .before .before .before .before .before .before .before .before .before .before .if2 .left)) .1) ((taken-told _ _ _ (c .before .before .before .before .before .before .before .before .before .before .before .before .before .arguments .ensures) (c .before .before .before .before .before .before .before .before .before .before .before .if2 .left)) .2) _ (c .before .before .before .before .before .before .before .before .before .to-i64 .ensures) (c .before .before .before .before .before .before .before .before .before .to-i64 .ok) _ _ _ (c .before .before .before .before .before .before .before .before .if3 .taken) (λ o b. height-first _ _ _ (c .before .before .before .before .before .before .before .if4 .left) ((taken-told _ _ _ (c .before .before .before .before .before .before .before .before .before .before .before .before .before .arguments .ensures) (c .before .before .before .before .before .before .before .before .before .before .before .if2 .left)) .2) (omega arith)) (c .before .before .end-flex2 .ensures .0), c .before .before .end-flex2 .ensures .1)
 
--- src/lib.rt:1526:9
 made-requires-3 : tie.Need-made-requires-3
 made-requires-3 c κs = search needs
 
--- src/lib.rt:1526:9
 returns-5 : tie.Need-returns-5
 unfolding ofBits
 returns-5 c =
     (others-begin _ _ _ _ _ _ _ _ (c .before .before .before .before .before .before .before .before .before .if1 .left) ((taken-told _ _ _ (c .before .before .before .before .before .before .before .arguments .ensures) (c .before .before .before .before .before .if2 .left)) .0) _ ((taken-told _ _ _ (c .before .before .before .before .before .before .before .arguments .ensures) (c .before .before .before .before .before .if2 .left)) .1) ((taken-told _ _ _ (c .before .before .before .before .before .before .before .arguments .ensures) (c .before .before .before .before .before .if2 .left)) .2) _ (c .before .before .before .to-i64 .ensures) (c .before .before .before .to-i64 .ok) (c .before .before .if3 .left) (c .made3 .ensures) (c .before .if5 .taken), λ n. absurd (n (ap (λ (q : Ran). q .st .groups) (c .made3 .ensures))))
 
--- src/lib.rt:1529:9
 collect-requires : tie.Need-collect-requires
 collect-requires c κs = search needs
 
--- src/lib.rt:1529:9
 returns-6 : tie.Need-returns-6
 unfolding ofBits
 returns-6 c =
     (others-collect _ _ _ _ _ _ _ _ (c .before .before .before .before .before .before .before .before .before .before .before .if1 .left) ((taken-told _ _ _ (c .before .before .before .before .before .before .before .before .before .arguments .ensures) (c .before .before .before .before .before .before .before .if2 .left)) .0) _ ((taken-told _ _ _ (c .before .before .before .before .before .before .before .before .before .arguments .ensures) (c .before .before .before .before .before .before .before .if2 .left)) .1) ((taken-told _ _ _ (c .before .before .before .before .before .before .before .before .before .arguments .ensures) (c .before .before .before .before .before .before .before .if2 .left)) .2) _ (c .before .before .before .before .before .to-i64 .ensures) (c .before .before .before .before .before .to-i64 .ok) (c .before .before .before .before .if3 .left) (c .before .before .before .if5 .left) _ (c .before .before .if6 .taken) (c .collect .ensures .1) (c .collect .ensures .0), λ n. absurd (n (c .collect .ensures .1)))
 
--- src/lib.rt:1534:9
 hand-back-requires : tie.Need-hand-back-requires
 hand-back-requires c κs = search needs
 
--- src/lib.rt:1534:9
 returns-7 : tie.Need-returns-7
 unfolding ofBits
 returns-7 c =
     (others-hints _ _ _ _ _ _ _ _ (c .before .before .before .before .before .before .before .before .before .before .before .before .if1 .left) ((taken-told _ _ _ (c .before .before .before .before .before .before .before .before .before .before .arguments .ensures) (c .before .before .before .before .before .before .before .before .if2 .left)) .0) _ ((taken-told _ _ _ (c .before .before .before .before .before .before .before .before .before .before .arguments .ensures) (c .before .before .before .before .before .before .before .before .if2 .left)) .1) ((taken-told _ _ _ (c .before .before .before .before .before .before .before .before .before .before .arguments .ensures) (c .before .before .before .before .before .before .before .before .if2 .left)) .2) _ (c .before .before .before .before .before .before .to-i64 .ensures) (c .before .before .before .before .before .before .to-i64 .ok) (c .before .before .before .before .before .if3 .left) (c .before .before .before .before .if5 .left) (c .before .before .before .if6 .left) _ (c .before .before .if7 .taken) (c .hand-back .ensures .1) (c .hand-back .ensures .0), λ n. absurd (n (c .hand-back .ensures .1)))
 
--- src/lib.rt:1536:5
 hand-back-requires-2 : tie.Need-hand-back-requires-2
 hand-back-requires-2 c κs = search needs
 
--- src/lib.rt:1487:1
 returns-8 : tie.Need-returns-8
 unfolding ofBits
 returns-8 c =

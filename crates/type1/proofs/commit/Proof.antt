@@ -9,33 +9,26 @@ use Rattle.type1.proofs.commit.Lts as lts
 use Rattle.type1.proofs.made.Reads as made-reads
 use Rattle.type1.proofs.new_group.Reads as new-group-reads
 
--- src/lib.rt:750:9
 made-requires : tie.Need-made-requires
 made-requires c κs = search needs
 
--- src/lib.rt:750:9
 returns : tie.Need-returns
 returns c =
     (commits-none _ _ _ _ _ (c .made .ensures) (not-true _ (c .before .if1 .taken)), (path-none _ _ _ (c .made .ensures) (not-true _ (c .before .if1 .taken)), grown-same _ _ 0 _ _ (c .made .ensures) (c .before .before .before .before .pre .0) (c .before .before .before .before .pre .1)))
 
--- src/lib.rt:755:9
 made-requires-2 : tie.Need-made-requires-2
 made-requires-2 c κs = search needs
 
--- src/lib.rt:755:9
 returns-2 : tie.Need-returns-2
 returns-2 c =
     (commits-last _ (c .before .before .before .before .before .args .st) _ _ _ (c .made2 .ensures) (not-false _ (c .before .before .if1 .left)) (c .before .if2 .taken), (path-last (c .before .before .before .before .before .args .st) _ _ (c .made2 .ensures), grown-last (c .before .before .before .before .before .args .st) _ _ _ (c .made2 .ensures) (c .before .before .before .before .before .pre .0) (c .before .before .before .before .before .pre .1)))
 
--- src/lib.rt:757:5
 new-group-requires : tie.Need-new-group-requires
 new-group-requires c κs = search needs
 
--- src/lib.rt:736:1
 same-length : tie.Need-same-length
 same-length c = search needs
 
--- src/lib.rt:736:1
 returns-3 : tie.Need-returns-3
 returns-3 c =
     (commits-new _ _ _ _ _ _ (not-false _ (c .before .before .before .before .before .if1 .left)) (c .before .before .before .before .if2 .left) (c .before .before .new-group .ensures .0), (path-new _ _ _ (not-false _ (c .before .before .before .before .before .if1 .left)) (c .before .before .new-group .ensures .1 .0 .0) (c .before .before .new-group .ensures .1 .0 .1), c .before .before .new-group .ensures .1 .1))

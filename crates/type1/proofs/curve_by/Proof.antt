@@ -9,41 +9,32 @@ use Rattle.type1.proofs.curve_by.Lts as lts
 use Rattle.type1.proofs.curve_to.Reads as curve-to-reads
 use Rattle.type1.proofs.open_subpath.Reads as open-subpath-reads
 
--- src/lib.rt:971:9
 curve-to-requires : tie.Need-curve-to-requires
 curve-to-requires c κs = search needs
 
--- src/lib.rt:971:9
 same-length : tie.Need-same-length
 same-length c = search needs
 
--- src/lib.rt:971:9
 returns : tie.Need-returns
 returns c =
     (curve-open _ (c .before .before .before .before .before .before .args .st) _ _ _ _ _ _ _ _ _ _ (c .before .before .before .before .if1 .taken) (c .before .before .curve-to .ensures .0), space-of _ _ _ (c .before .before .curve-to .ensures .1))
 
--- src/lib.rt:973:9
 open-subpath-requires : tie.Need-open-subpath-requires
 open-subpath-requires c κs = search needs
 
--- src/lib.rt:975:9
 same-length-2 : tie.Need-same-length-2
 same-length-2 c = search needs
 
--- src/lib.rt:975:9
 returns-2 : tie.Need-returns-2
 returns-2 c =
     (curve-stop _ (c .before .before .before .before .before .before .before .before .args .st) _ _ _ _ _ _ _ _ _ _ (c .before .before .before .before .before .before .if1 .left) (c .before .before .before .before .open-subpath .ensures .0) (c .if2 .taken), space-of _ _ _ (c .before .before .before .before .open-subpath .ensures .1 .0))
 
--- src/lib.rt:977:5
 curve-to-requires-2 : tie.Need-curve-to-requires-2
 curve-to-requires-2 c κs = search needs
 
--- src/lib.rt:951:1
 same-length-3 : tie.Need-same-length-3
 same-length-3 c = search needs
 
--- src/lib.rt:951:1
 returns-3 : tie.Need-returns-3
 returns-3 c =
     (curve-move _ (c .before .before .before .before .before .before .before .before .before .before .before .before .args .st) _ _ _ _ _ _ _ _ _ (c .before .before .before .before .before .before .before .before .open-subpath .result) _ _ (c .before .before .before .before .before .before .before .before .before .before .if1 .left) (c .before .before .before .before .before .before .before .before .open-subpath .ensures .0) (c .before .before .before .before .if2 .left) (c .before .before .before .before .before .before .before .before .open-subpath .ensures .1 .0) (c .before .before .before .before .before .before .before .cmds2 .given) (c .before .before .curve-to2 .ensures .0) (c .before .before .curve-to2 .ensures .1), space-move _ (c .before .before .before .before .before .before .before .before .open-subpath .result) _ _ (c .before .before .before .before .before .before .before .before .open-subpath .ensures .1 .0) (c .before .before .before .before .if2 .left) (c .before .before .curve-to2 .ensures .1))

@@ -14,108 +14,83 @@ use Rattle.type1.proofs.commit.Reads as commit-reads
 use Rattle.type1.proofs.enter_flex.Reads as enter-flex-reads
 use Rattle.type1.proofs.made.Reads as made-reads
 
--- src/lib.rt:1439:9
 is-whole-flex-requires : tie.Need-is-whole-flex-requires
 is-whole-flex-requires c κs = search needs
 
--- src/lib.rt:1440:9
 made-requires : tie.Need-made-requires
 made-requires c κs = search needs
 
--- src/lib.rt:1440:9
 returns : tie.Need-returns
 returns c =
     (ends-not _ _ _ _ _ _ _ _ _ _ (c .made .ensures) (sym (c .before .before .is-whole-flex .ensures) ∙ not-true _ (c .before .if1 .taken)), λ n. absurd (n (ap (λ (q : Ran). q .st .groups) (c .made .ensures))))
 
--- src/lib.rt:1444:9
 commit-requires : tie.Need-commit-requires
 commit-requires c κs = search needs
 
--- src/lib.rt:1446:9
 same-length : tie.Need-same-length
 same-length c = search needs
 
--- src/lib.rt:1446:9
 returns-2 : tie.Need-returns-2
 returns-2 c =
     (ends-commit _ _ _ _ _ _ _ ((whole-told (c .before .before .before .before .before .before .before .before .before .args .st .flexing) (c .before .before .before .before .before .before .before .before .before .args .st .points) (sym (c .before .before .before .before .before .before .before .is-whole-flex .ensures) ∙ not-false _ (c .before .before .before .before .before .before .if1 .left))) .0) ((whole-told (c .before .before .before .before .before .before .before .before .before .args .st .flexing) (c .before .before .before .before .before .before .before .before .before .args .st .points) (sym (c .before .before .before .before .before .before .before .is-whole-flex .ensures) ∙ not-false _ (c .before .before .before .before .before .before .if1 .left))) .1) _ _ (c .before .before .before .before .commit .ensures .0) (c .if2 .taken), flex-space (c .before .before .before .before .before .before .before .before .before .args .st) _ (c .before .before .before .before .commit .result .st) _ (c .before .before .before .before .commit .ensures .1 .0) refl)
 
--- src/lib.rt:1448:9
 enter-flex-requires : tie.Need-enter-flex-requires
 enter-flex-requires c κs =
     (omega (arith, c .before .before .before .before .before .commit .ensures .1 .1 .bounds .entries, c .before .before .before .before .cmds .given), (c .before .before .before .before .before .before .before .before .before .before .pre .1 .1 .0, λ i h. c .before .before .before .before .before .before .before .before .before .before .pre .1 .1 .1 ((whole-told (c .before .before .before .before .before .before .before .before .before .before .args .st .flexing) (c .before .before .before .before .before .before .before .before .before .before .args .st .points) (sym (c .before .before .before .before .before .before .before .before .is-whole-flex .ensures) ∙ not-false _ (c .before .before .before .before .before .before .before .if1 .left))) .0) i (omega (arith, (whole-told (c .before .before .before .before .before .before .before .before .before .before .args .st .flexing) (c .before .before .before .before .before .before .before .before .before .before .args .st .points) (sym (c .before .before .before .before .before .before .before .before .is-whole-flex .ensures) ∙ not-false _ (c .before .before .before .before .before .before .before .if1 .left))) .1))))
 
--- src/lib.rt:1450:9
 same-length-2 : tie.Need-same-length-2
 same-length-2 c = search needs
 
--- src/lib.rt:1450:9
 returns-3 : tie.Need-returns-3
 returns-3 c =
     (ends-enter _ _ _ _ _ _ _ ((whole-told (c .before .before .before .before .before .before .before .before .before .before .before .before .before .before .before .args .st .flexing) (c .before .before .before .before .before .before .before .before .before .before .before .before .before .before .before .args .st .points) (sym (c .before .before .before .before .before .before .before .before .before .before .before .before .before .is-whole-flex .ensures) ∙ not-false _ (c .before .before .before .before .before .before .before .before .before .before .before .before .if1 .left))) .0) ((whole-told (c .before .before .before .before .before .before .before .before .before .before .before .before .before .before .before .args .st .flexing) (c .before .before .before .before .before .before .before .before .before .before .before .before .before .before .before .args .st .points) (sym (c .before .before .before .before .before .before .before .before .before .before .before .before .before .is-whole-flex .ensures) ∙ not-false _ (c .before .before .before .before .before .before .before .before .before .before .before .before .if1 .left))) .1) _ _ (c .before .before .before .before .before .before .before .before .before .before .commit .ensures .0) (c .before .before .before .before .before .before .if2 .left) (c .before .before .before .before .before .before .before .before .before .cmds .given) _ _ (c .before .before .before .before .enter-flex .ensures .0) (c .before .before .before .before .enter-flex .ensures .1 .groups) (c .if3 .taken), flex-space (c .before .before .before .before .before .before .before .before .before .before .before .before .before .before .before .args .st) _ (c .before .before .before .before .enter-flex .result .st) _ (c .before .before .before .before .before .before .before .before .before .before .commit .ensures .1 .0) (c .before .before .before .before .enter-flex .ensures .1 .groups))
 
--- src/lib.rt:1455:9
 made-requires-2 : tie.Need-made-requires-2
 made-requires-2 c κs = search needs
 
--- src/lib.rt:1455:9
 same-length-3 : tie.Need-same-length-3
 same-length-3 c = search needs
 
--- src/lib.rt:1455:9
 returns-4 : tie.Need-returns-4
 returns-4 c =
     (ends-full _ _ _ _ _ _ _ ((whole-told (c .before .before .before .before .before .before .before .before .before .before .before .before .before .before .before .before .before .before .args .st .flexing) (c .before .before .before .before .before .before .before .before .before .before .before .before .before .before .before .before .before .before .args .st .points) (sym (c .before .before .before .before .before .before .before .before .before .before .before .before .before .before .before .before .is-whole-flex .ensures) ∙ not-false _ (c .before .before .before .before .before .before .before .before .before .before .before .before .before .before .before .if1 .left))) .0) ((whole-told (c .before .before .before .before .before .before .before .before .before .before .before .before .before .before .before .before .before .before .args .st .flexing) (c .before .before .before .before .before .before .before .before .before .before .before .before .before .before .before .before .before .before .args .st .points) (sym (c .before .before .before .before .before .before .before .before .before .before .before .before .before .before .before .before .is-whole-flex .ensures) ∙ not-false _ (c .before .before .before .before .before .before .before .before .before .before .before .before .before .before .before .if1 .left))) .1) _ _ (c .before .before .before .before .before .before .before .before .before .before .before .before .before .commit .ensures .0) (c .before .before .before .before .before .before .before .before .before .if2 .left) (c .before .before .before .before .before .before .before .before .before .before .before .before .cmds .given) _ _ (c .before .before .before .before .before .before .before .enter-flex .ensures .0) (c .before .before .before .before .before .before .before .enter-flex .ensures .1 .groups) (c .before .before .before .if3 .left) _ (c .made2 .ensures) (c .before .if4 .taken), flex-space (c .before .before .before .before .before .before .before .before .before .before .before .before .before .before .before .before .before .before .args .st) _ (c .made2 .result .st) _ (c .before .before .before .before .before .before .before .before .before .before .before .before .before .commit .ensures .1 .0) (ap (λ (q : Ran). q .st .groups) (c .made2 .ensures) ∙ c .before .before .before .before .before .before .before .enter-flex .ensures .1 .groups))
 
--- src/lib.rt:1457:13
 element-copy-out-ps : tie.Need-element-copy-out-ps
 element-copy-out-ps c = search needs
 
--- src/lib.rt:1457:5
 mul-ps : tie.Need-mul-ps
 mul-ps c = search needs
 
--- src/lib.rt:1457:5
 element-write-ps : tie.Need-element-write-ps
 element-write-ps c = search needs
 
--- src/lib.rt:1458:17
 element-copy-out-ps-2 : tie.Need-element-copy-out-ps-2
 element-copy-out-ps-2 c = search needs
 
--- src/lib.rt:1458:8
 add-ps : tie.Need-add-ps
 add-ps c = search needs
 
--- src/lib.rt:1458:5
 mul-ps-2 : tie.Need-mul-ps-2
 mul-ps-2 c = search needs
 
--- src/lib.rt:1458:5
 element-write-ps-2 : tie.Need-element-write-ps-2
 element-write-ps-2 c = search needs
 
--- src/lib.rt:1459:20
 add-t : tie.Need-add-t
 add-t c = search needs
 
--- src/lib.rt:1460:11
 element-copy-out-t : tie.Need-element-copy-out-t
 element-copy-out-t c = search needs
 
--- src/lib.rt:1461:11
 element-copy-out-t-2 : tie.Need-element-copy-out-t-2
 element-copy-out-t-2 c = search needs
 
--- src/lib.rt:1462:5
 made-requires-3 : tie.Need-made-requires-3
 made-requires-3 c κs = search needs
 
--- src/lib.rt:1423:1
 same-length-4 : tie.Need-same-length-4
 same-length-4 c = search needs
 
--- src/lib.rt:1423:1
 returns-5 : tie.Need-returns-5
 returns-5 c =
     (ends-done _ _ _ _ _ _ _ ((whole-told (c .before .before .before .before .before .before .before .before .before .before .before .before .before .before .before .before .before .before .before .before .before .before .args .st .flexing) (c .before .before .before .before .before .before .before .before .before .before .before .before .before .before .before .before .before .before .before .before .before .before .args .st .points) (sym (c .before .before .before .before .before .before .before .before .before .before .before .before .before .before .before .before .before .before .before .before .is-whole-flex .ensures) ∙ not-false _ (c .before .before .before .before .before .before .before .before .before .before .before .before .before .before .before .before .before .before .before .if1 .left))) .0) ((whole-told (c .before .before .before .before .before .before .before .before .before .before .before .before .before .before .before .before .before .before .before .before .before .before .args .st .flexing) (c .before .before .before .before .before .before .before .before .before .before .before .before .before .before .before .before .before .before .before .before .before .before .args .st .points) (sym (c .before .before .before .before .before .before .before .before .before .before .before .before .before .before .before .before .before .before .before .before .is-whole-flex .ensures) ∙ not-false _ (c .before .before .before .before .before .before .before .before .before .before .before .before .before .before .before .before .before .before .before .if1 .left))) .1) _ _ (c .before .before .before .before .before .before .before .before .before .before .before .before .before .before .before .before .before .commit .ensures .0) (c .before .before .before .before .before .before .before .before .before .before .before .before .before .if2 .left) (c .before .before .before .before .before .before .before .before .before .before .before .before .before .before .before .before .cmds .given) _ _ (c .before .before .before .before .before .before .before .before .before .before .before .enter-flex .ensures .0) (c .before .before .before .before .before .before .before .before .before .before .before .enter-flex .ensures .1 .groups) (c .before .before .before .before .before .before .before .if3 .left) _ (c .made3 .ensures) (c .before .before .before .before .before .if4 .left), flex-space (c .before .before .before .before .before .before .before .before .before .before .before .before .before .before .before .before .before .before .before .before .before .before .args .st) _ (c .made3 .result .st) _ (c .before .before .before .before .before .before .before .before .before .before .before .before .before .before .before .before .before .commit .ensures .1 .0) (ap (λ (q : Ran). q .st .groups) (c .made3 .ensures) ∙ c .before .before .before .before .before .before .before .before .before .before .before .enter-flex .ensures .1 .groups))

@@ -53,10 +53,10 @@ use Rattle.type1.proofs.Many.{asks-all, guards}
 use Rattle.type1.proofs.Locals.{word, machS}
 use Rattle.type1.specs.State.{sameStems}
 use Rattle.type1.specs.Memory.{stemsAt}
-use Rattle.type1.specs.Small.{mayBeLast}
-use Rattle.type1.proofs.may_be_last.Symbol as may-be-last-def
-use Rattle.type1.proofs.may_be_last.Symbol.{name as #type1·may-be-last}
-use Rattle.type1.proofs.may_be_last.Met as may-be-last-thm
+use Rattle.hints.specs.Hints.{mayBeLast}
+use Rattle.hints.proofs.may_be_last.Symbol as may-be-last-def
+use Rattle.hints.proofs.may_be_last.Symbol.{name as #hints·may-be-last}
+use Rattle.hints.proofs.may_be_last.Met as may-be-last-thm
 use Rattle.type1.proofs.last_from.Symbol as last-from-def
 use Rattle.type1.proofs.last_from.Symbol.{name as #type1·last-from}
 use Rattle.type1.proofs.last_from.Met as last-from-thm
@@ -118,14 +118,14 @@ module _ {M : Type 1} (𝓤 : URA M) (H : Heap 𝓤) (A : Atoms 𝓤) (W : Given
       qed W (‵ (bool .own r (w ∷ [])) ∷ ‵ (ShrRef (named 0) κedges (Array f64 512) .own xedges (vptr (xedges .ptr .0) (xedges .ptr .1) ∷ [])) ∷ ‵ (flft κedges qedges) ∷ ‵ (ShrRef (named 0) κacross (Array bool 256) .own xacross (vptr (xacross .ptr .0) (xacross .ptr .1) ∷ [])) ∷ ‵ (flft κacross qacross) ∷ ‵ (Own T.the-row mstems bstems ostems κstems γstems usstems) ∷ ‵ (flft κstems qstems) ∷ []) ∵ suffices ! _ (ends-at 𝓤 H A f.ended stayed (f.clauses 𝓤 H A mem run′) W bound w r (tt, (tt, (tt, (usstems, tt)))) (tt, (tt, (tt, (lstems, tt))))) $ says ! e $
       nothing ! $ move ! (7 ∷ 0 ∷ []) $ join ! $ move ! (5 ∷ 0 ∷ []) $ join ! $ move ! (3 ∷ 0 ∷ []) $ join ! $ frame ! $ nothing ! $ move ! (4 ∷ 0 ∷ []) $ fjoin ! $ move ! (3 ∷ 0 ∷ []) $ fjoin ! $ move ! (2 ∷ 0 ∷ []) $ fjoin ! $ owned ! S.the-row (Is S.the-row) (LL.makes S.the-type S′.the-plain 𝓤 H A) st _ st-fits $ fjoin ! $ done !
 
-  module _ (known-may-be-last : Triple 𝓤 (C #type1·may-be-last) (MayBeLastC 𝓤 H A mem run′)) (known-last-from : Triple 𝓤 (C #type1·last-from) (LastFromC 𝓤 H A mem run′)) (known-all-same : Triple 𝓤 (C #type1·all-same) (AllSameC 𝓤 H A mem run′)) (need : (st .hints ≤ 256) × ((st .last ≤ st .stems) × (st .stems ≤ length ysstems))) where
+  module _ (known-may-be-last : Triple 𝓤 (C #hints·may-be-last) (MayBeLastC 𝓤 H A mem run′)) (known-last-from : Triple 𝓤 (C #type1·last-from) (LastFromC 𝓤 H A mem run′)) (known-all-same : Triple 𝓤 (C #type1·all-same) (AllSameC 𝓤 H A mem run′)) (need : (st .hints ≤ 256) × ((st .last ≤ st .stems) × (st .stems ≤ length ysstems))) where
     pub walk : ent 𝓤 (onEntry 𝓤 H A f.signature (κedges, (κacross, (κstems, tt))) (qedges, (qacross, (qstems, tt))) a vals) (WpFn 𝓤 H C Λ code.function args Post)
     walk =
         qed W ((‵ (flft κedges qedges) ⊛ (‵ (flft κacross qacross) ⊛ (‵ (flft κstems qstems) ⊛ ‵ ftrue))) ∷ ‵ (owns (S.the-row ∷ ShrRef (named 0) κedges (Array f64 512) ∷ ShrRef (named 1) κacross (Array bool 256) ∷ MutSlice (named 2) κstems T.the-row ∷ []) a vals) ∷ []) ∵ enter ! C Λ code.function args _ $
         alloc1 ! (λ l₀. alloc1 ! (λ l₁. alloc1 ! (λ l₂. alloc1 ! (λ l₃. alloc1 ! (λ l₄. alloc1 ! (λ l₅. alloc1 ! (λ l₆. alloc1 ! (λ l₇. alloc1 ! (λ l₈. alloc0 ! $ params1 ! $
         pass1 ! (init ! 14 refl (typedS 𝓤 H A W st _ st-fits)) $ pass1 ! (init ! 12 refl (tt, tt)) $ pass1 ! (init ! 10 refl (tt, tt)) $ pass1 ! (init ! 8 refl (tt, (tt, (record { fits = fitstems .0 }, tt)))) $ pass0 ! $ move ! (19 ∷ []) $ fsplit ! $ put-away ! $ fsplit ! $ move ! (1 ∷ []) $ fsplit ! $ move ! (1 ∷ []) $ fsplit ! $ move ! (1 ∷ []) $ put-away ! $ move ! (21 ∷ []) $ split ! $ move ! (1 ∷ []) $ split ! $ move ! (1 ∷ []) $ split ! $ move ! (1 ∷ []) $ put-away ! $ move ! (5 ∷ 2 ∷ 4 ∷ 1 ∷ 3 ∷ 0 ∷ []) $
         -- `may_be_last`
-        nothing ! $ asks-all ! fm bool (Is bool) (shows 𝓤 H A bool) (Unit {0} × Unit {0}) (λ (r : bool .Denot) (lasts : (Unit {0} × Unit {0})). r ≡ mayBeLast st) (λ (lasts : (Unit {0} × Unit {0})). (fsep ftrue ftrue)) (‵ ftrue) (‵ ftrue) (machS st ∷ []) (may-be-last-as 𝓤 H A mem run′ W C known-may-be-last (st) (st-fits)) (and-then ! (load ! (from ! (stop !)) (look ! 21 refl)) (no-more !)) (λ w1 r1 zs1 e1 is1. land ! (from ! (stop !)) (init ! 15 refl (bool-lawful 𝓤 H A W .typed r1 _ is1 .0)) $ rewrite ! 15 (λ (u : Val). ‵ (fat fullShare tyBool l₅ 0 u)) (ap only is1) refl $ put-away ! $ put-away ! $ fsplit ! $ put-away ! $ put-away ! $
+        nothing ! $ asks-all ! fm bool (Is bool) (shows 𝓤 H A bool) (Unit {0} × (Unit {0} × (Unit {0} × (Unit {0} × Unit {0})))) (λ (r : bool .Denot) (lasts : (Unit {0} × (Unit {0} × (Unit {0} × (Unit {0} × Unit {0}))))). r ≡ mayBeLast (st .changed) (st .groups) (st .last) (st .hints)) (λ (lasts : (Unit {0} × (Unit {0} × (Unit {0} × (Unit {0} × Unit {0}))))). (fsep ftrue (fsep ftrue (fsep ftrue (fsep ftrue ftrue))))) (‵ ftrue) (‵ ftrue) (vbool (st .changed) ∷ vint w64 (st .groups) ∷ vint w64 (st .last) ∷ vint w64 (st .hints) ∷ []) (may-be-last-as 𝓤 H A mem run′ W C known-may-be-last ((st .changed)) ((st .groups)) ((st .last)) ((st .hints)) ((LL.owed S.the-type S′.the-laws st (machS st ∷ []) st-fits) .1 .1 .1 .1 .1 .1 .1 .0 .1) ((LL.owed S.the-type S′.the-laws st (machS st ∷ []) st-fits) .1 .1 .1 .1 .1 .1 .0 .1) ((LL.owed S.the-type S′.the-laws st (machS st ∷ []) st-fits) .1 .1 .1 .1 .1 .0 .1)) (and-then ! (load ! (from ! (fld ! refl (stop !))) (look-in ! 21 (sub ! 13 refl (whole !)))) (and-then ! (load ! (from ! (fld ! refl (stop !))) (look-in ! 21 (sub ! 7 refl (whole !)))) (and-then ! (load ! (from ! (fld ! refl (stop !))) (look-in ! 21 (sub ! 6 refl (whole !)))) (and-then ! (load ! (from ! (fld ! refl (stop !))) (look-in ! 21 (sub ! 5 refl (whole !)))) (no-more !))))) (λ w1 r1 zs1 e1 is1. land ! (from ! (stop !)) (init ! 15 refl (bool-lawful 𝓤 H A W .typed r1 _ is1 .0)) $ rewrite ! 15 (λ (u : Val). ‵ (fat fullShare tyBool l₅ 0 u)) (ap only is1) refl $ put-away ! $ put-away ! $ fsplit ! $ put-away ! $ fsplit ! $ put-away ! $ fsplit ! $ put-away ! $ fsplit ! $ put-away ! $ put-away ! $
         guards ! (load ! (from ! (stop !)) (look ! 12 refl))
         (λ may.
         -- `last_from`
@@ -141,7 +141,7 @@ module _ {M : Type 1} (𝓤 : URA M) (H : Heap 𝓤) (A : Atoms 𝓤) (W : Given
         returns ! (look ! 23 refl) $ leave ! (_ ∷ _ ∷ _ ∷ _ ∷ _ ∷ _ ∷ _ ∷ []) (filled _ _ _ ∷ filled _ _ _ ∷ filled _ _ _ ∷ filled _ _ _ ∷ filled _ _ _ ∷ filled _ _ _ ∷ bare _ _ ∷ bare _ _ ∷ bare _ _ ∷ []) $ keep ! (0 ∷ 1 ∷ 2 ∷ 3 ∷ 4 ∷ 5 ∷ 6 ∷ []) $ by ! (exits false (vbool false) ysstems ((last-not st ysstems (xedges .now) (xacross .now) (need .1 .0) (need .1 .1) r1 e1 not-so, refl)) (refl)))))))))))))
 
 module _ {M : Type 1} (𝓤 : URA M) (H : Heap 𝓤) (A : Atoms 𝓤) (W : Given 𝓤 H A) (mem : Memory → SProp 𝓤) (run′ : Routine → Fun 𝓤) where
-  meets : (𝓣 : Tables 𝓤 H) → (let C : Calls 𝓤 H = 𝓣 .C in Triple 𝓤 (C #type1·may-be-last) (MayBeLastC 𝓤 H A mem run′) → Triple 𝓤 (C #type1·last-from) (LastFromC 𝓤 H A mem run′) → Triple 𝓤 (C #type1·all-same) (AllSameC 𝓤 H A mem run′) → Meets 𝓤 H A f.signature (WpFn 𝓤 H (𝓣 .C) (𝓣 .Λ) code.function) (f.spec 𝓤 H A mem run′))
+  meets : (𝓣 : Tables 𝓤 H) → (let C : Calls 𝓤 H = 𝓣 .C in Triple 𝓤 (C #hints·may-be-last) (MayBeLastC 𝓤 H A mem run′) → Triple 𝓤 (C #type1·last-from) (LastFromC 𝓤 H A mem run′) → Triple 𝓤 (C #type1·all-same) (AllSameC 𝓤 H A mem run′) → Meets 𝓤 H A f.signature (WpFn 𝓤 H (𝓣 .C) (𝓣 .Λ) code.function) (f.spec 𝓤 H A mem run′))
   meets 𝓣 k0 k1 k2 = walk-meets 𝓤 H A f.ended stayed W (goes-none 𝓤 H A W 3 (λ _. S.the-row) yes (λ κs x f. refl), (goes-none-ref 𝓤 H A W 3 (0 ∷ []) tt (ArrayOf (plain (λ _. f64)) (λ _. tt) 512) yes, (goes-none-ref 𝓤 H A W 3 (1 ∷ []) tt (ArrayOf (plain (λ _. bool)) (λ _. tt) 256) yes, (goes-slice 𝓤 H A W 3 2 tt (plain (λ _. T.the-row)), tt)))) (f.clauses 𝓤 H A mem run′)
       (WpFn 𝓤 H (𝓣 .C) (𝓣 .Λ) code.function) (WpFn-mono 𝓤 H (W .laws) 𝓣 code.function)
       (walked 𝓤 H A f.ended stayed (f.clauses 𝓤 H A mem run′) (WpFn 𝓤 H (𝓣 .C) (𝓣 .Λ) code.function) (λ κs. (LL.vals S.the-type S′.the-laws, (ptr-vals, (ptr-vals, (slice-vals, tt))))) (λ κs. (LL.tells S.the-type S′.the-laws, (shr-tells (named 0) (κs .0) (Array f64 512), (shr-tells (named 1) (κs .1 .0) (Array bool 256), (mut-slice-tells (named 2) (κs .1 .1 .0) T.the-row, tt)))))
@@ -153,6 +153,6 @@ is-last-spec 𝓤 H 𝓜 𝓖 𝓡 =
     entered 𝓤 H (tripleOf 𝓤 H (𝓖 .A) f.signature (f.spec 𝓤 H (𝓖 .A) (𝓜 .mem) (𝓡 .run)))
     (tables 𝓤 H 𝓜 𝓡 code.env .C) (tables 𝓤 H 𝓜 𝓡 code.env .Λ) #type1·is-last code.function (code.unfolded 𝓤 H 𝓜 𝓡)
     (meets 𝓤 H (𝓖 .A) (givenOf 𝓤 H 𝓜 𝓖) (𝓜 .mem) (𝓡 .run) (tablesOf 𝓤 H 𝓜 (tables 𝓤 H 𝓜 𝓡 code.env))
-    (cited 𝓤 H (MayBeLastC 𝓤 H (𝓖 .A) (𝓜 .mem) (𝓡 .run)) 𝓜 𝓡 code.env #type1·may-be-last may-be-last-def.routine code.calls-type1·may-be-last (may-be-last-thm.met 𝓤 H 𝓜 𝓖 𝓡))
+    (cited 𝓤 H (MayBeLastC 𝓤 H (𝓖 .A) (𝓜 .mem) (𝓡 .run)) 𝓜 𝓡 code.env #hints·may-be-last may-be-last-def.routine code.calls-hints·may-be-last (may-be-last-thm.met 𝓤 H 𝓜 𝓖 𝓡))
     (cited 𝓤 H (LastFromC 𝓤 H (𝓖 .A) (𝓜 .mem) (𝓡 .run)) 𝓜 𝓡 code.env #type1·last-from last-from-def.routine code.calls-type1·last-from (last-from-thm.met 𝓤 H 𝓜 𝓖 𝓡))
     (cited 𝓤 H (AllSameC 𝓤 H (𝓖 .A) (𝓜 .mem) (𝓡 .run)) 𝓜 𝓡 code.env #type1·all-same all-same-def.routine code.calls-type1·all-same (all-same-thm.met 𝓤 H 𝓜 𝓖 𝓡)))

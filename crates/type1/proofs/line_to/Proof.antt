@@ -13,33 +13,26 @@ use Rattle.type1.proofs.finite_point.Reads as finite-point-reads
 use Rattle.type1.proofs.list_point.Reads as list-point-reads
 use Rattle.type1.proofs.made.Reads as made-reads
 
--- src/lib.rt:879:9
 finite-point-requires : tie.Need-finite-point-requires
 finite-point-requires c κs = search needs
 
--- src/lib.rt:880:9
 made-requires : tie.Need-made-requires
 made-requires c κs = search needs
 
--- src/lib.rt:880:9
 returns : tie.Need-returns
 returns c =
     (lines-infinite _ _ _ _ _ _ _ (c .made .ensures) (sym (c .before .before .finite-point .ensures) ∙ not-true _ (c .before .if1 .taken)), path-infinite _ _ 13 _ (c .made .ensures))
 
--- src/lib.rt:882:40
 at-point-requires : tie.Need-at-point-requires
 at-point-requires c κs = search needs
 
--- src/lib.rt:882:5
 list-point-requires : tie.Need-list-point-requires
 list-point-requires c κs =
     (moved-bounds _ _ _ _ _ _ (c .before .at-point .ensures) (c .before .before .before .before .before .before .before .pre .0) (c .before .before .before .before .before .before .before .pre .1) .0, (moved-bounds _ _ _ _ _ _ (c .before .at-point .ensures) (c .before .before .before .before .before .before .before .pre .0) (c .before .before .before .before .before .before .before .pre .1) .1, ((lit< tt, lit< tt), finite-both (add binary64 (c .before .before .before .before .before .before .before .args .st .x) (c .before .before .before .before .before .before .before .args .dx)) (add binary64 (c .before .before .before .before .before .before .before .args .st .y) (c .before .before .before .before .before .before .before .args .dy)) _ (c .before .before .before .finite-point .ensures) (not-false _ (c .before .before .if1 .left)))))
 
--- src/lib.rt:863:1
 same-length : tie.Need-same-length
 same-length c = search needs
 
--- src/lib.rt:863:1
 returns-2 : tie.Need-returns-2
 returns-2 c =
     (lines-listed _ _ _ _ (c .before .before .list-point .result) _ _ _ _ _ (c .before .before .before .before .at-point .ensures) (sym (c .before .before .before .before .before .before .finite-point .ensures) ∙ not-false _ (c .before .before .before .before .before .if1 .left)) (c .before .before .list-point .ensures .0), moved-path _ _ (add binary64 (c .before .before .before .before .before .before .before .before .before .before .args .st .x) (c .before .before .before .before .before .before .before .before .before .before .args .dx)) (add binary64 (c .before .before .before .before .before .before .before .before .before .before .args .st .y) (c .before .before .before .before .before .before .before .before .before .before .args .dy)) _ _ (c .before .before .before .before .at-point .ensures) (c .before .before .list-point .ensures .1 .0))

@@ -10,28 +10,22 @@ use Rattle.type1.proofs.list_point.Lts as lts
 use Rattle.type1.proofs.commit.Reads as commit-reads
 use Rattle.type1.proofs.enter_point.Reads as enter-point-reads
 
--- src/lib.rt:781:9
 commit-requires : tie.Need-commit-requires
 commit-requires c κs = search needs
 
--- src/lib.rt:783:9
 same-length : tie.Need-same-length
 same-length c = search needs
 
--- src/lib.rt:783:9
 returns : tie.Need-returns
 returns c =
     (lists-stop _ _ _ _ _ _ _ (c .before .before .before .before .commit .ensures .0) (c .if1 .taken), c .before .before .before .before .commit .ensures .1)
 
--- src/lib.rt:785:5
 enter-point-requires : tie.Need-enter-point-requires
 enter-point-requires c κs = search needs
 
--- src/lib.rt:763:1
 same-length-2 : tie.Need-same-length-2
 same-length-2 c = search needs
 
--- src/lib.rt:763:1
 returns-2 : tie.Need-returns-2
 returns-2 c =
     (lists-on _ _ _ _ _ _ _ _ _ (c .before .before .before .before .before .before .before .before .commit .ensures .0) (c .before .before .before .before .if1 .left) (c .before .before .before .before .before .before .before .cmds .given) (c .before .before .enter-point .ensures .0) (c .before .before .enter-point .ensures .1 .0), (path-enter _ _ _ _ (c .before .before .before .before .before .before .before .before .commit .ensures .1 .0) (c .before .before .before .before .if1 .left) (c .before .before .enter-point .ensures .1 .0), grown-enter _ _ _ _ _ _ (c .before .before .before .before .before .before .before .before .commit .ensures .1 .1) (c .before .before .enter-point .ensures .1 .0) (c .before .before .enter-point .ensures .1 .1) (c .before .before .before .before .before .before .before .cmds .given)))

@@ -15,50 +15,39 @@ use Rattle.type1.proofs.list_point.Reads as list-point-reads
 use Rattle.type1.proofs.made.Reads as made-reads
 use Rattle.type1.proofs.opened.Reads as opened-reads
 
--- src/lib.rt:835:9
 finite-point-requires : tie.Need-finite-point-requires
 finite-point-requires c κs = search needs
 
--- src/lib.rt:836:9
 made-requires : tie.Need-made-requires
 made-requires c κs = search needs
 
--- src/lib.rt:836:9
 returns : tie.Need-returns
 returns c =
     (moves-infinite _ _ _ _ _ _ _ (c .made .ensures) (sym (c .before .before .finite-point .ensures) ∙ not-true _ (c .before .if1 .taken)), space-same (c .before .before .before .before .before .before .args .st) _ 14 _ (c .made .ensures))
 
--- src/lib.rt:839:21
 at-point-requires : tie.Need-at-point-requires
 at-point-requires c κs = search needs
 
--- src/lib.rt:839:9
 made-requires-2 : tie.Need-made-requires-2
 made-requires-2 c κs = search needs
 
--- src/lib.rt:839:9
 returns-2 : tie.Need-returns-2
 returns-2 c =
     (moves-flexing _ _ _ _ _ _ _ (c .made2 .ensures ∙ ap (λ u. record { st = u; flow = 0 }) (c .before .at-point .ensures)) (sym (c .before .before .before .before .finite-point .ensures) ∙ not-false _ (c .before .before .before .if1 .left)) (c .before .before .if2 .taken), space-moved (c .before .before .before .before .before .before .before .before .args .st) _ _ _ _ 0 _ (c .made2 .ensures) (c .before .at-point .ensures))
 
--- src/lib.rt:841:47
 at-point-requires-2 : tie.Need-at-point-requires-2
 at-point-requires-2 c κs = search needs
 
--- src/lib.rt:841:12
 list-point-requires : tie.Need-list-point-requires
 list-point-requires c κs =
     (moved-bounds _ _ _ _ _ _ (c .before .at-point2 .ensures) (c .before .before .before .before .before .before .before .before .pre .0) (c .before .before .before .before .before .before .before .before .pre .1) .0, (moved-bounds _ _ _ _ _ _ (c .before .at-point2 .ensures) (c .before .before .before .before .before .before .before .before .pre .0) (c .before .before .before .before .before .before .before .before .pre .1) .1, ((lit< tt, lit< tt), finite-both (add binary64 (c .before .before .before .before .before .before .before .before .args .st .x) (c .before .before .before .before .before .before .before .before .args .dx)) (add binary64 (c .before .before .before .before .before .before .before .before .args .st .y) (c .before .before .before .before .before .before .before .before .args .dy)) _ (c .before .before .before .before .finite-point .ensures) (not-false _ (c .before .before .before .if1 .left)))))
 
--- src/lib.rt:841:5
 opened-requires : tie.Need-opened-requires
 opened-requires c κs = search needs
 
--- src/lib.rt:819:1
 same-length : tie.Need-same-length
 same-length c = search needs
 
--- src/lib.rt:819:1
 returns-3 : tie.Need-returns-3
 returns-3 c =
     (moves-listed _ (c .before .before .before .before .before .before .before .before .before .before .before .before .args .st) _ (c .before .before .before .list-point .result) _ _ _ _ _ _ (c .before .before .before .before .before .at-point2 .ensures) (sym (c .before .before .before .before .before .before .before .before .finite-point .ensures) ∙ not-false _ (c .before .before .before .before .before .before .before .if1 .left)) (c .before .before .before .before .before .before .if2 .left) (c .before .before .before .list-point .ensures .0) (c .opened .ensures), space-opened (c .before .before .before .before .before .before .before .before .before .before .before .before .args .st) _ (c .before .before .before .list-point .result) _ _ _ _ (c .before .before .before .before .before .at-point2 .ensures) (c .opened .ensures) (c .before .before .before .list-point .ensures .1 .0))

@@ -10,80 +10,62 @@ use Rattle.type1.proofs.new_group.Lts as lts
 use Rattle.hints.proofs.new_group.Reads as new-group-reads
 use Rattle.type1.proofs.made.Reads as made-reads
 
--- src/lib.rt:718:9
 new-group-requires : tie.Need-new-group-requires
 new-group-requires c κs = search needs
 
--- src/lib.rt:720:9
 made-requires : tie.Need-made-requires
 made-requires c κs = search needs
 
--- src/lib.rt:720:9
 returns : tie.Need-returns
 returns c =
     (λ m s q H. no-group _ _ s H _ _ _ _ _ (c .before .before .new-group .ensures) (c .before .if1 .taken) (c .made .ensures), ((λ z. refused-not _ _ _ (c .made .ensures) (c .before .if1 .taken) z, space-same _ _ _ _ (c .made .ensures)), grown-same _ _ _ _ _ (c .made .ensures) (c .before .before .before .before .pre .0) (c .before .before .before .before .pre .1)))
 
--- src/lib.rt:722:14
 mul-at : tie.Need-mul-at
 mul-at c = search needs
 
--- src/lib.rt:723:5
 mul-cmds : tie.Need-mul-cmds
 mul-cmds c = search needs
 
--- src/lib.rt:723:5
 slice-write-cmds : tie.Need-slice-write-cmds
 slice-write-cmds c =
     let G = group-room _ _ _ _ _ _ _ (c .before .new-group .ensures) (c .if1 .left) in omega (arith, G .2)
 
--- src/lib.rt:724:10
 add-cmds : tie.Need-add-cmds
 add-cmds c = search needs
 
--- src/lib.rt:724:5
 mul-cmds-2 : tie.Need-mul-cmds-2
 mul-cmds-2 c = search needs
 
--- src/lib.rt:724:5
 slice-write-cmds-2 : tie.Need-slice-write-cmds-2
 slice-write-cmds-2 c =
     let G = group-room _ _ _ _ _ _ _ (c .before .new-group .ensures) (c .if1 .left) in simp length-set (omega (arith, G .2))
 
--- src/lib.rt:725:10
 add-cmds-2 : tie.Need-add-cmds-2
 add-cmds-2 c = search needs
 
--- src/lib.rt:725:5
 mul-cmds-3 : tie.Need-mul-cmds-3
 mul-cmds-3 c = search needs
 
--- src/lib.rt:725:5
 slice-write-cmds-3 : tie.Need-slice-write-cmds-3
 slice-write-cmds-3 c =
     let G = group-room _ _ _ _ _ _ _ (c .before .new-group .ensures) (c .if1 .left) in simp length-set (omega (arith, G .2))
 
--- src/lib.rt:727:17
 add-s : tie.Need-add-s
 add-s c = search needs
 
--- src/lib.rt:728:15
 add-s-2 : tie.Need-add-s-2
 add-s-2 c =
     let G = group-room _ _ _ _ _ _ _ (c .before .new-group .ensures) (c .if1 .left) in omega (arith, G .1)
 
--- src/lib.rt:730:16
 add-s-3 : tie.Need-add-s-3
 add-s-3 c = search needs
 
--- src/lib.rt:732:5
 made-requires-2 : tie.Need-made-requires-2
 made-requires-2 c κs = search needs
 
--- src/lib.rt:703:1
 same-length : tie.Need-same-length
 same-length c = search needs
 
--- src/lib.rt:703:1
 returns-2 : tie.Need-returns-2
 returns-2 c =
     let G = group-room _ _ _ _ _ _ _ (c .before .before .before .new-group .ensures) (c .before .before .if1 .left) in

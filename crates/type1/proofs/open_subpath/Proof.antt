@@ -9,20 +9,16 @@ use Rattle.type1.proofs.open_subpath.Lts as lts
 use Rattle.type1.proofs.list_point.Reads as list-point-reads
 use Rattle.type1.proofs.opened.Reads as opened-reads
 
--- src/lib.rt:859:12
 list-point-requires : tie.Need-list-point-requires
 list-point-requires c κs =
     (c .before .before .pre .0, (c .before .before .pre .1 .0, ((lit< tt, lit< tt), c .before .before .pre .1 .1)))
 
--- src/lib.rt:859:5
 opened-requires : tie.Need-opened-requires
 opened-requires c κs = search needs
 
--- src/lib.rt:845:1
 same-length : tie.Need-same-length
 same-length c = search needs
 
--- src/lib.rt:845:1
 returns : tie.Need-returns
 returns c =
     (opens-first _ (c .before .before .before .before .before .before .args .st) (c .before .before .before .list-point .result) _ _ _ _ (c .opened .ensures) (c .before .before .before .list-point .ensures .0), (opened-path (c .before .before .before .before .before .before .args .st) (c .before .before .before .list-point .result) _ _ (c .opened .ensures) (c .before .before .before .list-point .ensures .1 .0), opened-grown (c .before .before .before .before .before .before .args .st) (c .before .before .before .list-point .result) _ _ _ (c .opened .ensures) (c .before .before .before .list-point .ensures .1 .1)))

@@ -39,44 +39,36 @@ use Rattle.type1.proofs.vlineto.Reads as vlineto-reads
 use Rattle.type1.proofs.vmoveto.Reads as vmoveto-reads
 use Rattle.type1.proofs.vstem.Reads as vstem-reads
 
--- src/lib.rt:1659:13
 hstem-requires : tie.Need-hstem-requires
 hstem-requires c κs = search needs
 
--- src/lib.rt:1659:13
 returns : tie.Need-returns
 unfolding operatorOf ofByte
 returns c =
     stem-arm _ _ _ _ _ _ _ _ _ _ _ _ op.hstem (c .before .before .before .before .before .match .keys1) refl _ _ (c .hstem .ensures .0) (c .hstem .ensures .1)
 
--- src/lib.rt:1662:13
 vstem-requires : tie.Need-vstem-requires
 vstem-requires c κs = search needs
 
--- src/lib.rt:1662:13
 returns-2 : tie.Need-returns-2
 unfolding operatorOf ofByte
 returns-2 c =
     stem-arm _ _ _ _ _ _ _ _ _ _ _ _ op.vstem (c .before .before .before .before .before .match .keys2) refl _ _ (c .vstem .ensures .0) (c .vstem .ensures .1)
 
--- src/lib.rt:1665:13
 vmoveto-requires : tie.Need-vmoveto-requires
 vmoveto-requires c κs = search needs
 
 kept-requires : tie.Need-kept-requires
 kept-requires c κs = search needs
 
--- src/lib.rt:1665:13
 same-length : tie.Need-same-length
 same-length c = search needs
 
--- src/lib.rt:1665:13
 returns-3 : tie.Need-returns-3
 unfolding operatorOf ofByte
 returns-3 c =
     path-arm _ _ _ _ _ _ _ _ _ _ _ _ op.vmoveto (c .before .before .before .before .before .before .match .keys3) refl _ _ (c .kept .ensures) (c .before .before .before .vmoveto .ensures .0) (c .before .before .before .vmoveto .ensures .1)
 
--- src/lib.rt:1668:13
 rlineto-requires : tie.Need-rlineto-requires
 rlineto-requires c κs =
     (c .before .before .before .before .pre .0, (c .before .before .before .before .pre .1 .0, (c .before .before .before .before .pre .1 .1 .x, c .before .before .before .before .pre .1 .1 .y)))
@@ -84,17 +76,14 @@ rlineto-requires c κs =
 kept-requires-2 : tie.Need-kept-requires-2
 kept-requires-2 c κs = search needs
 
--- src/lib.rt:1668:13
 same-length-2 : tie.Need-same-length-2
 same-length-2 c = search needs
 
--- src/lib.rt:1668:13
 returns-4 : tie.Need-returns-4
 unfolding operatorOf ofByte
 returns-4 c =
     path-arm _ _ _ _ _ _ _ _ _ _ _ _ op.rlineto (c .before .before .before .before .before .before .match .keys4) refl _ _ (c .kept2 .ensures) (c .before .before .before .rlineto .ensures .0) (c .before .before .before .rlineto .ensures .1)
 
--- src/lib.rt:1671:13
 hlineto-requires : tie.Need-hlineto-requires
 hlineto-requires c κs =
     (c .before .before .before .before .pre .0, (c .before .before .before .before .pre .1 .0, (c .before .before .before .before .pre .1 .1 .x, c .before .before .before .before .pre .1 .1 .y)))
@@ -102,17 +91,14 @@ hlineto-requires c κs =
 kept-requires-3 : tie.Need-kept-requires-3
 kept-requires-3 c κs = search needs
 
--- src/lib.rt:1671:13
 same-length-3 : tie.Need-same-length-3
 same-length-3 c = search needs
 
--- src/lib.rt:1671:13
 returns-5 : tie.Need-returns-5
 unfolding operatorOf ofByte
 returns-5 c =
     path-arm _ _ _ _ _ _ _ _ _ _ _ _ op.hlineto (c .before .before .before .before .before .before .match .keys5) refl _ _ (c .kept3 .ensures) (c .before .before .before .hlineto .ensures .0) (c .before .before .before .hlineto .ensures .1)
 
--- src/lib.rt:1674:13
 vlineto-requires : tie.Need-vlineto-requires
 vlineto-requires c κs =
     (c .before .before .before .before .pre .0, (c .before .before .before .before .pre .1 .0, (c .before .before .before .before .pre .1 .1 .x, c .before .before .before .before .pre .1 .1 .y)))
@@ -120,17 +106,14 @@ vlineto-requires c κs =
 kept-requires-4 : tie.Need-kept-requires-4
 kept-requires-4 c κs = search needs
 
--- src/lib.rt:1674:13
 same-length-4 : tie.Need-same-length-4
 same-length-4 c = search needs
 
--- src/lib.rt:1674:13
 returns-6 : tie.Need-returns-6
 unfolding operatorOf ofByte
 returns-6 c =
     path-arm _ _ _ _ _ _ _ _ _ _ _ _ op.vlineto (c .before .before .before .before .before .before .match .keys6) refl _ _ (c .kept4 .ensures) (c .before .before .before .vlineto .ensures .0) (c .before .before .before .vlineto .ensures .1)
 
--- src/lib.rt:1677:13
 rrcurveto-requires : tie.Need-rrcurveto-requires
 rrcurveto-requires c κs =
     (c .before .before .before .before .pre .0, (c .before .before .before .before .pre .1 .0, (c .before .before .before .before .pre .1 .1 .x, c .before .before .before .before .pre .1 .1 .y)))
@@ -138,61 +121,49 @@ rrcurveto-requires c κs =
 kept-requires-5 : tie.Need-kept-requires-5
 kept-requires-5 c κs = search needs
 
--- src/lib.rt:1677:13
 same-length-5 : tie.Need-same-length-5
 same-length-5 c = search needs
 
--- src/lib.rt:1677:13
 returns-7 : tie.Need-returns-7
 unfolding operatorOf ofByte
 returns-7 c =
     path-arm _ _ _ _ _ _ _ _ _ _ _ _ op.rrcurveto (c .before .before .before .before .before .before .match .keys7) refl _ _ (c .kept5 .ensures) (c .before .before .before .rrcurveto .ensures .0) (c .before .before .before .rrcurveto .ensures .1)
 
--- src/lib.rt:1680:13
 closepath-requires : tie.Need-closepath-requires
 closepath-requires c κs = search needs
 
--- src/lib.rt:1680:13
 returns-8 : tie.Need-returns-8
 unfolding operatorOf ofByte operate
 returns-8 c =
     state-arm _ _ _ _ _ _ _ _ _ _ _ _ op.closepath (c .before .match .keys8) refl (λ s. going (withOpen false (cleared s))) (closedRan (c .before .before .before .args .st) .st) 0 (c .closepath .ensures) refl (λ s lim. refl) (closes (c .before .before .before .args .st))
 
--- src/lib.rt:1683:13
 made-requires : tie.Need-made-requires
 made-requires c κs = search needs
 
--- src/lib.rt:1683:13
 returns-9 : tie.Need-returns-9
 unfolding operatorOf ofByte operate
 returns-9 c =
     state-arm _ _ _ _ _ _ _ _ _ _ _ _ op.return (c .before .match .keys9) refl returning (c .before .before .before .args .st) 1 (c .made .ensures) refl (λ s lim. refl) (λ m s H. (refl, H))
 
--- src/lib.rt:1686:13
 hsbw-requires : tie.Need-hsbw-requires
 hsbw-requires c κs = search needs
 
--- src/lib.rt:1686:13
 returns-10 : tie.Need-returns-10
 unfolding operatorOf ofByte
 returns-10 c =
     bearing-arm _ _ _ _ _ _ _ _ _ _ _ _ op.hsbw (c .before .before .before .match .keys10) refl _ (c .hsbw .ensures .0) (c .hsbw .ensures .1)
 
--- src/lib.rt:1689:25
 cleared-requires : tie.Need-cleared-requires
 cleared-requires c κs = search needs
 
--- src/lib.rt:1689:13
 made-requires-2 : tie.Need-made-requires-2
 made-requires-2 c κs = search needs
 
--- src/lib.rt:1689:13
 returns-11 : tie.Need-returns-11
 unfolding operatorOf ofByte operate
 returns-11 c =
     state-arm _ _ _ _ _ _ _ _ _ _ _ _ op.endchar (c .before .before .match .keys11) refl (λ s. ending (cleared s)) (withCount 0 (c .before .before .before .before .args .st)) 2 (c .made2 .ensures ∙ ap (λ (u : St). ranOf u 2) (c .before .cleared .ensures)) refl (λ s lim. refl) (λ m s H. (refl, cleared-holds _ m s H))
 
--- src/lib.rt:1692:13
 rmoveto-requires : tie.Need-rmoveto-requires
 rmoveto-requires c κs =
     (c .before .before .before .before .pre .0, (c .before .before .before .before .pre .1 .0, (c .before .before .before .before .pre .1 .1 .x, c .before .before .before .before .pre .1 .1 .y)))
@@ -200,17 +171,14 @@ rmoveto-requires c κs =
 kept-requires-6 : tie.Need-kept-requires-6
 kept-requires-6 c κs = search needs
 
--- src/lib.rt:1692:13
 same-length-6 : tie.Need-same-length-6
 same-length-6 c = search needs
 
--- src/lib.rt:1692:13
 returns-12 : tie.Need-returns-12
 unfolding operatorOf ofByte
 returns-12 c =
     path-arm _ _ _ _ _ _ _ _ _ _ _ _ op.rmoveto (c .before .before .before .before .before .before .match .keys12) refl _ _ (c .kept6 .ensures) (c .before .before .before .rmoveto .ensures .0) (c .before .before .before .rmoveto .ensures .1)
 
--- src/lib.rt:1695:13
 hmoveto-requires : tie.Need-hmoveto-requires
 hmoveto-requires c κs =
     (c .before .before .before .before .pre .0, (c .before .before .before .before .pre .1 .0, (c .before .before .before .before .pre .1 .1 .x, c .before .before .before .before .pre .1 .1 .y)))
@@ -218,17 +186,14 @@ hmoveto-requires c κs =
 kept-requires-7 : tie.Need-kept-requires-7
 kept-requires-7 c κs = search needs
 
--- src/lib.rt:1695:13
 same-length-7 : tie.Need-same-length-7
 same-length-7 c = search needs
 
--- src/lib.rt:1695:13
 returns-13 : tie.Need-returns-13
 unfolding operatorOf ofByte
 returns-13 c =
     path-arm _ _ _ _ _ _ _ _ _ _ _ _ op.hmoveto (c .before .before .before .before .before .before .match .keys13) refl _ _ (c .kept7 .ensures) (c .before .before .before .hmoveto .ensures .0) (c .before .before .before .hmoveto .ensures .1)
 
--- src/lib.rt:1698:13
 vhcurveto-requires : tie.Need-vhcurveto-requires
 vhcurveto-requires c κs =
     (c .before .before .before .before .pre .0, (c .before .before .before .before .pre .1 .0, (c .before .before .before .before .pre .1 .1 .x, c .before .before .before .before .pre .1 .1 .y)))
@@ -236,17 +201,14 @@ vhcurveto-requires c κs =
 kept-requires-8 : tie.Need-kept-requires-8
 kept-requires-8 c κs = search needs
 
--- src/lib.rt:1698:13
 same-length-8 : tie.Need-same-length-8
 same-length-8 c = search needs
 
--- src/lib.rt:1698:13
 returns-14 : tie.Need-returns-14
 unfolding operatorOf ofByte
 returns-14 c =
     path-arm _ _ _ _ _ _ _ _ _ _ _ _ op.vhcurveto (c .before .before .before .before .before .before .match .keys14) refl _ _ (c .kept8 .ensures) (c .before .before .before .vhcurveto .ensures .0) (c .before .before .before .vhcurveto .ensures .1)
 
--- src/lib.rt:1701:13
 hvcurveto-requires : tie.Need-hvcurveto-requires
 hvcurveto-requires c κs =
     (c .before .before .before .before .pre .0, (c .before .before .before .before .pre .1 .0, (c .before .before .before .before .pre .1 .1 .x, c .before .before .before .before .pre .1 .1 .y)))
@@ -254,122 +216,99 @@ hvcurveto-requires c κs =
 kept-requires-9 : tie.Need-kept-requires-9
 kept-requires-9 c κs = search needs
 
--- src/lib.rt:1701:13
 same-length-9 : tie.Need-same-length-9
 same-length-9 c = search needs
 
--- src/lib.rt:1701:13
 returns-15 : tie.Need-returns-15
 unfolding operatorOf ofByte
 returns-15 c =
     path-arm _ _ _ _ _ _ _ _ _ _ _ _ op.hvcurveto (c .before .before .before .before .before .before .match .keys15) refl _ _ (c .kept9 .ensures) (c .before .before .before .hvcurveto .ensures .0) (c .before .before .before .hvcurveto .ensures .1)
 
--- src/lib.rt:1704:25
 cleared-requires-2 : tie.Need-cleared-requires-2
 cleared-requires-2 c κs = search needs
 
--- src/lib.rt:1704:13
 made-requires-3 : tie.Need-made-requires-3
 made-requires-3 c κs = search needs
 
--- src/lib.rt:1704:13
 returns-16 : tie.Need-returns-16
 unfolding operatorOf ofEscape operate
 returns-16 c =
     state-arm _ _ _ _ _ _ _ _ _ _ _ _ op.dotsection (c .before .before .match .keys16) refl (λ s. going (cleared s)) (withCount 0 (c .before .before .before .before .args .st)) 0 (c .made3 .ensures ∙ ap (λ (u : St). ranOf u 0) (c .before .cleared2 .ensures)) refl (λ s lim. refl) (λ m s H. (refl, cleared-holds _ m s H))
 
--- src/lib.rt:1707:34
 element-copy-out-stems3 : tie.Need-element-copy-out-stems3
 element-copy-out-stems3 c = search needs
 
--- src/lib.rt:1707:13
 stems3-requires : tie.Need-stems3-requires
 stems3-requires c κs = search needs
 
 kept-requires-10 : tie.Need-kept-requires-10
 kept-requires-10 c κs = search needs
 
--- src/lib.rt:1707:13
 returns-17 : tie.Need-returns-17
 unfolding operatorOf ofEscape operate
 returns-17 c =
     stems3-arm _ _ _ _ _ _ _ _ _ _ _ _ op.vstem3 (c .before .before .before .before .before .before .match .keys17) refl false _ _ _ _ (c .kept10 .ensures) (λ s lim b. ap (λ (p : Point). stems3 lim false (p .x) s) b) (c .before .stems3 .ensures .0) (c .before .stems3 .ensures .1)
 
--- src/lib.rt:1710:33
 element-copy-out-stems3-2 : tie.Need-element-copy-out-stems3-2
 element-copy-out-stems3-2 c = search needs
 
--- src/lib.rt:1710:13
 stems3-requires-2 : tie.Need-stems3-requires-2
 stems3-requires-2 c κs = search needs
 
 kept-requires-11 : tie.Need-kept-requires-11
 kept-requires-11 c κs = search needs
 
--- src/lib.rt:1710:13
 returns-18 : tie.Need-returns-18
 unfolding operatorOf ofEscape operate
 returns-18 c =
     stems3-arm _ _ _ _ _ _ _ _ _ _ _ _ op.hstem3 (c .before .before .before .before .before .before .match .keys18) refl true _ _ _ _ (c .kept11 .ensures) (λ s lim b. ap (λ (p : Point). stems3 lim true (p .y) s) b) (c .before .stems32 .ensures .0) (c .before .stems32 .ensures .1)
 
--- src/lib.rt:1713:13
 made-requires-4 : tie.Need-made-requires-4
 made-requires-4 c κs = search needs
 
--- src/lib.rt:1713:13
 returns-19 : tie.Need-returns-19
 unfolding operatorOf ofEscape operate
 returns-19 c =
     state-arm _ _ _ _ _ _ _ _ _ _ _ _ op.seac (c .before .match .keys19) refl (λ s. refused 12) (c .before .before .before .args .st) 12 (c .made4 .ensures) refl (λ s lim. refl) (λ m s H. (refl, lit≤ tt))
 
--- src/lib.rt:1716:13
 sbw-requires : tie.Need-sbw-requires
 sbw-requires c κs = search needs
 
--- src/lib.rt:1716:13
 returns-20 : tie.Need-returns-20
 unfolding operatorOf ofEscape
 returns-20 c =
     bearing-arm _ _ _ _ _ _ _ _ _ _ _ _ op.sbw (c .before .before .before .match .keys20) refl _ (c .sbw .ensures .0) (c .sbw .ensures .1)
 
--- src/lib.rt:1719:13
 div-requires : tie.Need-div-requires
 div-requires c κs = search needs
 
--- src/lib.rt:1719:13
 returns-21 : tie.Need-returns-21
 unfolding operatorOf ofEscape operate
 returns-21 c =
     div-arm _ _ _ _ _ _ _ _ _ _ _ _ op.div (c .before .before .match .keys21) refl _ (λ s lim. refl) (c .div .ensures .0) (c .div .ensures .1)
 
--- src/lib.rt:1722:13
 callothersubr-requires : tie.Need-callothersubr-requires
 callothersubr-requires c κs = search needs
 
 kept-requires-12 : tie.Need-kept-requires-12
 kept-requires-12 c κs = search needs
 
--- src/lib.rt:1722:13
 same-length-10 : tie.Need-same-length-10
 same-length-10 c = search needs
 
--- src/lib.rt:1722:13
 returns-22 : tie.Need-returns-22
 unfolding operatorOf ofEscape operate
 returns-22 c =
     other-arm _ _ _ _ _ _ _ _ _ _ _ _ op.callothersubr (c .before .before .before .before .before .before .before .before .match .keys22) refl _ _ _ _ (c .kept12 .ensures) (λ s lim. refl) (c .before .before .before .callothersubr .ensures .0) (c .before .before .before .callothersubr .ensures .1)
 
--- src/lib.rt:1725:13
 pop-requires : tie.Need-pop-requires
 pop-requires c κs = search needs
 
--- src/lib.rt:1725:13
 returns-23 : tie.Need-returns-23
 unfolding operatorOf ofEscape operate
 returns-23 c =
     pop-arm _ _ _ _ _ _ _ _ _ _ _ _ op.pop (c .before .before .before .match .keys23) refl _ (λ s lim. refl) (c .pop .ensures .0) (c .pop .ensures .1)
 
--- src/lib.rt:1728:13
 setcurrentpoint-requires : tie.Need-setcurrentpoint-requires
 setcurrentpoint-requires c κs =
     (c .before .before .before .before .pre .0, (c .before .before .before .before .pre .1 .0, ((c .before .before .before .before .pre .1 .1 .x, c .before .before .before .before .pre .1 .1 .y), c .before .before .before .before .pre .1 .1 .operands)))
@@ -377,21 +316,17 @@ setcurrentpoint-requires c κs =
 kept-requires-13 : tie.Need-kept-requires-13
 kept-requires-13 c κs = search needs
 
--- src/lib.rt:1728:13
 same-length-11 : tie.Need-same-length-11
 same-length-11 c = search needs
 
--- src/lib.rt:1728:13
 returns-24 : tie.Need-returns-24
 unfolding operatorOf ofEscape
 returns-24 c =
     path-arm _ _ _ _ _ _ _ _ _ _ _ _ op.setcurrentpoint (c .before .before .before .before .before .before .match .keys24) refl _ _ (c .kept13 .ensures) (c .before .before .before .setcurrentpoint .ensures .0) (c .before .before .before .setcurrentpoint .ensures .1)
 
--- src/lib.rt:1731:13
 made-requires-5 : tie.Need-made-requires-5
 made-requires-5 c κs = search needs
 
--- src/lib.rt:1731:13
 returns-25 : tie.Need-returns-25
 returns-25 c =
     rest-arm _ _ _ _ _ _ _ _ _ _ _ (c .made5 .ensures) (c .before .match .rest)

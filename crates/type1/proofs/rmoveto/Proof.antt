@@ -11,49 +11,38 @@ use Rattle.type1.proofs.cleared.Reads as cleared-reads
 use Rattle.type1.proofs.made.Reads as made-reads
 use Rattle.type1.proofs.move_by.Reads as move-by-reads
 
--- src/lib.rt:1060:9
 made-requires : tie.Need-made-requires
 made-requires c κs = search needs
 
--- src/lib.rt:1060:9
 returns : tie.Need-returns
 returns c =
     (short-rmoveto _ _ _ _ _ _ (c .made .ensures) (c .before .if1 .taken), space-same (c .before .before .before .args .st) _ 7 _ (c .made .ensures))
 
--- src/lib.rt:1063:9
 mul-move-by : tie.Need-mul-move-by
 mul-move-by c = search needs
 
--- src/lib.rt:1063:9
 element-copy-out-move-by : tie.Need-element-copy-out-move-by
 element-copy-out-move-by c = search needs
 
--- src/lib.rt:1064:13
 sub-move-by : tie.Need-sub-move-by
 sub-move-by c = search needs
 
--- src/lib.rt:1064:9
 mul-move-by-2 : tie.Need-mul-move-by-2
 mul-move-by-2 c = search needs
 
--- src/lib.rt:1064:9
 element-copy-out-move-by-2 : tie.Need-element-copy-out-move-by-2
 element-copy-out-move-by-2 c = search needs
 
--- src/lib.rt:1067:9
 cleared-requires : tie.Need-cleared-requires
 cleared-requires c κs = search needs
 
--- src/lib.rt:1062:5
 move-by-requires : tie.Need-move-by-requires
 move-by-requires c κs =
     (clear-bounds _ _ _ _ (c .before .cleared .ensures) (c .before .before .before .before .before .before .pre .0) (c .before .before .before .before .before .before .pre .1 .0) .0, clear-bounds _ _ _ _ (c .before .cleared .ensures) (c .before .before .before .before .before .before .pre .0) (c .before .before .before .before .before .before .pre .1 .0) .1)
 
--- src/lib.rt:1044:1
 same-length : tie.Need-same-length
 same-length c = search needs
 
--- src/lib.rt:1044:1
 returns-2 : tie.Need-returns-2
 returns-2 c =
     (does-rmoveto _ (c .before .before .before .before .before .before .before .before .before .args .st) _ _ _ _ _ _ (c .before .before .before .before .cleared .ensures) (c .before .before .before .before .before .before .before .if1 .left) (c .before .before .move-by .ensures .0), clear-space (c .before .before .before .before .before .before .before .before .before .args .st) _ (c .before .before .move-by .result) _ (c .before .before .before .before .cleared .ensures) (c .before .before .move-by .ensures .1))

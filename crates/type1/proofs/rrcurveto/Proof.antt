@@ -11,97 +11,74 @@ use Rattle.type1.proofs.cleared.Reads as cleared-reads
 use Rattle.type1.proofs.curve_by.Reads as curve-by-reads
 use Rattle.type1.proofs.made.Reads as made-reads
 
--- src/lib.rt:1184:9
 made-requires : tie.Need-made-requires
 made-requires c κs = search needs
 
--- src/lib.rt:1184:9
 returns : tie.Need-returns
 returns c =
     (short-rrcurveto _ _ _ _ _ _ (c .made .ensures) (c .before .if1 .taken), space-same (c .before .before .before .args .st) _ 7 _ (c .made .ensures))
 
--- src/lib.rt:1187:9
 mul-curve-by : tie.Need-mul-curve-by
 mul-curve-by c = search needs
 
--- src/lib.rt:1187:9
 element-copy-out-curve-by : tie.Need-element-copy-out-curve-by
 element-copy-out-curve-by c = search needs
 
--- src/lib.rt:1188:13
 sub-curve-by : tie.Need-sub-curve-by
 sub-curve-by c = search needs
 
--- src/lib.rt:1188:9
 mul-curve-by-2 : tie.Need-mul-curve-by-2
 mul-curve-by-2 c = search needs
 
--- src/lib.rt:1188:9
 element-copy-out-curve-by-2 : tie.Need-element-copy-out-curve-by-2
 element-copy-out-curve-by-2 c = search needs
 
--- src/lib.rt:1189:13
 sub-curve-by-2 : tie.Need-sub-curve-by-2
 sub-curve-by-2 c = search needs
 
--- src/lib.rt:1189:9
 mul-curve-by-3 : tie.Need-mul-curve-by-3
 mul-curve-by-3 c = search needs
 
--- src/lib.rt:1189:9
 element-copy-out-curve-by-3 : tie.Need-element-copy-out-curve-by-3
 element-copy-out-curve-by-3 c = search needs
 
--- src/lib.rt:1190:13
 sub-curve-by-3 : tie.Need-sub-curve-by-3
 sub-curve-by-3 c = search needs
 
--- src/lib.rt:1190:9
 mul-curve-by-4 : tie.Need-mul-curve-by-4
 mul-curve-by-4 c = search needs
 
--- src/lib.rt:1190:9
 element-copy-out-curve-by-4 : tie.Need-element-copy-out-curve-by-4
 element-copy-out-curve-by-4 c = search needs
 
--- src/lib.rt:1191:13
 sub-curve-by-4 : tie.Need-sub-curve-by-4
 sub-curve-by-4 c = search needs
 
--- src/lib.rt:1191:9
 mul-curve-by-5 : tie.Need-mul-curve-by-5
 mul-curve-by-5 c = search needs
 
--- src/lib.rt:1191:9
 element-copy-out-curve-by-5 : tie.Need-element-copy-out-curve-by-5
 element-copy-out-curve-by-5 c = search needs
 
--- src/lib.rt:1192:13
 sub-curve-by-5 : tie.Need-sub-curve-by-5
 sub-curve-by-5 c = search needs
 
--- src/lib.rt:1192:9
 mul-curve-by-6 : tie.Need-mul-curve-by-6
 mul-curve-by-6 c = search needs
 
--- src/lib.rt:1192:9
 element-copy-out-curve-by-6 : tie.Need-element-copy-out-curve-by-6
 element-copy-out-curve-by-6 c = search needs
 
--- src/lib.rt:1195:9
 cleared-requires : tie.Need-cleared-requires
 cleared-requires c κs = search needs
 
--- src/lib.rt:1186:5
 curve-by-requires : tie.Need-curve-by-requires
 curve-by-requires c κs =
     (clear-bounds _ _ _ _ (c .before .cleared .ensures) (c .before .before .before .before .before .before .before .before .before .before .pre .0) (c .before .before .before .before .before .before .before .before .before .before .pre .1 .0) .0, (clear-bounds _ _ _ _ (c .before .cleared .ensures) (c .before .before .before .before .before .before .before .before .before .before .pre .0) (c .before .before .before .before .before .before .before .before .before .before .pre .1 .0) .1, clear-finite (c .before .before .before .before .before .before .before .before .before .before .args .st) _ (c .before .cleared .ensures) (c .before .before .before .before .before .before .before .before .before .before .pre .1 .1)))
 
--- src/lib.rt:1168:1
 same-length : tie.Need-same-length
 same-length c = search needs
 
--- src/lib.rt:1168:1
 returns-2 : tie.Need-returns-2
 returns-2 c =
     (does-rrcurveto _ (c .before .before .before .before .before .before .before .before .before .before .before .before .before .args .st) _ _ _ _ _ _ (c .before .before .before .before .cleared .ensures) (c .before .before .before .before .before .before .before .before .before .before .before .if1 .left) (c .before .before .curve-by .ensures .0), clear-space (c .before .before .before .before .before .before .before .before .before .before .before .before .before .args .st) _ (c .before .before .curve-by .result) _ (c .before .before .before .before .cleared .ensures) (c .before .before .curve-by .ensures .1))

@@ -14,42 +14,33 @@ use Rattle.type1.proofs.at_point.Reads as at-point-reads
 use Rattle.type1.proofs.list_point.Reads as list-point-reads
 use Rattle.type1.proofs.made.Reads as made-reads
 
--- src/lib.rt:1009:13
 made-requires : tie.Need-made-requires
 made-requires c κs = search needs
 
--- src/lib.rt:1009:13
 returns : tie.Need-returns
 returns c =
     (sets-same _ _ _ _ _ _ _ (c .made .ensures) (both-true _ _ (c .before .before .before .if1 .taken) (c .before .if2 .taken)), space-same (c .before .before .before .before .before .before .args .st) _ 0 _ (c .made .ensures))
 
--- src/lib.rt:1012:9
 at-point-requires : tie.Need-at-point-requires
 at-point-requires c κs = search needs
 
--- src/lib.rt:1013:8
 is-move-requires : tie.Need-is-move-requires
 is-move-requires c κs = search needs
 
--- src/lib.rt:1014:9
 list-point-requires : tie.Need-list-point-requires
 list-point-requires c κs =
     (moved-bounds _ _ _ _ _ _ (c .before .before .before .at-point .ensures) (c .before .before .before .before .before .before .before .pre .0) (c .before .before .before .before .before .before .before .pre .1 .0) .0, (moved-bounds _ _ _ _ _ _ (c .before .before .before .at-point .ensures) (c .before .before .before .before .before .before .before .pre .0) (c .before .before .before .before .before .before .before .pre .1 .0) .1, ((lit< tt, lit< tt), c .before .before .before .before .before .before .before .pre .1 .1)))
 
--- src/lib.rt:1014:9
 same-length : tie.Need-same-length
 same-length c = search needs
 
--- src/lib.rt:1014:9
 returns-2 : tie.Need-returns-2
 returns-2 c =
     (sets-listed (c .before .before .before .before .before .before .before .before .before .before .args .st) _ _ _ _ _ _ _ _ (c .before .before .before .before .before .before .at-point .ensures) (both-false _ _ (⊎-elim (λ w. inl (w .0 .taken, w .2 .left)) (λ w. inr (w .left)) (c .before .before .before .before .before .before .before .if1 .came))) (sym (ap (λ u. isMove (u .opened) (u .flexing)) (c .before .before .before .before .before .before .at-point .ensures)) ∙ sym (c .before .before .before .before .before .is-move .ensures) ∙ c .before .before .before .before .if3 .taken) (c .before .before .list-point .ensures .0), space-of (c .before .before .before .before .before .before .before .before .before .before .args .st) _ _ (moved-path (c .before .before .before .before .before .before .before .before .before .before .args .st) _ _ _ _ _ (c .before .before .before .before .before .before .at-point .ensures) (c .before .before .list-point .ensures .1 .0)))
 
--- src/lib.rt:1016:5
 made-requires-2 : tie.Need-made-requires-2
 made-requires-2 c κs = search needs
 
--- src/lib.rt:992:1
 returns-3 : tie.Need-returns-3
 returns-3 c =
     (sets-silent (c .before .before .before .before .before .before .before .args .st) _ _ _ _ _ _ (c .made2 .ensures ∙ ap (λ u. record { st = u; flow = 0 }) (c .before .before .before .at-point .ensures)) (both-false _ _ (⊎-elim (λ w. inl (w .0 .taken, w .2 .left)) (λ w. inr (w .left)) (c .before .before .before .before .if1 .came))) (sym (ap (λ u. isMove (u .opened) (u .flexing)) (c .before .before .before .at-point .ensures)) ∙ sym (c .before .before .is-move .ensures) ∙ c .before .if3 .left), space-moved (c .before .before .before .before .before .before .before .args .st) _ _ _ _ 0 _ (c .made2 .ensures) (c .before .before .before .at-point .ensures))

@@ -11,49 +11,38 @@ use Rattle.type1.proofs.cleared.Reads as cleared-reads
 use Rattle.type1.proofs.made.Reads as made-reads
 use Rattle.type1.proofs.set_point.Reads as set-point-reads
 
--- src/lib.rt:1284:9
 made-requires : tie.Need-made-requires
 made-requires c κs = search needs
 
--- src/lib.rt:1284:9
 returns : tie.Need-returns
 returns c =
     (short-setcurrentpoint _ _ _ _ _ _ (c .made .ensures) (c .before .if1 .taken), space-same (c .before .before .before .args .st) _ 7 _ (c .made .ensures))
 
--- src/lib.rt:1287:9
 mul-set-point : tie.Need-mul-set-point
 mul-set-point c = search needs
 
--- src/lib.rt:1287:9
 element-copy-out-set-point : tie.Need-element-copy-out-set-point
 element-copy-out-set-point c = search needs
 
--- src/lib.rt:1288:13
 sub-set-point : tie.Need-sub-set-point
 sub-set-point c = search needs
 
--- src/lib.rt:1288:9
 mul-set-point-2 : tie.Need-mul-set-point-2
 mul-set-point-2 c = search needs
 
--- src/lib.rt:1288:9
 element-copy-out-set-point-2 : tie.Need-element-copy-out-set-point-2
 element-copy-out-set-point-2 c = search needs
 
--- src/lib.rt:1291:9
 cleared-requires : tie.Need-cleared-requires
 cleared-requires c κs = search needs
 
--- src/lib.rt:1286:5
 set-point-requires : tie.Need-set-point-requires
 set-point-requires c κs =
     (clear-bounds _ _ _ _ (c .before .cleared .ensures) (c .before .before .before .before .before .before .pre .0) (c .before .before .before .before .before .before .pre .1 .0) .0, (clear-bounds _ _ _ _ (c .before .cleared .ensures) (c .before .before .before .before .before .before .pre .0) (c .before .before .before .before .before .before .pre .1 .0) .1, (c .before .before .before .before .before .before .pre .1 .1 .1 _ (omega arith), c .before .before .before .before .before .before .pre .1 .1 .1 _ (omega arith))))
 
--- src/lib.rt:1267:1
 same-length : tie.Need-same-length
 same-length c = search needs
 
--- src/lib.rt:1267:1
 returns-2 : tie.Need-returns-2
 returns-2 c =
     (does-setcurrentpoint _ (c .before .before .before .before .before .before .before .before .before .args .st) _ _ _ _ _ _ (c .before .before .before .before .cleared .ensures) (c .before .before .before .before .before .before .before .if1 .left) (c .before .before .set-point .ensures .0), clear-space (c .before .before .before .before .before .before .before .before .before .args .st) _ (c .before .before .set-point .result) _ (c .before .before .before .before .cleared .ensures) (c .before .before .set-point .ensures .1))

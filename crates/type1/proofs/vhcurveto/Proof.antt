@@ -11,73 +11,56 @@ use Rattle.type1.proofs.cleared.Reads as cleared-reads
 use Rattle.type1.proofs.curve_by.Reads as curve-by-reads
 use Rattle.type1.proofs.made.Reads as made-reads
 
--- src/lib.rt:1217:9
 made-requires : tie.Need-made-requires
 made-requires c κs = search needs
 
--- src/lib.rt:1217:9
 returns : tie.Need-returns
 returns c =
     (short-vhcurveto _ _ _ _ _ _ (c .made .ensures) (c .before .if1 .taken), space-same (c .before .before .before .args .st) _ 7 _ (c .made .ensures))
 
--- src/lib.rt:1221:9
 mul-curve-by : tie.Need-mul-curve-by
 mul-curve-by c = search needs
 
--- src/lib.rt:1221:9
 element-copy-out-curve-by : tie.Need-element-copy-out-curve-by
 element-copy-out-curve-by c = search needs
 
--- src/lib.rt:1222:13
 sub-curve-by : tie.Need-sub-curve-by
 sub-curve-by c = search needs
 
--- src/lib.rt:1222:9
 mul-curve-by-2 : tie.Need-mul-curve-by-2
 mul-curve-by-2 c = search needs
 
--- src/lib.rt:1222:9
 element-copy-out-curve-by-2 : tie.Need-element-copy-out-curve-by-2
 element-copy-out-curve-by-2 c = search needs
 
--- src/lib.rt:1223:13
 sub-curve-by-2 : tie.Need-sub-curve-by-2
 sub-curve-by-2 c = search needs
 
--- src/lib.rt:1223:9
 mul-curve-by-3 : tie.Need-mul-curve-by-3
 mul-curve-by-3 c = search needs
 
--- src/lib.rt:1223:9
 element-copy-out-curve-by-3 : tie.Need-element-copy-out-curve-by-3
 element-copy-out-curve-by-3 c = search needs
 
--- src/lib.rt:1224:13
 sub-curve-by-3 : tie.Need-sub-curve-by-3
 sub-curve-by-3 c = search needs
 
--- src/lib.rt:1224:9
 mul-curve-by-4 : tie.Need-mul-curve-by-4
 mul-curve-by-4 c = search needs
 
--- src/lib.rt:1224:9
 element-copy-out-curve-by-4 : tie.Need-element-copy-out-curve-by-4
 element-copy-out-curve-by-4 c = search needs
 
--- src/lib.rt:1228:9
 cleared-requires : tie.Need-cleared-requires
 cleared-requires c κs = search needs
 
--- src/lib.rt:1219:5
 curve-by-requires : tie.Need-curve-by-requires
 curve-by-requires c κs =
     (clear-bounds _ _ _ _ (c .before .cleared .ensures) (c .before .before .before .before .before .before .before .before .pre .0) (c .before .before .before .before .before .before .before .before .pre .1 .0) .0, (clear-bounds _ _ _ _ (c .before .cleared .ensures) (c .before .before .before .before .before .before .before .before .pre .0) (c .before .before .before .before .before .before .before .before .pre .1 .0) .1, clear-finite (c .before .before .before .before .before .before .before .before .args .st) _ (c .before .cleared .ensures) (c .before .before .before .before .before .before .before .before .pre .1 .1)))
 
--- src/lib.rt:1201:1
 same-length : tie.Need-same-length
 same-length c = search needs
 
--- src/lib.rt:1201:1
 returns-2 : tie.Need-returns-2
 unfolding ofBits
 returns-2 c =

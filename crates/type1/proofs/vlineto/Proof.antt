@@ -11,37 +11,29 @@ use Rattle.type1.proofs.cleared.Reads as cleared-reads
 use Rattle.type1.proofs.line_by.Reads as line-by-reads
 use Rattle.type1.proofs.made.Reads as made-reads
 
--- src/lib.rt:1162:9
 made-requires : tie.Need-made-requires
 made-requires c κs = search needs
 
--- src/lib.rt:1162:9
 returns : tie.Need-returns
 returns c =
     (short-vlineto _ _ _ _ _ _ (c .made .ensures) (c .before .if1 .taken), space-same (c .before .before .before .args .st) _ 7 _ (c .made .ensures))
 
--- src/lib.rt:1164:18
 mul-line-by : tie.Need-mul-line-by
 mul-line-by c = search needs
 
--- src/lib.rt:1164:18
 element-copy-out-line-by : tie.Need-element-copy-out-line-by
 element-copy-out-line-by c = search needs
 
--- src/lib.rt:1164:42
 cleared-requires : tie.Need-cleared-requires
 cleared-requires c κs = search needs
 
--- src/lib.rt:1164:5
 line-by-requires : tie.Need-line-by-requires
 line-by-requires c κs =
     (clear-bounds _ _ _ _ (c .before .cleared .ensures) (c .before .before .before .before .before .pre .0) (c .before .before .before .before .before .pre .1 .0) .0, (clear-bounds _ _ _ _ (c .before .cleared .ensures) (c .before .before .before .before .before .pre .0) (c .before .before .before .before .before .pre .1 .0) .1, clear-finite (c .before .before .before .before .before .args .st) _ (c .before .cleared .ensures) (c .before .before .before .before .before .pre .1 .1)))
 
--- src/lib.rt:1146:1
 same-length : tie.Need-same-length
 same-length c = search needs
 
--- src/lib.rt:1146:1
 returns-2 : tie.Need-returns-2
 unfolding ofBits
 returns-2 c =

@@ -11,37 +11,29 @@ use Rattle.type1.proofs.cleared.Reads as cleared-reads
 use Rattle.type1.proofs.made.Reads as made-reads
 use Rattle.type1.proofs.move_by.Reads as move-by-reads
 
--- src/lib.rt:1038:9
 made-requires : tie.Need-made-requires
 made-requires c κs = search needs
 
--- src/lib.rt:1038:9
 returns : tie.Need-returns
 returns c =
     (short-vmoveto _ _ _ _ _ _ (c .made .ensures) (c .before .if1 .taken), space-same (c .before .before .before .args .st) _ 7 _ (c .made .ensures))
 
--- src/lib.rt:1040:18
 mul-move-by : tie.Need-mul-move-by
 mul-move-by c = search needs
 
--- src/lib.rt:1040:18
 element-copy-out-move-by : tie.Need-element-copy-out-move-by
 element-copy-out-move-by c = search needs
 
--- src/lib.rt:1040:42
 cleared-requires : tie.Need-cleared-requires
 cleared-requires c κs = search needs
 
--- src/lib.rt:1040:5
 move-by-requires : tie.Need-move-by-requires
 move-by-requires c κs =
     (clear-bounds _ _ _ _ (c .before .cleared .ensures) (c .before .before .before .before .before .pre .0) (c .before .before .before .before .before .pre .1 .0) .0, clear-bounds _ _ _ _ (c .before .cleared .ensures) (c .before .before .before .before .before .pre .0) (c .before .before .before .before .before .pre .1 .0) .1)
 
--- src/lib.rt:1022:1
 same-length : tie.Need-same-length
 same-length c = search needs
 
--- src/lib.rt:1022:1
 returns-2 : tie.Need-returns-2
 unfolding ofBits
 returns-2 c =
