@@ -613,6 +613,29 @@ fn stopped(st: St, flow: u8) -> Ran
     }
 }
 
+// The same state, field by field: `stems3`, which LLVM does not inline, gets the copy, and the state stays in registers.
+fn copied(t: St) -> St
+    ensures { λ r. ⌜ r ≡ t ⌝ }
+{
+    St {
+        operands: t.operands,
+        postscript: t.postscript,
+        x: t.x,
+        y: t.y,
+        points: t.points,
+        hints: t.hints,
+        last: t.last,
+        groups: t.groups,
+        stems: t.stems,
+        entries: t.entries,
+        ran: t.ran,
+        opened: t.opened,
+        flexing: t.flexing,
+        changed: t.changed,
+        divided: t.divided,
+    }
+}
+
 // The state with no operands.
 fn cleared(st: St) -> St
     ensures { λ r. ⌜ r ≡ withCount 0 st ⌝ }
@@ -1608,10 +1631,10 @@ fn plain(
             return made(cleared(st), 0);
         }
         257 => {
-            return kept(stems3(false, cells[BEARING_X], st, ops, edges, across));
+            return kept(stems3(false, cells[BEARING_X], copied(st), ops, edges, across));
         }
         258 => {
-            return kept(stems3(true, cells[BEARING_Y], st, ops, edges, across));
+            return kept(stems3(true, cells[BEARING_Y], copied(st), ops, edges, across));
         }
         262 => {
             return made(st, 12);

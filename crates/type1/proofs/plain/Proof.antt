@@ -1,3 +1,5 @@
+use Prim.Native.Nat.{_≤_}
+use Rattle.type1.proofs.Steps.{three-copied}
 use Rattle.type1.proofs.Dispatch.{path-arm, stem-arm, bearing-arm, stems3-arm, div-arm, pop-arm, other-arm, state-arm, rest-arm, closes}
 use Rattle.type1.proofs.Stacks.{cleared-holds}
 use Rattle.geometry.specs.declared.Point.{Point}
@@ -11,7 +13,7 @@ use Rattle.type1.specs.Reading.{withCount}
 use Rattle.type1.specs.Small.{ranOf, closedRan}
 use lib.Dec.{lit≤}
 use mathlib.Core.Bool.{true, false}
-use mathlib.Core.Path.{refl, ap, _∙_}
+use mathlib.Core.Path.{refl, sym, ap, _∙_, subst}
 use borrow.Author.Needs.{needs}
 use Rattle.type1.proofs.plain.Statement.{statement}
 use Rattle.type1.proofs.plain.Tie as tie
@@ -238,8 +240,12 @@ returns-16 c =
 element-copy-out-stems3 : tie.Need-element-copy-out-stems3
 element-copy-out-stems3 c = search needs
 
+copied-requires : tie.Need-copied-requires
+copied-requires c κs = search needs
+
 stems3-requires : tie.Need-stems3-requires
-stems3-requires c κs = search needs
+stems3-requires c κs =
+    subst (λ (t : St). (t .operands ≤ 256) × (t .hints ≤ 256)) (sym (c .before .before .before .copied .ensures)) (c .before .before .before .before .before .before .before .pre .0 .operands, c .before .before .before .before .before .before .before .pre .0 .hints)
 
 kept-requires-10 : tie.Need-kept-requires-10
 kept-requires-10 c κs = search needs
@@ -247,13 +253,18 @@ kept-requires-10 c κs = search needs
 returns-17 : tie.Need-returns-17
 unfolding operatorOf ofEscape operate
 returns-17 c =
-    stems3-arm _ _ _ _ _ _ _ _ _ _ _ _ op.vstem3 (c .before .before .before .before .before .before .match .keys17) refl false _ _ _ _ (c .kept10 .ensures) (λ s lim b. ap (λ (p : Point). stems3 lim false (p .x) s) b) (c .before .stems3 .ensures .0) (c .before .stems3 .ensures .1)
+    let C = three-copied _ _ _ _ _ _ _ _ _ _ (c .before .before .before .before .before .copied .ensures) (c .before .stems3 .ensures) in
+    stems3-arm _ _ _ _ _ _ _ _ _ _ _ _ op.vstem3 (c .before .before .before .before .before .before .before .match .keys17) refl false _ _ _ _ (c .kept10 .ensures) (λ s lim b. ap (λ (p : Point). stems3 lim false (p .x) s) b) (C .0) (C .1)
 
 element-copy-out-stems3-2 : tie.Need-element-copy-out-stems3-2
 element-copy-out-stems3-2 c = search needs
 
+copied-requires-2 : tie.Need-copied-requires-2
+copied-requires-2 c κs = search needs
+
 stems3-requires-2 : tie.Need-stems3-requires-2
-stems3-requires-2 c κs = search needs
+stems3-requires-2 c κs =
+    subst (λ (t : St). (t .operands ≤ 256) × (t .hints ≤ 256)) (sym (c .before .before .before .copied2 .ensures)) (c .before .before .before .before .before .before .before .pre .0 .operands, c .before .before .before .before .before .before .before .pre .0 .hints)
 
 kept-requires-11 : tie.Need-kept-requires-11
 kept-requires-11 c κs = search needs
@@ -261,7 +272,8 @@ kept-requires-11 c κs = search needs
 returns-18 : tie.Need-returns-18
 unfolding operatorOf ofEscape operate
 returns-18 c =
-    stems3-arm _ _ _ _ _ _ _ _ _ _ _ _ op.hstem3 (c .before .before .before .before .before .before .match .keys18) refl true _ _ _ _ (c .kept11 .ensures) (λ s lim b. ap (λ (p : Point). stems3 lim true (p .y) s) b) (c .before .stems32 .ensures .0) (c .before .stems32 .ensures .1)
+    let C = three-copied _ _ _ _ _ _ _ _ _ _ (c .before .before .before .before .before .copied2 .ensures) (c .before .stems32 .ensures) in
+    stems3-arm _ _ _ _ _ _ _ _ _ _ _ _ op.hstem3 (c .before .before .before .before .before .before .before .match .keys18) refl true _ _ _ _ (c .kept11 .ensures) (λ s lim b. ap (λ (p : Point). stems3 lim true (p .y) s) b) (C .0) (C .1)
 
 made-requires-4 : tie.Need-made-requires-4
 made-requires-4 c κs = search needs
@@ -388,10 +400,12 @@ plain-spec =
     made-requires-3
     returns-16
     element-copy-out-stems3
+    copied-requires
     stems3-requires
     kept-requires-10
     returns-17
     element-copy-out-stems3-2
+    copied-requires-2
     stems3-requires-2
     kept-requires-11
     returns-18
