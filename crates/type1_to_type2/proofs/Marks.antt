@@ -6,6 +6,7 @@ use native.Mathlib.Numerals.{add-one}
 use native.Mathlib.Omega.{arith}
 use mathlib.Core.Bool.{Bool, true, false, _&&_, _||_, Bool·beq, or-false}
 use mathlib.Core.List.{List, [], _∷_, _++_, append-nil}
+use mathlib.Core.Logic.{_⊎_, inl, inr}
 use borrow.Author.Tests.{eqb-true, eqb-false, ltb-true, ltb-false}
 use lib.Dec.{eqb, ltb}
 use lib.Arith.{lt-of-le-ne}
@@ -20,12 +21,6 @@ use Rattle.type1_to_type2.specs.Collecting.{tableStem, sameEdges, Marked
 use Rattle.type1_to_type2.proofs.Tables.{table-length}
 
 -- ---- one bit after the other
-pub bit-set : (b c : Bool) → b ≡ true → true ≡ (b || c)
-bit-set b c e = sym (ap (λ (x : Bool). x || c) e)
-
-pub bit-clear : (b c d : Bool) → b ≡ false → d ≡ c → d ≡ (b || c)
-bit-clear b c d e f = f ∙ sym (ap (λ (x : Bool). x || c) e)
-
 module _ (from : ℕ) (p w : Float) (t : List Float) (b : List Bool) where
   abbrev equal : ℕ → Bool
   equal i = sameEdges p w (getD t (2 * i) nan) (getD t (2 * i + 1) nan)
@@ -33,7 +28,7 @@ module _ (from : ℕ) (p w : Float) (t : List Float) (b : List Bool) where
   pub mark-start : Marked from 0 p w t b b
   mark-start = record { same = refl; inside = λ i l. absurd (let z : ⊥ = omega arith in z); outside = λ k h. refl }
 
-  pub mark-turn : (i : ℕ) (d : List Bool) (x : Bool) → Marked from i p w t b d → from + i < length b → x ≡ (getD d (from + i) false || equal i) → Marked from (i + 1) p w t b (set d (from + i) x)
+  mark-turn : (i : ℕ) (d : List Bool) (x : Bool) → Marked from i p w t b d → from + i < length b → x ≡ (getD d (from + i) false || equal i) → Marked from (i + 1) p w t b (set d (from + i) x)
   mark-turn i d x M l e = record {
     same = length-set d (from + i) x ∙ M .same;
     inside = λ j k. split j k (eqb j i) refl;
@@ -46,6 +41,28 @@ module _ (from : ℕ) (p w : Float) (t : List Float) (b : List Bool) where
       split : (j : ℕ) → j < i + 1 → (y : Bool) → eqb j i ≡ y → getD (set d (from + i) x) (from + j) false ≡ (getD b (from + j) false || equal j)
       split j k true q = subst (λ (n : ℕ). getD (set d (from + i) x) (from + n) false ≡ (getD b (from + n) false || equal n)) (sym (eqb-true j i q)) here
       split j k false q = let ne = eqb-false j i q in getD-set-other d (from + i) (from + j) x false (λ r. ne (let z : j ≡ i = omega arith in z)) ∙ M .inside j (lt-of-le-ne (let z : j ≤ i = omega arith in z) ne)
+
+  -- the two are equal, or not
+  mark-equal : (i : ℕ) (d : List Bool) (x : Bool) → Marked from i p w t b d → from + i < length b → x ≡ equal i → x ≡ true → Marked from (i + 1) p w t b (set d (from + i) true)
+  mark-equal i d x M l e q = mark-turn i d true M l (sym (ap (λ (y : Bool). getD d (from + i) false || y) (sym e ∙ q) ∙ or-true (getD d (from + i) false)))
+    where
+      or-true : (c : Bool) → (c || true) ≡ true
+      or-true true = refl
+      or-true false = refl
+
+  mark-other : (i : ℕ) (d : List Bool) (x : Bool) → Marked from i p w t b d → x ≡ equal i → x ≡ false → Marked from (i + 1) p w t b d
+  mark-other i d x M e q = record { same = M .same; inside = λ j k. split j k (eqb j i) refl; outside = λ k h. M .outside k (λ j m. h j (omega arith)) }
+    where
+      here : getD d (from + i) false ≡ (getD b (from + i) false || equal i)
+      here = M .outside (from + i) (λ j m r. let z : ⊥ = omega arith in z) ∙ sym (ap (λ (y : Bool). getD b (from + i) false || y) (sym e ∙ q) ∙ or-false (getD b (from + i) false))
+
+      split : (j : ℕ) → j < i + 1 → (y : Bool) → eqb j i ≡ y → getD d (from + j) false ≡ (getD b (from + j) false || equal j)
+      split j k true r = subst (λ (n : ℕ). getD d (from + n) false ≡ (getD b (from + n) false || equal n)) (sym (eqb-true j i r)) here
+      split j k false r = let ne = eqb-false j i r in M .inside j (lt-of-le-ne (let z : j ≤ i = omega arith in z) ne)
+
+  pub mark-either : (i : ℕ) (d d' : List Bool) (x : Bool) → Marked from i p w t b d → from + i < length b → x ≡ equal i → ((x ≡ true) × (d' ≡ set d (from + i) true)) ⊎ ((x ≡ false) × (d' ≡ d)) → Marked from (i + 1) p w t b d'
+  mark-either i d d' x M l e (inl (q, r)) = subst (Marked from (i + 1) p w t b) (sym r) (mark-equal i d x M l e q)
+  mark-either i d d' x M l e (inr (q, r)) = subst (Marked from (i + 1) p w t b) (sym r) (mark-other i d x M e q)
 
 -- ---- masks
 in-more : (l : List Stem) (t s : Stem) → isIn (l ++ (t ∷ [])) s ≡ (isIn l s || sameStem t s)
