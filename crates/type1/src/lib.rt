@@ -550,70 +550,7 @@ fn token(
 
 // ---- answers
 
-fn made(st: St, flow: u8) -> Ran
-    ensures { λ r. ⌜ r ≡ Small.ranOf st flow ⌝ }
-{
-    Ran {
-        st: St {
-            operands: st.operands,
-            postscript: st.postscript,
-            x: st.x,
-            y: st.y,
-            points: st.points,
-            hints: st.hints,
-            last: st.last,
-            groups: st.groups,
-            stems: st.stems,
-            entries: st.entries,
-            ran: st.ran,
-            opened: st.opened,
-            flexing: st.flexing,
-            changed: st.changed,
-            divided: st.divided,
-        },
-        flow,
-    }
-}
-
-// The same answer, field by field: LLVM then keeps the fields in registers.
-fn kept(r: Ran) -> Ran
-    ensures { λ a. ⌜ a ≡ r ⌝ }
-{
-    let t = r.st;
-    Ran {
-        st: St {
-            operands: t.operands,
-            postscript: t.postscript,
-            x: t.x,
-            y: t.y,
-            points: t.points,
-            hints: t.hints,
-            last: t.last,
-            groups: t.groups,
-            stems: t.stems,
-            entries: t.entries,
-            ran: t.ran,
-            opened: t.opened,
-            flexing: t.flexing,
-            changed: t.changed,
-            divided: t.divided,
-        },
-        flow: r.flow,
-    }
-}
-
-// A body that returns, or comes to its end, goes on after the call.
-fn stopped(st: St, flow: u8) -> Ran
-    ensures { λ r. ⌜ r ≡ Small.ranOf st (pick (eqb flow 1) 0 flow) ⌝ }
-{
-    if flow == 1 {
-        made(st, 0)
-    } else {
-        made(st, flow)
-    }
-}
-
-// The same state, field by field: `stems3`, which LLVM does not inline, gets the copy, and the state stays in registers.
+// The same state, field by field. LLVM then keeps it in registers: copied as a whole, or lent to a call that is not inlined, it would stay in memory.
 fn copied(t: St) -> St
     ensures { λ r. ⌜ r ≡ t ⌝ }
 {
@@ -633,6 +570,33 @@ fn copied(t: St) -> St
         flexing: t.flexing,
         changed: t.changed,
         divided: t.divided,
+    }
+}
+
+fn made(st: St, flow: u8) -> Ran
+    ensures { λ r. ⌜ r ≡ Small.ranOf st flow ⌝ }
+{
+    Ran {
+        st: copied(st),
+        flow,
+    }
+}
+
+// The same answer, field by field.
+fn kept(r: Ran) -> Ran
+    ensures { λ a. ⌜ a ≡ r ⌝ }
+{
+    made(r.st, r.flow)
+}
+
+// A body that returns, or comes to its end, goes on after the call.
+fn stopped(st: St, flow: u8) -> Ran
+    ensures { λ r. ⌜ r ≡ Small.ranOf st (pick (eqb flow 1) 0 flow) ⌝ }
+{
+    if flow == 1 {
+        made(st, 0)
+    } else {
+        made(st, flow)
     }
 }
 
