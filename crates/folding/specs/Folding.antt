@@ -125,6 +125,6 @@ finiteGroups (g ∷ l) = finiteStems (g .stems) && finiteGroups l
 unfoldable pub foldsFinite : Matrix → State → Bool
 foldsFinite m s = finite (foldedWidth m (s .width)) && (finiteList (foldedList m (s .drawn)) && finiteGroups (foldedGroups m (s .groups)))
 
--- the number of a refusal in writing, with the number before it, or 0: "folding, writing in byte order", so that 14 for a folded point comes before what writing is refused for
+-- the number of a refusal in writing, with the number before it, or 0. Document 01, "Numbers the board logs": "folding, writing in byte order", so that 14 for a folded point comes before what writing is refused for
 unfoldable pub refusal : ℕ → ℕ → Bool → ℕ
 refusal before written points = cond (eqb before 0) (cond points written 14) written
