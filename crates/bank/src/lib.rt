@@ -3,7 +3,7 @@ ghost use mathlib.Core.Path.{_≡_};
 ghost use Prim.Native.Nat.{_+_, _<_};
 ghost use lib.ListN.{length};
 ghost use Rattle.bank.specs.Bank.{be16, be32, risesFrom, valid, found, bytesAt};
-ghost use Rattle.bank.specs.Call.{maxDepth, refusedWith, called};
+ghost use Rattle.bank.specs.Call.{maxDepth, refusedWith, called, refusedBefore};
 
 // Where a body starts and ends in the bank, or that there is none.
 pub enum Found {
@@ -183,6 +183,19 @@ pub fn call(bank: &[u8], number: f64, ran: usize) -> Callee
         };
     }
     refused(8)
+}
+
+// What is refused before the first byte runs, for a charstring of so many bytes: 2 for the bank's layout, then 3 for the bytes; 0 where nothing is.
+pub fn refused_before(bank: &[u8], size: usize) -> u8
+    ensures { λ r. ⌜ r ≡ refusedBefore (now (bank .entry)) size ⌝ }
+{
+    if !is_valid(bank) {
+        return 2;
+    }
+    if charstring::MAX_CHARSTRING_BYTES < size {
+        return 3;
+    }
+    0
 }
 
 // Levels of subroutines that run.

@@ -2001,14 +2001,7 @@ fn start_run(charstring: &[u8], bank: &[u8]) -> Ran
     ensures { λ r. ⌜ r ≡ Small.ranOf (zeroSt (length (now (charstring .entry)))) (startFlow (now (charstring .entry)) (now (bank .entry))) ⌝ }
 {
     let st = zero_state(charstring.len());
-    if !bank::is_valid(bank) {
-        return made(st, 2);
-    }
-    if charstring.len() <= 1048576 {
-        made(st, 0)
-    } else {
-        made(st, 3)
-    }
+    made(st, bank::refused_before(bank, charstring.len()))
 }
 
 // The number that a run's flow stands for.
