@@ -47,6 +47,11 @@ valid bank =
     && (eqb (offset bank 0) 0
     && (rises bank (count bank) && eqb (offset bank (count bank)) (length bank - tableEnd bank)))
 
+-- n offsets in a row, the first at a place, do not fall, nor below the one before them
+unfoldable pub risesFrom : List ℕ → ℕ → ℕ → ℕ → Bool
+risesFrom bank before at zero = true
+risesFrom bank before at (suc n) = leb before (be32 bank at) && risesFrom bank (be32 bank at) (at + 4) n
+
 -- the bytes from a start to an end
 abbrev pub part : ℕ → ℕ → List ℕ → List ℕ
 part start end bank = take (end - start) (drop start bank)

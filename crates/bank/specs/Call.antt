@@ -9,7 +9,7 @@ use Rattle.charstring.specs.Cipher.{maxCharstringBytes}
 use Rattle.bank.specs.declared.Found.{Found}
 use Rattle.bank.specs.declared.Found.the-variants.{At, Nothing}
 use Rattle.bank.specs.declared.Callee.{Callee}
-use Rattle.bank.specs.Bank.{found}
+use Rattle.bank.specs.Bank.{valid, found}
 
 -- "depth 10 runs, 11 is refused"
 abbrev pub maxDepth : ℕ
@@ -26,3 +26,7 @@ counted n ran Nothing = refusedWith 8
 -- the body that a subroutine number names, after so many bytes run: the number truncates, and below 0 there is none (8)
 unfoldable pub called : List ℕ → Float → ℕ → Callee
 called bank v ran = cond (le (fin false 0 (pos 0)) v) (counted (toUnsigned 64 v) ran (found (toUnsigned 64 v) bank)) (refusedWith 8)
+
+-- before the first byte of a charstring of so many bytes: the bank breaks its layout (2), then the bytes pass 1,048,576 (3). Document 01, "Numbers the board logs"
+unfoldable pub refusedBefore : List ℕ → ℕ → ℕ
+refusedBefore bank size = cond (valid bank) (cond (leb size maxCharstringBytes) 0 3) 2

@@ -1,11 +1,9 @@
 // The subroutine bank: a check of its layout, where a body lies, and the body that a call names.
 ghost use mathlib.Core.Path.{_≡_};
 ghost use Prim.Native.Nat.{_+_, _<_};
-ghost use mathlib.Core.Bool.{_&&_};
-ghost use lib.Dec.{leb};
 ghost use lib.ListN.{length};
-ghost use Rattle.bank.specs.Bank.{be16, be32, valid, found, bytesAt};
-ghost use Rattle.bank.specs.Call.{maxDepth, refusedWith, called};
+ghost use Rattle.bank.specs.Bank.{be16, be32, risesFrom, valid, found, bytesAt};
+ghost use Rattle.bank.specs.Call.{maxDepth, refusedWith, called, refusedBefore};
 
 // Where a body starts and ends in the bank, or that there is none.
 pub enum Found {
@@ -38,10 +36,7 @@ fn u32_at(s: &[u8], at: usize) -> usize
 // Whether four offsets, the first at a place, do not fall, nor below the one before them.
 fn four_rise(bank: &[u8], at: usize, before: usize) -> bool
     requires { ⌜ at + 15 < length (now bank) ⌝ }
-    ensures { λ r. ⌜ r ≡ (leb before (be32 (now (bank .entry)) at)
-        && (leb (be32 (now (bank .entry)) at) (be32 (now (bank .entry)) (at + 4))
-        && (leb (be32 (now (bank .entry)) (at + 4)) (be32 (now (bank .entry)) (at + 8))
-        && leb (be32 (now (bank .entry)) (at + 8)) (be32 (now (bank .entry)) (at + 12))))) ⌝ }
+    ensures { λ r. ⌜ r ≡ risesFrom (now (bank .entry)) before at 4 ⌝ }
 {
     let a = u32_at(bank, at);
     let b = u32_at(bank, at + 4);
@@ -59,7 +54,24 @@ fn four_rise(bank: &[u8], at: usize, before: usize) -> bool
     c <= d
 }
 
-// The bank has the layout of a bank. The offsets are compared four at a time, which is faster.
+// The same of sixteen offsets.
+fn sixteen_rise(bank: &[u8], at: usize, before: usize) -> bool
+    requires { ⌜ at + 63 < length (now bank) ⌝ }
+    ensures { λ r. ⌜ r ≡ risesFrom (now (bank .entry)) before at 16 ⌝ }
+{
+    if !four_rise(bank, at, before) {
+        return false;
+    }
+    if !four_rise(bank, at + 16, u32_at(bank, at + 12)) {
+        return false;
+    }
+    if !four_rise(bank, at + 32, u32_at(bank, at + 28)) {
+        return false;
+    }
+    four_rise(bank, at + 48, u32_at(bank, at + 44))
+}
+
+// The bank has the layout of a bank. The offsets are compared sixteen at a time, which is faster.
 pub fn is_valid(bank: &[u8]) -> bool
     ensures { λ r. ⌜ r ≡ valid (now (bank .entry)) ⌝ }
 {
@@ -76,12 +88,12 @@ pub fn is_valid(bank: &[u8]) -> bool
     }
     let mut before: usize = 0;
     let mut i: usize = 0;
-    while 4 <= count - i {
-        if !four_rise(bank, 6 + 4 * i, before) {
+    while 16 <= count - i {
+        if !sixteen_rise(bank, 6 + 4 * i, before) {
             return false;
         }
-        before = u32_at(bank, 18 + 4 * i);
-        i += 4;
+        before = u32_at(bank, 66 + 4 * i);
+        i += 16;
     }
     while i < count {
         let offset = u32_at(bank, 6 + 4 * i);
@@ -171,6 +183,19 @@ pub fn call(bank: &[u8], number: f64, ran: usize) -> Callee
         };
     }
     refused(8)
+}
+
+// What is refused before the first byte runs, for a charstring of so many bytes: 2 for the bank's layout, then 3 for the bytes; 0 where nothing is.
+pub fn refused_before(bank: &[u8], size: usize) -> u8
+    ensures { λ r. ⌜ r ≡ refusedBefore (now (bank .entry)) size ⌝ }
+{
+    if !is_valid(bank) {
+        return 2;
+    }
+    if charstring::MAX_CHARSTRING_BYTES < size {
+        return 3;
+    }
+    0
 }
 
 // Levels of subroutines that run.

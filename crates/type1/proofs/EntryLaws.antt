@@ -3,13 +3,14 @@ use mathlib.Core.Path.{_≡_, refl, sym, _∙_, ap, subst}
 use Prim.Native.Nat.{ℕ, zero, suc, _+_, _≤_, _<_}
 use native.Mathlib.Omega.{arith}
 use native.Mathlib.Nat.{zero-add}
-use mathlib.Core.Bool.{Bool, true, false, not}
+use mathlib.Core.Bool.{Bool, true, false, not, cond}
 use mathlib.Core.List.{List, []}
 use lib.ListN.{length, getD, replicate, length-replicate}
 use lib.Dec.{T, eqb, eqb→eq, leb, leb→le}
 use lib.Ieee.{Float, nan}
 use Rattle.charstring.specs.Cipher.{Bytes, maxCharstringBytes}
 use Rattle.bank.specs.Bank.{Valid, valid}
+use Rattle.bank.specs.Call.{refusedBefore}
 use Rattle.bank.specs.Laws.{valid-is}
 use Rattle.type1.specs.declared.Stem.{Stem}
 use Rattle.type1.specs.declared.St.{St}
@@ -32,7 +33,7 @@ unfolding abs drawnIn groupsIn stemsAt
 held-start n m e = ap (λ (l : List Float). record { operands = []; postscript = []; point = start .point; bearing = record { x = getD l 16 nan; y = getD l 17 nan }; width = getD l 18 nan; opened = false; flexing = start .flexing; hints = []; changed = false; groups = []; drawn = []; divided = false; ran = n }) e
 
 -- ---- before the run
-starts : (b c : Bool) → _≡_ {A = ℕ} (pick b (pick c 0 3) 2) 0 → (b ≡ true) × (c ≡ true)
+starts : (b c : Bool) → _≡_ {A = ℕ} (cond b (cond c 0 3) 2) 0 → (b ≡ true) × (c ≡ true)
 starts true true e = (refl, refl)
 starts true false e = absurd (let z : ⊥ = omega (arith, e) in z)
 starts false c e = absurd (let z : ⊥ = omega (arith, e) in z)
@@ -43,17 +44,16 @@ not-zero n h e = subst (λ (k : ℕ). T (not (eqb k 0))) e h
 module _ (charstring bank : List ℕ) where
   -- the bank is valid, and the charstring has no byte too many
   pub begins : startFlow charstring bank ≡ 0 → (valid bank ≡ true) × (leb (length charstring) maxCharstringBytes ≡ true)
-  unfolding startFlow
+  unfolding startFlow refusedBefore
   begins e = starts (valid bank) (leb (length charstring) maxCharstringBytes) e
 
   -- how a run begins
-  pub flow-is : (r : Ran) (z : St) (f : ℕ) (b c : Bool) → r ≡ ranOf z f → z ≡ zeroSt (length charstring) → valid bank ≡ b → leb (length charstring) maxCharstringBytes ≡ c → f ≡ pick b (pick c 0 3) 2 → r ≡ ranOf (zeroSt (length charstring)) (startFlow charstring bank)
+  pub flow-is : (r : Ran) (z : St) (f : ℕ) → r ≡ ranOf z f → z ≡ zeroSt (length charstring) → f ≡ refusedBefore bank (length charstring) → r ≡ ranOf (zeroSt (length charstring)) (startFlow charstring bank)
   unfolding startFlow
-  flow-is r z f b c e ez eb ec ef =
-      e ∙ ap (λ (t : St). ranOf t f) ez ∙ ap (ranOf (zeroSt (length charstring))) (ef ∙ ap (λ (k : Bool). pick k (pick c 0 3) 2) (sym eb) ∙ ap (λ (k : Bool). pick (valid bank) (pick k 0 3) 2) (sym ec))
+  flow-is r z f e ez ef = e ∙ ap (λ (t : St). ranOf t f) ez ∙ ap (ranOf (zeroSt (length charstring))) ef
 
   module _ (lenIV : ℕ) where
-    stays-out : (b c : Bool) (records words : ℕ) → valid bank ≡ b → leb (length charstring) maxCharstringBytes ≡ c → (_≡_ {A = ℕ} (pick b (pick c 0 3) 2) 0 → ⊥) → outcome charstring bank lenIV records words ≡ refused (pick b (pick c 0 3) 2)
+    stays-out : (b c : Bool) (records words : ℕ) → valid bank ≡ b → leb (length charstring) maxCharstringBytes ≡ c → (_≡_ {A = ℕ} (cond b (cond c 0 3) 2) 0 → ⊥) → outcome charstring bank lenIV records words ≡ refused (cond b (cond c 0 3) 2)
     unfolding outcome run charge
     stays-out true true records words e f h = absurd (h refl)
     stays-out true false records words e f h =
@@ -63,7 +63,7 @@ module _ (charstring bank : List ℕ) where
 
     -- a run that does not begin is refused
     pub not-begun : (b : Ran) (records words : ℕ) → b ≡ ranOf (zeroSt (length charstring)) (startFlow charstring bank) → T (not (eqb (b .flow) 0)) → outcome charstring bank lenIV records words ≡ refused (b .flow)
-    unfolding startFlow
+    unfolding startFlow refusedBefore
     not-begun b records words e h =
         let is : b .flow ≡ startFlow charstring bank = ap (λ (r : Ran). r .flow) e in
         stays-out (valid bank) (leb (length charstring) maxCharstringBytes) records words refl refl (λ z. not-zero (b .flow) h (is ∙ z)) ∙ ap refused (sym is)

@@ -3,11 +3,10 @@ use Prim.Native.Nat.{ℕ}
 use mathlib.Core.Path.{_≡_}
 use mathlib.Core.Bool.{Bool, false}
 use mathlib.Core.List.{List}
-use lib.Dec.{eqb, leb}
+use lib.Dec.{eqb}
 use lib.ListN.{length, getD, replicate}
 use lib.Ieee.{Float, nan}
-use Rattle.charstring.specs.Cipher.{maxCharstringBytes}
-use Rattle.bank.specs.Bank.{valid}
+use Rattle.bank.specs.Call.{refusedBefore}
 use Rattle.type1.specs.declared.St.{St}
 use Rattle.type1.specs.declared.Interpreted.{Interpreted}
 use Rattle.type1.specs.State.{plusZero}
@@ -17,9 +16,9 @@ use Rattle.type1.specs.Run.{pick}
 abbrev pub zeroSt : ℕ → St
 zeroSt n = record { operands = 0; postscript = 0; x = plusZero; y = plusZero; opened = false; flexing = false; points = 0; hints = 0; changed = false; last = 0; groups = 0; stems = 0; entries = 0; divided = false; ran = n }
 
--- 2 where the bank breaks its layout, 3 where the charstring has too many bytes, else 0
+-- what is refused before the first byte, else 0
 unfoldable pub startFlow : List ℕ → List ℕ → ℕ
-startFlow charstring bank = pick (valid bank) (pick (leb (length charstring) maxCharstringBytes) 0 3) 2
+startFlow charstring bank = refusedBefore bank (length charstring)
 
 -- the number of a flow: 0 where the bytes or the glyph end
 abbrev pub numberOf : ℕ → ℕ

@@ -150,16 +150,14 @@ fn one_byte(v: u8) -> f64
     v as f64 - 139.0
 }
 
-// 247 to 254, and the byte after it.
+// 247 to 254, and the byte after it. The value plus 65536 is made without a jump on the sign.
 fn two_bytes(v: u8, w: u8) -> f64
     requires { ⌜ 247 ≤ v ⌝ }
     ensures { λ r. ⌜ r ≡ Number.double (cond (ltb v 251) (Number.twoBytes v w) (Number.twoBytesBelow v w)) ⌝ }
 {
-    if v < 251 {
-        ((wider(v) - 247) * 256 + wider(w) + 108) as f64
-    } else {
-        -(((wider(v) - 251) * 256 + wider(w) + 108) as f64)
-    }
+    let both = wider(v) * 256 + wider(w);
+    let raised = if v < 251 { both + 2412 } else { 129684 - both };
+    raised as f64 - 65536.0
 }
 
 // 255: the four bytes after it.
@@ -2001,14 +1999,7 @@ fn start_run(charstring: &[u8], bank: &[u8]) -> Ran
     ensures { λ r. ⌜ r ≡ Small.ranOf (zeroSt (length (now (charstring .entry)))) (startFlow (now (charstring .entry)) (now (bank .entry))) ⌝ }
 {
     let st = zero_state(charstring.len());
-    if !bank::is_valid(bank) {
-        return made(st, 2);
-    }
-    if charstring.len() <= 1048576 {
-        made(st, 0)
-    } else {
-        made(st, 3)
-    }
+    made(st, bank::refused_before(bank, charstring.len()))
 }
 
 // The number that a run's flow stands for.

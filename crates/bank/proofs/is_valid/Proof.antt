@@ -1,14 +1,14 @@
 -- `bank::is_valid` meets its contract. Assumes nothing.
-use Prim.Native.Nat.{ℕ, suc, _+_, _-_, _*_, _<_, _≤_}
+use Prim.Native.Nat.{ℕ, zero, suc, _+_, _-_, _*_, _<_, _≤_}
 use native.Mathlib.Numerals.{add-one}
 use native.Mathlib.Omega.{arith}
 use borrow.Author.Tests.{le-leb, leb-true, eq-eqb, not-true, not-false}
 use mathlib.Core.Path.{_≡_, refl, sym, _∙_, ap, subst}
-use mathlib.Core.Bool.{Bool, true, false, _&&_}
+use mathlib.Core.Bool.{Bool, true, false}
 use mathlib.Core.List.{List}
 use lib.Dec.{T, eqb, leb}
 use lib.ListN.{length}
-use Rattle.bank.specs.Bank.{be32, count, tableEnd, offset, rises, Valid, valid}
+use Rattle.bank.specs.Bank.{be32, count, tableEnd, offset, rises, risesFrom, Valid, valid}
 use Rattle.bank.specs.Laws.{both, not-valid, offset-suc}
 use Rattle.bank.proofs.is_valid.Statement.{statement}
 use Rattle.bank.proofs.is_valid.Tie as tie
@@ -38,47 +38,34 @@ ended bank n before i is table first all inv =
 false-true : _≡_ {A = Bool} false true → ⊥
 false-true e = subst T (sym e) tt
 
--- ---- four offsets after offset i
-abbrev Four : List ℕ → ℕ → ℕ → Bool
-Four bank before at = leb before (be32 bank at) && (leb (be32 bank at) (be32 bank (at + 4)) && (leb (be32 bank (at + 4)) (be32 bank (at + 8)) && leb (be32 bank (at + 8)) (be32 bank (at + 12))))
+-- ---- k offsets after offset i, the first of them at a place
+module _ (bank : List ℕ) (n : ℕ) where
+  turns : (k before i at : ℕ) → i + k ≤ n → Checked bank n before i → at ≡ 6 + 4 * i → risesFrom bank before at k ≡ true → Checked bank n (offset bank (i + k)) (i + k)
+  unfolding risesFrom
+  turns zero before i at h inv e t = let z : i + 0 ≡ i = omega arith in rw z (inv .0, refl, inv .2)
+  turns (suc k) before i at h inv e t =
+      let p = both (leb before (be32 bank at)) (risesFrom bank (be32 bank at) (at + 4) k) t in
+      let one = turn bank n before i (be32 bank at) (omega arith) inv (ap (be32 bank) e) (leb-true _ _ (p .0)) in
+      let all = turns k (be32 bank at) (i + 1) (at + 4) (omega arith) one (omega arith) (p .1) in
+      let z : i + 1 + k ≡ i + suc k = omega arith in
+      rw z at all
 
-module _ (bank : List ℕ) (i : ℕ) where
-  place : (k : ℕ) → be32 bank (6 + 4 * i + 4 * k) ≡ be32 bank (6 + 4 * (i + k))
-  place k = ap (be32 bank) (omega arith)
+  -- in a valid bank they rise
+  all-rise : Valid bank → n ≡ count bank → (k before i at : ℕ) → i + k ≤ n → before ≡ offset bank i → at ≡ 6 + 4 * i → risesFrom bank before at k ≡ true
+  unfolding risesFrom
+  all-rise v en zero before i at h eb e = refl
+  all-rise v en (suc k) before i at h eb e =
+      let o : offset bank (suc i) ≡ be32 bank at = ap (be32 bank) (omega arith) in
+      let up : before ≤ be32 bank at = omega (arith, v .rising i (omega (arith, en)), o, eb) in
+      let rest = all-rise v en k (be32 bank at) (i + 1) (at + 4) (omega arith) (sym o ∙ ap (offset bank) (sym (add-one i))) (omega arith) in
+      rw (le-leb before (be32 bank at) up) rest
 
-turn-4 :
-    (bank : List ℕ) (n before i next : ℕ) (b : Bool) → 4 ≤ n - i → Checked bank n before i → b ≡ Four bank before (6 + 4 * i) → b ≡ true → next ≡ be32 bank (18 + 4 * i)
-    → Checked bank n next (i + 4)
-turn-4 bank n before i next b h inv eb t e =
-    let p = both _ _ (sym eb ∙ t) in
-    let q = both _ _ (p .1) in
-    let r = both _ _ (q .1) in
-    let one : Checked bank n (be32 bank (6 + 4 * i)) (i + 1) = turn bank n before i _ (omega arith) inv refl (leb-true _ _ (p .0)) in
-    let two : Checked bank n (be32 bank (6 + 4 * i + 4)) (i + 1 + 1) = turn bank n _ (i + 1) _ (omega arith) one (place bank i 1) (leb-true _ _ (q .0)) in
-    let three : Checked bank n (be32 bank (6 + 4 * i + 8)) (i + 1 + 1 + 1) = turn bank n _ (i + 1 + 1) _ (omega arith) two (ap (be32 bank) (omega arith)) (leb-true _ _ (r .0)) in
-    let four : Checked bank n (be32 bank (6 + 4 * i + 12)) (i + 1 + 1 + 1 + 1) = turn bank n _ (i + 1 + 1 + 1) _ (omega arith) three (ap (be32 bank) (omega arith)) (leb-true _ _ (r .1)) in
-    let z : i + 1 + 1 + 1 + 1 ≡ i + 4 = omega arith in
-    let w : be32 bank (6 + 4 * i + 12) ≡ next = ap (be32 bank) (omega arith) ∙ sym e in
-    rw (sym z, sym w) four
-
--- in a valid bank four offsets rise
-module _ (bank : List ℕ) (v : Valid bank) where
-  up : (j p q : ℕ) → j + 1 < count bank → p ≡ 6 + 4 * j → q ≡ p + 4 → be32 bank p ≤ be32 bank q
-  up j p q h ep eq =
-      let e : be32 bank p ≡ offset bank (suc j) = ap (be32 bank) (omega (arith, ep)) in
-      let f : be32 bank q ≡ offset bank (suc (suc j)) = ap (be32 bank) (omega (arith, ep, eq)) in
-      let o = v .rising (suc j) (omega (arith, h)) in
-      omega (arith, e, f, o)
-
-  all-rise : (n before i : ℕ) → n ≡ count bank → 4 ≤ n - i → Checked bank n before i → Four bank before (6 + 4 * i) ≡ true
-  all-rise n before i en h inv =
-      let o : before ≤ be32 bank (6 + 4 * i) = omega (arith, inv .1, v .rising i (omega (arith, en, h)), offset-suc bank i) in
-      rw (
-        le-leb before (be32 bank (6 + 4 * i)) o,
-        le-leb (be32 bank (6 + 4 * i)) (be32 bank (6 + 4 * i + 4)) (up i _ _ (omega (arith, en, h)) refl refl),
-        le-leb (be32 bank (6 + 4 * i + 4)) (be32 bank (6 + 4 * i + 8)) (up (i + 1) _ _ (omega (arith, en, h)) (omega arith) (omega arith)),
-        le-leb (be32 bank (6 + 4 * i + 8)) (be32 bank (6 + 4 * i + 12)) (up (i + 2) _ _ (omega (arith, en, h)) (omega arith) (omega arith)),
-      ) refl
+turn-16 :
+    (bank : List ℕ) (n before i next : ℕ) (b : Bool) → 16 ≤ n - i → Checked bank n before i → b ≡ risesFrom bank before (6 + 4 * i) 16 → b ≡ true → next ≡ be32 bank (66 + 4 * i)
+    → Checked bank n next (i + 16)
+turn-16 bank n before i next b h inv eb t e =
+    let all = turns bank n 16 before i (6 + 4 * i) (omega arith) inv refl (sym eb ∙ t) in
+    (all .0, e ∙ ap (be32 bank) (omega arith), all .2)
 
 abbrev Inv-loop : tie.InvT-loop
 Inv-loop bank n table before₀ i₀ before i = Checked bank n before i
@@ -128,21 +115,21 @@ sub-loop : tie.Need-sub-loop Inv-loop μ-loop Inv-loop2 μ-loop2
 sub-loop c =
     omega (arith, c .loop .inv .0)
 
-mul-four-rise : tie.Need-mul-four-rise Inv-loop μ-loop Inv-loop2 μ-loop2
-mul-four-rise c =
+mul-sixteen-rise : tie.Need-mul-sixteen-rise Inv-loop μ-loop Inv-loop2 μ-loop2
+mul-sixteen-rise c =
     omega arith
 
-add-four-rise : tie.Need-add-four-rise Inv-loop μ-loop Inv-loop2 μ-loop2
-add-four-rise c =
+add-sixteen-rise : tie.Need-add-sixteen-rise Inv-loop μ-loop Inv-loop2 μ-loop2
+add-sixteen-rise c =
     omega arith
 
-four-rise-requires : tie.Need-four-rise-requires Inv-loop μ-loop Inv-loop2 μ-loop2
-four-rise-requires c κs =
+sixteen-rise-requires : tie.Need-sixteen-rise-requires Inv-loop μ-loop Inv-loop2 μ-loop2
+sixteen-rise-requires c κs =
     omega arith
 
 returns-4 : tie.Need-returns-4 Inv-loop μ-loop Inv-loop2 μ-loop2
 returns-4 c =
-    sym (not-valid _ (λ v. false-true (sym (not-true _ (c .if4 .taken)) ∙ c .before .four-rise .ensures ∙ all-rise _ v _ _ _ (c .before .before .before .before .before .before .before .u16-at .ensures .0) (c .before .before .loop-test .taken) (c .before .before .before .loop .inv))))
+    sym (not-valid _ (λ v. false-true (sym (not-true _ (c .if4 .taken)) ∙ c .before .sixteen-rise .ensures ∙ all-rise _ _ v (c .before .before .before .before .before .before .before .u16-at .ensures .0) 16 _ _ _ (omega (arith, c .before .before .loop-test .taken)) (c .before .before .before .loop .inv .1) refl)))
 
 mul-u32-at : tie.Need-mul-u32-at Inv-loop μ-loop Inv-loop2 μ-loop2
 mul-u32-at c =
@@ -166,7 +153,7 @@ loop-less c =
 
 loop-again : tie.Need-loop-again Inv-loop μ-loop Inv-loop2 μ-loop2
 loop-again c =
-    turn-4 _ _ _ _ _ _ (c .before .before .before .loop-test .taken) (c .before .before .before .before .loop .inv) (c .before .before .four-rise .ensures) (not-false _ (c .before .if4 .left)) (c .u32-at2 .ensures .0)
+    turn-16 _ _ _ _ _ _ (c .before .before .before .loop-test .taken) (c .before .before .before .before .loop .inv) (c .before .before .sixteen-rise .ensures) (not-false _ (c .before .if4 .left)) (c .u32-at2 .ensures .0)
 
 loop2-holds : tie.Need-loop2-holds Inv-loop μ-loop Inv-loop2 μ-loop2
 loop2-holds c =
@@ -226,9 +213,9 @@ is-valid-spec =
     returns-3
     loop-holds
     sub-loop
-    mul-four-rise
-    add-four-rise
-    four-rise-requires
+    mul-sixteen-rise
+    add-sixteen-rise
+    sixteen-rise-requires
     returns-4
     mul-u32-at
     add-u32-at
