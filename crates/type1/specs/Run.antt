@@ -252,7 +252,7 @@ stems3 lim h from s =
 abbrev pub pointAt : Float → Float → Point
 pointAt x y = record { x = x; y = y }
 
--- every operator: "an operator takes its operands from the top and clears the stack"; what callsubr does is given
+-- every operator: it "takes its operands from the top and clears the stack", but as in the Rust callsubr, return, div, callothersubr and pop leave the other operands. What callsubr does is given
 unfoldable pub operate : Limits → Outcome → Operator → State → Outcome
 operate lim call op.hstem s = needs 2 s (stem lim true (add binary64 (s .bearing .y) (top 2 s)) (top 1 s) (cleared s))
 operate lim call op.vstem s = needs 2 s (stem lim false (add binary64 (s .bearing .x) (top 2 s)) (top 1 s) (cleared s))
