@@ -1,4 +1,4 @@
--- Definitions: demand 3, as the claim `Demand3`. `Agreement.demand3` proves it of every input that converts and every two widths that finishing accepts.
+-- Definitions: demand 3, as the claim `Demand3`. `Agreement.demand3` proves it of every input that converts and every two widths that finishing accepts. The sentences quoted in that record are demand 3's own.
 use Prim.Native.Nat.{ℕ, zero, suc, _+_, _*_, _^_, _≤_}
 use mathlib.Core.Path.{_≡_}
 use mathlib.Core.Logic.{_⊎_}
