@@ -251,7 +251,8 @@ pub fn convert_finished<'a>(
     })
 }
 
-/// The default and the nominal width of a font whose glyphs have these widths. The scratch is as long as the list.
+/// The default and the nominal width of a font whose glyphs have these widths. The scratch is at least as long as the
+/// list.
 pub fn choose_widths(widths: &[f64], scratch: &mut [f64]) -> Result<Widths, Refusal> {
     let mut pair = [0.0; 2];
     // SAFETY: as in `convert`.

@@ -1,4 +1,4 @@
--- Definitions: demand 3, as the claim `Demand3`. `Agreement.demand3` proves it of every input that converts and every two widths that finishing accepts.
+-- Definitions: demand 3, as the claim `Demand3`. `Agreement.demand3` proves it of every input that converts and every two widths that finishing accepts. The sentences quoted in that record are demand 3's own.
 use Prim.Native.Nat.{ℕ, zero, suc, _+_, _*_, _^_, _≤_}
 use mathlib.Core.Path.{_≡_}
 use mathlib.Core.Logic.{_⊎_}
@@ -30,7 +30,7 @@ pub record Near (z : ℤ) (x : Float) : Type 0 where
   pub over : zp z * 2 ^ 1058 + mi binary64 x ≤ zm z * 2 ^ 1058 + pl binary64 x + 2 ^ 1058
   pub under : zm z * 2 ^ 1058 + pl binary64 x ≤ zp z * 2 ^ 1058 + mi binary64 x + 2 ^ 1058
 
--- ---- drawn lists: each coordinate of the machine's stands in a relation R to the other's
+-- ---- drawn lists: each coordinate of the machine's stands in a relation R to the other's. Document 01, "Type 2 machine": "An entry of that list, as of the Type 1 run's, is a kind and the points it goes to"
 
 abbrev pub SamePoint : (ℤ → Float → Type 0) → Machine.Point → Point → Type 0
 SamePoint R z p = R (z .x) (p .x) × R (z .y) (p .y)
@@ -52,13 +52,13 @@ SameDrawing R [] (c ∷ cs) = ⊥
 SameDrawing R (d ∷ ds) [] = ⊥
 SameDrawing R (d ∷ ds) (c ∷ cs) = SameEntry R d c × SameDrawing R ds cs
 
--- ---- masks: one a group, of the declared stems ss
+-- ---- masks, of the declared stems ss. Document 01, "Stems and masks": "then one mask a group"
 
 unfoldable pub masksFor : Matrix → List Stem → List Group → List Mask
 masksFor m ss [] = []
 masksFor m ss (g ∷ gs) = record { bits = maskOf (foldedStems m (g .stems)) ss; before = g .before } ∷ masksFor m ss gs
 
--- ---- the states that the machine goes through: the first, and that after each number and each operator
+-- ---- the states that the machine goes through: the first, and that after each number and each operator. Document 01, "Type 2 machine"
 
 abbrev pub reached : Step → (ℕ → Machine.State → List Machine.State) → List Machine.State
 reached fault f = []
@@ -71,12 +71,12 @@ states [] k s = s ∷ []
 states (b ∷ bs) zero s = s ∷ reached (step b bs s) (states bs)
 states (b ∷ bs) (suc k) s = states bs k s
 
--- ---- the Type 1 run: "It is fed the charstring, the bank and lenIV, and nothing from the converter's stores."
+-- ---- document 01, "Type 1 run": "It is fed the charstring, the bank and lenIV, and nothing from the converter's stores."
 
 abbrev pub unlimitedRun : List ℕ → List ℕ → ℕ → Run.Outcome
 unlimitedRun charstring bank lenIV = Run.run Run.unlimited (record { bank = bank; lenIV = lenIV }) charstring State.start
 
--- the stems that document 01 leaves
+-- the stems that document 01 leaves ("Stems and masks")
 abbrev pub left : Matrix → State.State → Declared
 left m s = declared (foldedGroups m (s .groups))
 

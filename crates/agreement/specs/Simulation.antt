@@ -1,4 +1,4 @@
--- Definitions: what the laws of the machine's run of a program speak of.
+-- Definitions: what the laws of the machine's run of a program speak of. Document 01, "Type 2 machine", "Path", "Stems and masks".
 use Prim.Native.Nat.{ℕ, suc, _+_, _*_, _≤_}
 use mathlib.Core.Path.{_≡_}
 use mathlib.Core.Logic.{_⊎_}

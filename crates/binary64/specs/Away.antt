@@ -99,7 +99,7 @@ away-sign f x a b = sign-of (away f x) (sign x) (up-half (2 ^ low f) (mag f x) *
 pub away-mag : (f : Format) (x : Float) → T (fits f x) → T (finite x) → mag f (away f x) ≡ up-half (2 ^ low f) (mag f x) * 2 ^ low f
 away-mag f x a b = mag-of f (away f x) (sign x) (up-half (2 ^ low f) (mag f x) * 2 ^ low f) (away-value f x a b)
 
--- ---- LAW 5: it is within a half of x, which is 2 ^ low / 2 units, and has x's sign
+-- ---- `away f x` is within a half of x, which is 2 ^ low / 2 units, and has x's sign
 pub away-near : (f : Format) (x : Float) → T (fits f x) → T (finite x) → dist (mag f (away f x)) (mag f x) * 2 ≤ 2 ^ low f
 away-near f x a b =
     let L = 2 ^ low f in

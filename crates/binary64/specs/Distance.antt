@@ -17,7 +17,7 @@ use Rattle.binary64.specs.Value.{sign, mag, pl, mi, dist, Rounded, Withi
 use Rattle.binary64.specs.Units.{mag-of, sign-of, finite-of}
 use Rattle.binary64.specs.Sums.{amount-is, sub-rounded}
 
--- ---- LAW 3: how far `round` goes
+-- ---- how far `round` goes
 
 abbrev pub Cmp : Ordering → ℕ → ℕ → Type 0
 Cmp Ordering·lt a b = a < b

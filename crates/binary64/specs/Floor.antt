@@ -98,7 +98,7 @@ floored-fits f (fin true m (negsuc k)) a = round-fits f true ((m + (2 ^ suc k - 
 pub floored-finite : (f : Format) (x : Float) → T (fits f x) → T (finite x) → T (finite (floored f x))
 floored-finite f x a b = finite-of (floored f x) (sign x) (whole-down (sign x) (2 ^ low f) (mag f x) * 2 ^ low f) (2 ^ low f) (floored-value f x a b)
 
--- ---- LAW: `floored f x` is not above x, and less than one, 2 ^ low f units, below it
+-- ---- `floored f x` is not above x, and less than one, 2 ^ low f units, below it
 pub floor-near : (f : Format) (x : Float) → T (fits f x) → T (finite x)
     → (pl f (floored f x) + mi f x ≤ mi f (floored f x) + pl f x) × (pl f x + mi f (floored f x) < mi f x + pl f (floored f x) + 2 ^ low f)
 floor-near f x a b =

@@ -1,4 +1,4 @@
--- Definitions: Rust's `f64::round`, `f64::floor` and `f64::abs`. A NaN and an infinity come back as they are, but that `abs` drops the sign.
+-- Definitions: Rust's `f64::round`, `f64::floor` and `f64::abs`. A NaN and an infinity come back as they are, but that `abs` drops the sign. Document 01, "Numbers": "Rounding is half away from zero."; "Forms of the Rust that need another": `round`, `floor`.
 -- What `as usize` and `as i64` give is the kit's `toUnsigned 64` and `toSigned 63`, and whether a float is finite its `finite`.
 use Prim.Native.Nat.{suc, _+_, _-_, _*_, _/_, _^_}
 use mathlib.Core.Bool.{true, false}

@@ -1,4 +1,4 @@
--- A product with a power of two, and a quotient by one, are exact: LAW 4. And a value of a format is told by its sign and its units. Assumes nothing.
+-- Laws: a product with a power of two, and a quotient by one, are exact; a value of a format is told by its sign and its units.
 use mathlib.Core.Path.{_≡_, refl, sym, ap, ap₂, _∙_, subst}
 use Prim.Native.Nat.{ℕ, _+_, _-_, _*_, _^_, _≤_, _<_}
 use native.Mathlib.Nat.{le-trans, le-of-eq, lt-of-le-of-lt, mul-one, one-mul, mul-assoc, mul-right-comm, mul-pos, eq-of-mul-eq-mul-right, le-mul-of-pos-right, sub-add-cancel, mul-mul-mul-comm}
@@ -44,7 +44,7 @@ div-two f (fin u m e) s a b t h p =
     ∙ round-same f s (m * up e * 1) (1 * 2 ^ t * down e) b L (mul-pos (mul-pos (pow-pos 0) (pow-pos t)) (down-pos e)) (pow-pos (low f))
     (ap (λ (k : ℕ). k * L) (mul-one (m * up e)) ∙ h .1 ∙ ap (λ (k : ℕ). k * down e) p ∙ mul-assoc b (2 ^ t) (down e) ∙ ap (λ (k : ℕ). b * (k * down e)) (sym (one-mul (2 ^ t))))
 
--- ---- LAW 4
+-- ---- times and divided by a power of two
 pub mul-exact : (f : Format) (x : Float) (t : ℕ) → T (fits f x) → T (finite x) → mag f x * 2 ^ t < overflow f → HasValue (mul f x (two t)) (sign x) (mag f x * 2 ^ t) (2 ^ low f)
 mul-exact f x t a b o =
     let (q, j, few, e) = digits f x a in

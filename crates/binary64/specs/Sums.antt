@@ -33,7 +33,7 @@ sum-rounded f false false a b = record { sgn = false; amount = a + b; is = refl;
 sum-rounded f true false a b = unlike-signs f true false a b (2 ^ low f) refl (sum f true a false b (2 ^ low f)) (ltb a b) (ltb b a) (ltb→lt a b) (nltb→le a b) (nltb→le b a) refl refl
 sum-rounded f false true a b = unlike-signs f false true a b (2 ^ low f) refl (sum f false a true b (2 ^ low f)) (ltb a b) (ltb b a) (ltb→lt a b) (nltb→le a b) (nltb→le b a) refl refl
 
--- ---- LAW 1: of any two finite values of the format
+-- ---- of any two finite values of the format
 pub add-rounded : (f : Format) (x y : Float) → T (fits f x) → T (finite x) → T (fits f y) → T (finite y) → Rounded f (add f x y) (pl f x + pl f y) (mi f x + mi f y)
 add-rounded f x y a b c d =
     subst (λ (z : Float). Rounded f z (pl f x + pl f y) (mi f x + mi f y)) (sym (add-units f x y (sign x) (sign y) (mag f x) (mag f y) (own f x a b) (own f y c d)))
@@ -74,7 +74,7 @@ sub-rounded f x y a b c d =
     (subst (λ (k : ℕ). Rounded f (add f x (neg y)) (pl f x + pl f (neg y)) (mi f x + k)) (mi-neg f y d)
     (add-rounded f x (neg y) a b (neg-fits f y c) (neg-finite y d)))
 
--- ---- LAW 2: z is P - M units exactly
+-- ---- z is P - M units exactly
 pub amount-is : (s : Bool) (n P M : ℕ) → cond s 0 n + M ≡ cond s n 0 + P → n ≡ dist P M
 amount-is true n P M h = omega arith
 amount-is false n P M h = omega arith

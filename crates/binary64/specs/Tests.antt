@@ -1,4 +1,4 @@
--- A comparison of two finite floats is that of their units. And what a rounded result's sign is. Assumes nothing.
+-- Laws: a comparison of two finite floats is that of their units; what a rounded result's sign is.
 use mathlib.Core.Path.{_≡_, refl, sym, ap, ap₂, _∙_, subst}
 use Prim.Native.Nat.{ℕ, zero, suc, _+_, _-_, _*_, _/_, _^_, _≤_, _<_}
 use native.Mathlib.Nat.{le-of-eq, le-antisymm, mul-comm, mul-assoc, mul-right-comm, mul-pos, zero-mul, add-mul}

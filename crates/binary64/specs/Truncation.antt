@@ -83,7 +83,7 @@ no-number h (fin s m e) g = absurd (true≢false (sym (same s (eqb (m * up e * d
     same true b c k = ap (λ (d : Bool). d && true) k
     same false b c k = ap (λ (d : Bool). d && true) k
 
--- ---- LAW: in range, a truncated number is the size in units cut to whole numbers, so less than one below the argument's size
+-- ---- in range, a truncated number is the size in units cut to whole numbers, so less than one below the argument's size
 pub cut-units : (f : Format) (s : Bool) (m : ℕ) (e : ℤ) → T (fits f (fin s m e)) → m * up e / down e ≡ mag f (fin s m e) / 2 ^ low f
 cut-units f s m e a = div-same (m * up e) (down e) (mag f (fin s m e)) (2 ^ low f) (down-pos e) (pow-pos (low f)) (own f (fin s m e) a tt .1)
 

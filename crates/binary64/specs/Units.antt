@@ -111,7 +111,7 @@ sum-same f s t a b c A B L C P p q =
     sub-mul : (x y z : ℕ) → (x - y) * z ≡ x * z - y * z
     sub-mul x y z = mul-comm (x - y) z ∙ mul-sub z x y ∙ ap₂ _-_ (mul-comm z x) (mul-comm z y)
 
--- ---- LAW 1. The sum of two finite floats is their exact sum in units, rounded once.
+-- ---- The sum of two finite floats is their exact sum in units, rounded once.
 pub add-units : (f : Format) (x y : Float) (s t : Bool) (a b : ℕ) → HasValue x s a (2 ^ low f) → HasValue y t b (2 ^ low f) → add f x y ≡ sum f s a t b (2 ^ low f)
 unfolding add
 add-units f nan y s t a b h k = absurd h

@@ -1,4 +1,4 @@
--- Definitions: the exact value of a double. A finite float is a whole number of units, the unit being the format's smallest value, 2 ^ -low f: 2 ^ -1074 for an `f64`.
+-- Definitions: the exact value of a double. A finite float is a whole number of units, the unit being the format's smallest value, 2 ^ -low f: 2 ^ -1074 for an `f64`. Document 01, "Type 2 machine": "A double is compared as a whole number times a power of two."
 -- A signed number is written as P - M, two naturals: every law about it is then one on ℕ, which `omega` reads.
 use mathlib.Core.Path.{_≡_}
 use Prim.Native.Nat.{ℕ, _+_, _-_, _*_, _/_, _^_, _≤_}

@@ -52,7 +52,7 @@ round-below f s a t = go (ltb (rnd f a) (overflow f)) (ltb→lt (rnd f a) (overf
     go true h u = h tt
     go false h u = absurd u
 
--- ---- LAW
+-- ---- a rounded multiple of 2 ^ g is one
 pub rounded-multiple : {f : Format} {z : Float} {P M : ℕ} → Rounded f z P M → T (finite z) → (g k : ℕ) → dist P M ≡ k * 2 ^ g → Multiple f g z
 unfolding Multiple
 rounded-multiple {f} {z} {P} {M} r t g k e =

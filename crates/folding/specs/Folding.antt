@@ -12,7 +12,7 @@ use Rattle.geometry.specs.Transform as Transform
 use Rattle.type1.specs.declared.Stem.{Stem}
 use Rattle.type1.specs.State.{Command, move, line, curve, flex, Group, State, plusZero}
 
--- number 1: an entry of the matrix is not finite
+-- document 01, "Numbers the board logs", 1: an entry of the matrix is not finite
 unfoldable pub finiteMatrix : Matrix → Bool
 finiteMatrix m = finite (m .a) && (finite (m .b) && (finite (m .c) && (finite (m .d) && (finite (m .tx) && finite (m .ty)))))
 
@@ -85,6 +85,7 @@ stemWith identity m s = cond identity s (foldedStem m s)
 abbrev pub staysWith : Bool → Matrix → Stem → Bool
 staysWith identity m s = identity || stays m (s .horizontal)
 
+-- the stems that stay, folded
 unfoldable pub keptStems : Matrix → List Stem → List Stem
 keptStems m [] = []
 keptStems m (s ∷ l) = cond (stays m (s .horizontal)) (foldedStem m s ∷ keptStems m l) (keptStems m l)
@@ -92,6 +93,7 @@ keptStems m (s ∷ l) = cond (stays m (s .horizontal)) (foldedStem m s ∷ keptS
 unfoldable pub foldedStems : Matrix → List Stem → List Stem
 foldedStems m l = cond (isIdentity m) l (keptStems m l)
 
+-- "in the folded groups each stem" ("Type 1 run")
 abbrev pub foldedGroup : Matrix → Group → Group
 foldedGroup m g = record { stems = foldedStems m (g .stems); before = g .before }
 
@@ -99,7 +101,7 @@ unfoldable pub foldedGroups : Matrix → List Group → List Group
 foldedGroups m [] = []
 foldedGroups m (g ∷ l) = foldedGroup m g ∷ foldedGroups m l
 
--- ---- number 14: a folded value is not finite
+-- ---- document 01, "Numbers the board logs", 14: a folded value is not finite
 abbrev pub finitePoint : Point → Bool
 finitePoint p = finite (p .x) && finite (p .y)
 

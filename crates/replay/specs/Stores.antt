@@ -1,4 +1,4 @@
--- Definitions: the stem store before a run, and what a run and converting leave.
+-- Definitions: the stem store before a run, and what a run and converting leave. Document 01, "What each entry is held to", d.
 use mathlib.Core.Bool.{true}
 use mathlib.Core.List.{List}
 use Rattle.type1.specs.declared.Stem.{Stem}

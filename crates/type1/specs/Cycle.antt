@@ -1,4 +1,4 @@
--- Definitions: what the byte runner and the operator step, which call each other, say of the run.
+-- Definitions: what the byte runner and the operator step, which call each other, say of the run. Document 01, "Reading": "that body may call again; depth 10 runs, 11 is refused".
 use Prim.Native.Nat.{ℕ, suc}
 use mathlib.Core.Bool.{Bool}
 use mathlib.Core.List.{List}
@@ -18,6 +18,7 @@ pub record Ready (t : St) (m : Mem) : Type 0 where
   pub fit : Fit t m
   pub sound : Sound (abs t m)
 
+-- the lent stores' limits: document 01, numbers 16 and 17
 abbrev pub limitsOf : Mem → Limits
 limitsOf m = within (length (m .stems)) (length (m .cmds))
 

@@ -1,4 +1,4 @@
--- Definitions: what the entry's parts answer.
+-- Definitions: what the entry's parts answer. Document 01, "Type 1 run", "Bytes run", "Numbers the board logs".
 use Prim.Native.Nat.{ℕ}
 use mathlib.Core.Path.{_≡_}
 use mathlib.Core.Bool.{Bool, false}

@@ -4,6 +4,7 @@ use mathlib.Core.Bool.{Bool, true, false}
 use mathlib.Core.List.{List, [], _∷_}
 use lib.Dec.{eqb}
 
+-- T1's names of them; `unknown` is any other byte
 pub data Operator : Type 0 where
   hstem vstem vmoveto rlineto hlineto vlineto rrcurveto closepath callsubr return hsbw endchar rmoveto hmoveto vhcurveto hvcurveto : Operator
   dotsection vstem3 hstem3 seac sbw div callothersubr pop setcurrentpoint : Operator

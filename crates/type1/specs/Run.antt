@@ -69,10 +69,11 @@ cleared s = withOperands [] s
 abbrev pub without : ℕ → State → State
 without k s = withOperands (take (length (s .operands) - k) (s .operands)) s
 
--- an operator needs so many operands
+-- an operator needs so many operands, else it is refused with 7
 abbrev pub needs : ℕ → State → Outcome → Outcome
 needs n s o = check (leb n (length (s .operands))) 7 o
 
+-- one operand more; a 257th is refused with 15
 unfoldable pub push : Limits → Float → State → Outcome
 push lim v s = check (lim .operands (length (s .operands) + 1)) 15 (going (withOperands (s .operands ++ (v ∷ [])) s))
 
@@ -81,7 +82,7 @@ push lim v s = check (lim .operands (length (s .operands) + 1)) 15 (going (withO
 abbrev pub stemOf : Bool → Float → Float → Stem
 stemOf h p w = record { horizontal = h; pos = p; width = w }
 
--- a stem equal to one in force is not added
+-- "A stem equal to one in force is not added"; its edge is finite (14), and a 257th in force is refused with 16
 unfoldable pub stem : Limits → Bool → Float → Float → State → Outcome
 stem lim h p w s =
     check (finite p) 14
@@ -92,7 +93,7 @@ stem lim h p w s =
 abbrev pub entries : State → ℕ
 entries s = length (s .drawn) + length (s .groups)
 
--- the stems in force become a new group
+-- the stems in force become a new group: 16 before 17
 unfoldable pub newGroup : Limits → State → Outcome
 newGroup lim s =
     check (lim .groups (length (s .groups) + 1) && lim .stems (stemCount (s .groups) + length (s .hints))) 16
@@ -109,6 +110,7 @@ commit lim s = pick (s .changed) (pick (lastIs (s .groups) (s .hints)) (going (s
 unfoldable pub enter : Limits → Command → State → Outcome
 enter lim c s = check (lim .commands (entries s + 1)) 17 (going (withDrawn (s .drawn ++ (c ∷ [])) s))
 
+-- a path command: first the stems in force, then its entry
 unfoldable pub list : Limits → Command → State → Outcome
 list lim c s = andThen (commit lim s) (enter lim c)
 
@@ -168,6 +170,7 @@ unfoldable pub backwards : List Float → List Float
 backwards [] = []
 backwards (a ∷ l) = backwards l ++ (a ∷ [])
 
+-- left for `pop`; a PostScript stack over 256 is refused with 15
 unfoldable pub handBack : Limits → List Float → State → Outcome
 handBack lim l s = check (lim .postscript (length (s .postscript) + length l)) 15 (going (withPostscript (s .postscript ++ l) s))
 
@@ -183,6 +186,7 @@ abbrev pub heightOf : List Float → Float
 heightOf [] = fin false 25 (pos 1)
 heightOf (h ∷ l) = h
 
+-- a flex that was not started is refused with 9, by 0 and by 2
 unfoldable pub otherSubr0 : Limits → List Float → State → Outcome
 otherSubr0 lim args s = go (s .flexing)
   where
@@ -225,9 +229,11 @@ callOtherSubr lim s =
 
 -- ---- operators
 
+-- 12 17: what was left last; with nothing left it is refused with 11
 unfoldable pub popD : Limits → State → Outcome
 popD lim s = check (ltb 0 (length (s .postscript))) 11 (push lim (getD (s .postscript) (length (s .postscript) - 1) nan) (withPostscript (take (length (s .postscript) - 1) (s .postscript)) s))
 
+-- "12 12 divides, and a div ran": by 0 it is refused with 10, and 14 where the quotient is not finite
 unfoldable pub divD : State → Outcome
 divD s =
     needs 2 s
@@ -246,7 +252,7 @@ stems3 lim h from s =
 abbrev pub pointAt : Float → Float → Point
 pointAt x y = record { x = x; y = y }
 
--- every operator; what callsubr does is given
+-- every operator: it "takes its operands from the top and clears the stack", but as in the Rust callsubr, return, div, callothersubr and pop leave the other operands. What callsubr does is given
 unfoldable pub operate : Limits → Outcome → Operator → State → Outcome
 operate lim call op.hstem s = needs 2 s (stem lim true (add binary64 (s .bearing .y) (top 2 s)) (top 1 s) (cleared s))
 operate lim call op.vstem s = needs 2 s (stem lim false (add binary64 (s .bearing .x) (top 2 s)) (top 1 s) (cleared s))
@@ -297,11 +303,12 @@ returned (returning s) = going s
 returned (ending s) = ending s
 returned (refused n) = refused n
 
+-- 8 where there is no such body; its bytes are counted (3) before the depth is tested (4)
 unfoldable pub callBody : (List ℕ → State → Outcome) → Option (List ℕ) → State → Outcome
 callBody deep none s = refused 8
 callBody deep (some l) s = andThen (charge l s) (λ t. returned (deep l t))
 
--- deep runs a body one level deeper
+-- 10; `deep` runs a body one level deeper
 unfoldable pub callSubr : Font → (List ℕ → State → Outcome) → State → Outcome
 callSubr f deep s = needs 1 s (callBody deep (named f (top 1 s)) (without 1 s))
 

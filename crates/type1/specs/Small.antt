@@ -1,4 +1,4 @@
--- Definitions: what the small functions answer, and what is asked of the numbers in the arrays.
+-- Definitions: what the small functions answer, and what is asked of the numbers in the arrays. Document 01, "Type 1 run".
 use Prim.Native.Nat.{ℕ, _+_, _-_, _*_, _≤_, _<_}
 use mathlib.Core.Path.{_≡_}
 use mathlib.Core.Bool.{Bool, true, false}

@@ -1,4 +1,4 @@
--- Definitions: what the laws of the run speak of: a property of every number of a state, of the state that a step leaves, of every step; and of two outcomes.
+-- Definitions: what the laws of the run speak of: a property of every number of a state, of the state that a step leaves, of every step; and of two outcomes. Document 01, "Type 1 run".
 use Prim.Native.Nat.{ℕ, suc, _+_, _≤_, _<_}
 use mathlib.Core.Path.{_≡_}
 use mathlib.Core.Logic.{_⊎_}
@@ -151,7 +151,7 @@ gathered (some l) = length l
 abbrev pub weight : State → ℕ
 weight s = pointsOf (s .drawn) + length (s .operands) + length (s .postscript) + gathered (s .flexing)
 
--- ---- the groups' numbers rise strictly, from a number on and below an end
+-- ---- "A new group keeps the number of entries listed before it": these numbers rise strictly, from a number on and below an end
 unfoldable pub Rising : ℕ → List Group → ℕ → Type 0
 Rising from [] end = Unit {0}
 Rising from (g ∷ l) end = (from ≤ g .before) × (g .before < end) × Rising (suc (g .before)) l end

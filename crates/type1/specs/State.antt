@@ -20,6 +20,7 @@ pub record Group : Type 0 where
   pub stems : List Stem
   pub before : ℕ
 
+-- "State: operands, PostScript stack, point and side bearing (0, 0), whether a subpath is open (no), a flex and its points (none), stems in force, groups, drawn list (all empty), whether the stems changed (no), whether a div ran (no)"; and the width and the bytes run, for the answer
 pub record State : Type 0 where
   pub operands : List Float
   pub postscript : List Float

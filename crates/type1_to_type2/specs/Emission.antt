@@ -111,7 +111,7 @@ abbrev pub flush : Waiting → List Instr → List Instr
 flush idle is = is
 flush (held k l) is = instr l (codeOf k ∷ []) ∷ is
 
--- a move has two deltas
+-- a move has two deltas; its operator is chosen by them
 abbrev pub moveOf : List ℤ → Instr
 moveOf [] = instr [] (21 ∷ [])
 moveOf (a ∷ []) = instr (a ∷ []) (22 ∷ [])

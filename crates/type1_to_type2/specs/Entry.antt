@@ -1,4 +1,4 @@
--- Definitions: what the entry's parts answer.
+-- Definitions: what the entry and its parts answer and leave. Document 01, "Numbers the board logs", "What each entry is held to", a.
 use Prim.Native.Nat.{ℕ, zero, suc, _+_, _≤_}
 use mathlib.Core.Path.{_≡_}
 use mathlib.Core.Bool.{Bool, true, false, _&&_}

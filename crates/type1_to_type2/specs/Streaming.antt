@@ -1,4 +1,4 @@
--- Definitions: a program written as its parts come, an operator once no more operands share it; and what the code has yet to write.
+-- Definitions: a program written as its parts come, an operator once no more operands share it; and what the code has yet to write. Document 01, "Path", "Stems and masks", "Numbers the board logs": "writing in byte order".
 use mathlib.Core.Path.{_≡_}
 use Prim.Native.Nat.{ℕ, zero, suc, _+_, _-_, _%_, _≤_, _<_}
 use mathlib.Core.Bool.{Bool, _&&_}

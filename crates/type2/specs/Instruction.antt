@@ -23,7 +23,7 @@ unfoldable pub bytes : List Instr → List ℕ
 bytes [] = []
 bytes (i ∷ is) = numbers (i .operands) ++ (i .code ++ bytes is)
 
--- every operand is -32768 to below 32768
+-- every operand is -32768 to below 32768: document 01, number 13
 unfoldable pub fine : List ℤ → Bool
 fine [] = true
 fine (u ∷ l) = inRange u && fine l
@@ -32,7 +32,7 @@ unfoldable pub allFine : List Instr → Bool
 allFine [] = true
 allFine (i ∷ is) = fine (i .operands) && allFine is
 
--- ---- a move with a delta of 0 has an operator of its own: hmoveto (22), vmoveto (4), rmoveto (21)
+-- ---- as in the Rust, a move with a delta of 0 has an operator of its own: hmoveto (22), vmoveto (4), else rmoveto (21)
 abbrev pub isZero : ℤ → Bool
 isZero u = eqb (zp u + zm u) 0
 

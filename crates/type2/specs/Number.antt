@@ -126,13 +126,13 @@ fixedBytes p m =
 unfoldable pub numberBytes : ℤ → List ℕ
 numberBytes u = cond (eqb ((zp u + zm u) % 65536) 0) (wholeBytes (zp u / 65536) (zm u / 65536)) (fixedBytes (zp u) (zm u))
 
--- from -32768 to below 32768
+-- from -32768 to below 32768: document 01, "Numbers the board logs", 13
 abbrev pub inRange : ℤ → Bool
 inRange u = ltb (zp u) 2147483648 && ltb (zm u) 2147483649
 
 -- ---- a push into the lent output: document 01, "Numbers the board logs", 13 and 18, "a number's range before its space"
 
--- the number that is logged (0 if noNumber), the place after what was written (0 on a refusal), and all that the output holds
+-- the number that is logged (0 if none), the place after what was written (0 on a refusal), and all that the output holds
 pub record Push : Type 0 where
   pub number : ℕ
   pub next : ℕ
