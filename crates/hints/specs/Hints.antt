@@ -1,4 +1,4 @@
--- Definitions: the stems in force, in arrays, whether they can be the last group's, and when a new group is refused. Document 01, "Hints" and "Numbers the board logs".
+-- Definitions: the stems in force, in arrays, whether they can be the last group's, when a new group is refused, and which hints are declared. Document 01, "Hints", "Numbers the board logs" and "Stems and masks".
 -- Stem i is a place of `across` (whether it is horizontal) and two of `edges` (its first edge and its width).
 use Prim.Native.Nat.{ℕ, zero, suc, _+_, _*_}
 use mathlib.Core.Bool.{Bool, false, cond, _&&_, _||_, Bool·beq}
@@ -36,3 +36,13 @@ mayBeLast changed groups last count = changed && (ltb 0 groups && eqb last count
 unfoldable pub newGroup : ℕ → ℕ → ℕ → ℕ → ℕ → ℕ → ℕ
 newGroup groups records used n words entries =
     cond (leb (groups + 1) 256 && leb (used + n) records) (cond (leb (14 * (entries + 1)) words) 0 17) 16
+
+-- ---- Document 01, "Stems and masks", of so many distinct stems of each direction
+
+-- "97 or more drop all hints": there are fewer
+abbrev pub areFew : ℕ → ℕ → Bool
+areFew across upright = ltb (across + upright) 97
+
+-- "Hints need masks exactly when there are two groups or more and a stem left"
+abbrev pub needMasks : ℕ → ℕ → ℕ → Bool
+needMasks groups across upright = ltb 0 (across + upright) && ltb 1 groups

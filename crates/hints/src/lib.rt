@@ -1,7 +1,8 @@
-// Stem hints: the stems in force, whether they can be the last group's, and when a new group is refused.
+// Stem hints: the stems in force, whether they can be the last group's, when a new group is refused, and which hints are
+// declared.
 ghost use mathlib.Core.Path.{_≡_};
 ghost use Prim.Native.Nat.{_≤_};
-ghost use Rattle.hints.specs.Hints.{sameStem, cut, inForce, mayBeLast, newGroup};
+ghost use Rattle.hints.specs.Hints.{sameStem, cut, inForce, mayBeLast, newGroup, areFew, needMasks};
 
 // Groups, and stems in force, at the most.
 const MOST: usize = 256;
@@ -96,4 +97,28 @@ pub fn new_group(
         return 17;
     }
     0
+}
+
+// Whether so many distinct stems of each direction are declared: 97 or more drop all hints.
+pub fn are_few(across: usize, upright: usize) -> bool
+    ensures { λ r. ⌜ r ≡ areFew across upright ⌝ }
+{
+    if across < 97 {
+        upright < 97 - across
+    } else {
+        false
+    }
+}
+
+// Whether hints need masks: there are two groups or more, and a stem left in one direction or the other.
+pub fn need_masks(groups: usize, across: usize, upright: usize) -> bool
+    ensures { λ r. ⌜ r ≡ needMasks groups across upright ⌝ }
+{
+    if groups < 2 {
+        return false;
+    }
+    if across != 0 {
+        return true;
+    }
+    upright != 0
 }

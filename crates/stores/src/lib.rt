@@ -1,6 +1,6 @@
-// Lent stores made zero.
+// Lent stores made zero, and how much of an output stands before its zeros.
 ghost use mathlib.Core.Path.{_≡_};
-ghost use Rattle.stores.specs.Zeros.{zeros, zerosFrom};
+ghost use Rattle.stores.specs.Zeros.{zeros, zerosFrom, kept};
 
 // Every word becomes 0.
 pub fn wipe_words(words: &mut [u64])
@@ -22,4 +22,11 @@ pub fn zero_from(bytes: &mut [u8], from: usize)
         bytes[i] = 0;
         i += 1;
     }
+}
+
+// How many bytes of an output stand before its zeros: those written, and none on a refusal.
+pub fn kept_bytes(number: u64, written: usize) -> usize
+    ensures { λ r. ⌜ r ≡ kept number written ⌝ }
+{
+    if number == 0 { written } else { 0 }
 }

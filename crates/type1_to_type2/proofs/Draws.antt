@@ -4,7 +4,7 @@ use mathlib.Core.Logic.{_⊎_, inl, inr}
 use Prim.Native.Nat.{ℕ, zero, suc, _+_, _-_, _*_, _%_, _^_, _≤_, _<_}
 use native.Mathlib.Nat.{sub-zero, pos-of-ne-zero}
 use native.Mathlib.Omega.{arith}
-use mathlib.Core.Bool.{Bool, true, false, _&&_, and-false}
+use mathlib.Core.Bool.{Bool, true, false, _&&_, cond, and-false}
 use mathlib.Core.List.{List, [], _∷_, _++_, append-nil}
 use lib.ListN.{length, take, replicate, length-take}
 use lib.Dec.{T, eqb, leb, leb→le, eqb→eq}
@@ -12,12 +12,13 @@ use lib.IntN.{ℤ}
 use lib.Pow.{pow-pos}
 use lib.Ieee.{Float, nan, inf, fin, binary64, sub, add, neg, mul, div, lt, fits, eq}
 use lib.Ieee.Fits.{eq→eqb, sub-fits}
-use borrow.Author.Tests.{eq-eqb, ne-eqb}
+use borrow.Author.Tests.{eqb-true, eqb-false, eq-eqb, ne-eqb}
 use Rattle.binary64.specs.Units.{bool-iff}
 use Rattle.binary64.specs.Value.{mag, pl, mi}
 use Rattle.binary64.specs.Rounding.{away, abs}
 use Rattle.binary64.specs.Tests.{eq→balance, balance→eq}
 use Rattle.geometry.specs.declared.Point.{Point}
+use Rattle.stores.specs.Zeros.{zerosFrom, kept}
 use Rattle.type1.specs.declared.Stem.{Stem}
 use Rattle.type1.specs.State.{Command, move, line, curve, flex, plusZero}
 use Rattle.type1.specs.Run.{pick, pointAt}
@@ -304,18 +305,26 @@ unfolding items streamed
 ended p q true ss = in-turn (p .puts) q .then (λ left. wrote [])
 ended p q false ss = in-turn (p .puts) q .then (λ left. wrote [])
 
-pub finished-refused : (room : ℕ) (s t : Writer) (z o : List ℕ) (x : Written) → resumed (s .number) (s .next) z (λ left. wrote []) ≡ x → (s .number ≡ 0 → ⊥) → length z ≡ room → o ≡ take 0 z ++ replicate (length z - 0) 0 →
-    t .number ≡ s .number → t .next ≡ 0 → Ends room x t o
-unfolding resumed
-finished-refused room s t z o x e h l d n m =
-    subst (λ (y : Written). Ends room y t o) (sym (let g : resumed (s .number) (s .next) z (λ left. wrote []) ≡ refused (s .number) = rw (ne-eqb (s .number) 0 h) in g) ∙ e)
-    (pos-of-ne-zero h, (n, (m, d ∙ ap (λ (k : ℕ). replicate k 0) (sub-zero (length z) ∙ l))))
+-- s is the writer after the last byte, t what is answered of it, and z the output, of which k bytes are kept
+module _ (room k : ℕ) (s t : Writer) (z o : List ℕ) (x : Written) (e : resumed (s .number) (s .next) z (λ left. wrote []) ≡ x) (l : length z ≡ room) (d : o ≡ zerosFrom k z) (n : t .number ≡ s .number) (m : t .next ≡ k) where
+  none-kept : (s .number ≡ 0 → ⊥) → k ≡ 0 → Ends room x t o
+  unfolding resumed
+  none-kept h i =
+      subst (λ (y : Written). Ends room y t o) (sym (let g : resumed (s .number) (s .next) z (λ left. wrote []) ≡ refused (s .number) = rw (ne-eqb (s .number) 0 h) in g) ∙ e)
+      (pos-of-ne-zero h, (n, (m ∙ i, d ∙ ap (λ (j : ℕ). zerosFrom j z) i ∙ ap (λ (j : ℕ). replicate j 0) (sub-zero (length z) ∙ l))))
 
-pub finished-wrote : (room : ℕ) (s : Writer) (z o : List ℕ) (x : Written) → resumed (s .number) (s .next) z (λ left. wrote []) ≡ x → s .number ≡ 0 → s .next ≤ length z → length z ≡ room → o ≡ take (s .next) z ++ replicate (length z - s .next) 0 → Ends room x s o
-unfolding resumed
-finished-wrote room s z o x e h k l d =
-    subst (λ (y : Written). Ends room y s o) (sym (let g : resumed (s .number) (s .next) z (λ left. wrote []) ≡ wrote (take (s .next) z) = rw (eq-eqb (s .number) 0 h, append-nil (take (s .next) z)) in g) ∙ e)
-    (h, (sym n, d ∙ ap₂ (λ (i j : ℕ). take (s .next) z ++ replicate (i - j) 0) l (sym n)))
-  where
-    n : length (take (s .next) z) ≡ s .next
-    n = omega (arith, length-take (s .next) z)
+  all-kept : s .number ≡ 0 → s .next ≤ length z → k ≡ s .next → Ends room x t o
+  unfolding resumed
+  all-kept h f i =
+      subst (λ (y : Written). Ends room y t o) (sym (let g : resumed (s .number) (s .next) z (λ left. wrote []) ≡ wrote (take (s .next) z) = rw (eq-eqb (s .number) 0 h, append-nil (take (s .next) z)) in g) ∙ e)
+      (n ∙ h, (m ∙ i ∙ sym w, d ∙ ap (λ (j : ℕ). zerosFrom j z) i ∙ ap₂ (λ (i j : ℕ). take (s .next) z ++ replicate (i - j) 0) l (sym w)))
+    where
+      w : length (take (s .next) z) ≡ s .next
+      w = omega (arith, length-take (s .next) z)
+
+  pub finished : (s .number ≡ 0 → s .next ≤ length z) → k ≡ kept (s .number) (s .next) → Ends room x t o
+  finished f i = choose (eqb (s .number) 0) refl
+    where
+      choose : (b : Bool) → eqb (s .number) 0 ≡ b → Ends room x t o
+      choose true q = let h = eqb-true (s .number) 0 q in all-kept h (f h) (i ∙ ap (λ (b : Bool). cond b (s .next) 0) q)
+      choose false q = none-kept (eqb-false (s .number) 0 q) (i ∙ ap (λ (b : Bool). cond b (s .next) 0) q)

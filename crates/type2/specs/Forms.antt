@@ -13,29 +13,45 @@ use Rattle.type2.specs.Signed.{sub-bal, sub-is, one-sided}
 abbrev Gets : (p m w : ℕ) → List ℕ → Type 0
 Gets p m w bs = p ≡ w - 65536 → m ≡ 65536 - w → wholeBytes p m ≡ bs
 
-one-byte : (p m w : ℕ) → w < 65644 → 65428 < w → Gets p m w ((w - 65397) ∷ [])
+-- w - 65536 is -i or i
+abbrev pub Size : (w i : ℕ) → Type 0
+Size w i = ((w < 65536) × (i ≡ 65536 - w)) ⊎ ((65536 ≤ w) × (i ≡ w - 65536))
+
+-- the first of two bytes counts from b on that side of 0
+abbrev pub Side : (w b : ℕ) → Type 0
+Side w b = ((w < 65536) × (b ≡ 251)) ⊎ ((65536 ≤ w) × (b ≡ 247))
+
+-- the bounds of one byte, and of the first of two
+pub small : (w i : ℕ) → Size w i → i < 108 → (65428 < w) × (w < 65644)
+small w i (inl (s, t)) h = (omega arith, omega arith)
+small w i (inr (s, t)) h = (omega arith, omega arith)
+
+pub pair-fits : (w i b : ℕ) → Side w b → i < 1132 → (i - 108) / 256 + b < 256
+pair-fits w i b (inl (s, t)) h = omega arith
+pair-fits w i b (inr (s, t)) h = omega arith
+
+one-byte : (p m w : ℕ) → 65428 < w → w < 65644 → Gets p m w ((w - 65397) ∷ [])
 unfolding wholeBytes
 one-byte p m w h k e f = rw (is-lt p 108 (let z : p < 108 = omega arith in z), is-lt m 108 (let z : m < 108 = omega arith in z)) (ap (λ (x : ℕ). x ∷ []) (let z : p + 139 - m ≡ w - 65397 = omega arith in z))
 
-two-below : (p m w : ℕ) → w ≤ 65428 → 64404 < w → Gets p m w (((65428 - w) / 256 + 251) ∷ ((65428 - w) % 256) ∷ [])
+two-bytes : (p m w i b : ℕ) → Size w i → Side w b → 108 ≤ i → i < 1132 → Gets p m w (((i - 108) / 256 + b) ∷ ((i - 108) % 256) ∷ [])
 unfolding wholeBytes
-two-below p m w h k e f =
-    let z : m - 108 ≡ 65428 - w = omega arith in
-    rw (is-lt p 108 (let z : p < 108 = omega arith in z), not-lt m 108 (let z : 108 ≤ m = omega arith in z), not-lt 107 p (let z : p ≤ 107 = omega arith in z), is-lt 107 m (let z : 107 < m = omega arith in z), is-lt m 1132 (let z : m < 1132 = omega arith in z), z)
+two-bytes p m w i b (inl (s, t)) (inl (u, v)) h k e f =
+    let z : m ≡ i = omega arith in
+    rw (is-lt p 108 (let z : p < 108 = omega arith in z), not-lt m 108 (let z : 108 ≤ m = omega arith in z), not-lt 107 p (let z : p ≤ 107 = omega arith in z), is-lt 107 m (let z : 107 < m = omega arith in z), is-lt m 1132 (let z : m < 1132 = omega arith in z), z, v)
+two-bytes p m w i b (inr (s, t)) (inr (u, v)) h k e f =
+    let z : p ≡ i = omega arith in
+    rw (not-lt p 108 (let z : 108 ≤ p = omega arith in z), is-lt 107 p (let z : 107 < p = omega arith in z), is-lt p 1132 (let z : p < 1132 = omega arith in z), z, v)
+two-bytes p m w i b (inl (s, t)) (inr (u, v)) h k e f = absurd (let z : ⊥ = omega arith in z)
+two-bytes p m w i b (inr (s, t)) (inl (u, v)) h k e f = absurd (let z : ⊥ = omega arith in z)
 
-two-above : (p m w : ℕ) → 65644 ≤ w → w < 66668 → Gets p m w (((w - 65644) / 256 + 247) ∷ ((w - 65644) % 256) ∷ [])
+three-bytes : (p m w i : ℕ) → 32768 ≤ w → w < 98304 → Size w i → 1132 ≤ i → Gets p m w (28 ∷ (w / 256 % 256) ∷ (w % 256) ∷ [])
 unfolding wholeBytes
-two-above p m w h k e f =
-    let z : p - 108 ≡ w - 65644 = omega arith in
-    rw (not-lt p 108 (let z : 108 ≤ p = omega arith in z), is-lt 107 p (let z : 107 < p = omega arith in z), is-lt p 1132 (let z : p < 1132 = omega arith in z), z)
-
-three-bytes : (p m w : ℕ) → 32768 ≤ w → w < 98304 → (w ≤ 64404) ⊎ (66668 ≤ w) → Gets p m w (28 ∷ (w / 256 % 256) ∷ (w % 256) ∷ [])
-unfolding wholeBytes
-three-bytes p m w g l (inl h) e f =
+three-bytes p m w i g l (inl (s, t)) h e f =
     let x : (p + 65536 - m) % 65536 / 256 ≡ w / 256 % 256 = omega arith in
     let y : (p + 65536 - m) % 65536 % 256 ≡ w % 256 = omega arith in
     rw (is-lt p 108 (let z : p < 108 = omega arith in z), not-lt m 108 (let z : 108 ≤ m = omega arith in z), not-lt 107 p (let z : p ≤ 107 = omega arith in z), is-lt 107 m (let z : 107 < m = omega arith in z), not-lt m 1132 (let z : 1132 ≤ m = omega arith in z), x, y)
-three-bytes p m w g l (inr h) e f =
+three-bytes p m w i g l (inr (s, t)) h e f =
     let x : (p + 65536 - m) % 65536 / 256 ≡ w / 256 % 256 = omega arith in
     let y : (p + 65536 - m) % 65536 % 256 ≡ w % 256 = omega arith in
     rw (not-lt p 108 (let z : 108 ≤ p = omega arith in z), is-lt 107 p (let z : 107 < p = omega arith in z), not-lt p 1132 (let z : 1132 ≤ p = omega arith in z), not-lt 107 m (let z : m ≤ 107 = omega arith in z), x, y)
@@ -65,17 +81,14 @@ module _ (w : ℕ) (low : 32768 ≤ w) (high : w < 98304) where
       go (inl e) b = (omega arith, omega arith)
       go (inr e) b = (omega arith, omega arith)
 
-  pub one-form : w < 65644 → 65428 < w → numberBytes z ≡ (w - 65397) ∷ []
+  pub one-form : 65428 < w → w < 65644 → numberBytes z ≡ (w - 65397) ∷ []
   one-form h k = is-whole ∙ one-byte p m w h k (parts .0) (parts .1)
 
-  pub below-form : w ≤ 65428 → 64404 < w → numberBytes z ≡ ((65428 - w) / 256 + 251) ∷ ((65428 - w) % 256) ∷ []
-  below-form h k = is-whole ∙ two-below p m w h k (parts .0) (parts .1)
+  pub two-form : (i b : ℕ) → Size w i → Side w b → 108 ≤ i → i < 1132 → numberBytes z ≡ ((i - 108) / 256 + b) ∷ ((i - 108) % 256) ∷ []
+  two-form i b s t h k = is-whole ∙ two-bytes p m w i b s t h k (parts .0) (parts .1)
 
-  pub above-form : 65644 ≤ w → w < 66668 → numberBytes z ≡ ((w - 65644) / 256 + 247) ∷ ((w - 65644) % 256) ∷ []
-  above-form h k = is-whole ∙ two-above p m w h k (parts .0) (parts .1)
-
-  pub short-form : (w ≤ 64404) ⊎ (66668 ≤ w) → numberBytes z ≡ 28 ∷ (w / 256 % 256) ∷ (w % 256) ∷ []
-  short-form h = is-whole ∙ three-bytes p m w low high h (parts .0) (parts .1)
+  pub short-form : (i : ℕ) → Size w i → 1132 ≤ i → numberBytes z ≡ 28 ∷ (w / 256 % 256) ∷ (w % 256) ∷ []
+  short-form i s h = is-whole ∙ three-bytes p m w i low high s h (parts .0) (parts .1)
 
 module _ (n : ℕ) (low : 2147483648 ≤ n) (high : n < 6442450944) where
   abbrev u : ℤ

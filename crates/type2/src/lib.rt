@@ -132,24 +132,19 @@ fn put5(out: &mut [u8], at: usize, a: u8, b: u8, c: u8, d: u8, e: u8) -> Pushed
     }
 }
 
-// The bytes of the whole number `w - 65536`, in its shortest form.
+// The bytes of the whole number `w - 65536`, in its shortest form. Only its size is branched on, not its sign.
 fn push_whole(out: &mut [u8], at: usize, w: u32) -> Pushed
     requires { ⌜ (32768 ≤ w) × (w < 98304) ⌝ }
     ensures { λ r. ⌜ gave (r .number) (r .next) (now (out .exit)) ≡ put (now (out .entry)) at (numberBytes (subℕ (w * 65536) 4294967296)) ⌝ }
 {
-    if w < 65644 {
-        if w > 65428 {
-            return put1(out, at, (w - 65397) as u8);
-        }
-        if w > 64404 {
-            let i = 65428 - w;
-            return put2(out, at, (i / 256 + 251) as u8, (i % 256) as u8);
-        }
-    } else {
-        if w < 66668 {
-            let i = w - 65644;
-            return put2(out, at, (i / 256 + 247) as u8, (i % 256) as u8);
-        }
+    let i = if w < 65536 { 65536 - w } else { w - 65536 };
+    let base = if w < 65536 { 251 } else { 247 };
+    if i < 108 {
+        return put1(out, at, (w - 65397) as u8);
+    }
+    if i < 1132 {
+        let j = i - 108;
+        return put2(out, at, (j / 256 + base) as u8, (j % 256) as u8);
     }
     put3(out, at, 28, (w / 256 % 256) as u8, (w % 256) as u8)
 }

@@ -1,16 +1,33 @@
 -- `type2::push_whole` meets its contract: each arm writes the bytes of one form of a whole number.
+use Rattle.type2.specs.Forms.{Size, Side, small, pair-fits, one-form, two-form, short-form}
+use Rattle.type2.specs.Put.{same-bytes}
+use native.Mathlib.Omega.{arith}
 use mathlib.Core.Logic.{inl, inr, ⊎-elim}
 use borrow.Author.Needs.{needs}
-use Rattle.type2.specs.Put.{same-bytes}
-use Rattle.type2.specs.Forms.{one-form, below-form, above-form, short-form}
 use Rattle.type2.proofs.push_whole.Statement.{statement}
 use Rattle.type2.proofs.push_whole.Tie as tie
+use Rattle.type2.proofs.push_whole.Reads as reads
+use Rattle.type2.proofs.push_whole.Lts as lts
+use Rattle.type2.proofs.put1.Reads as put1-reads
+use Rattle.type2.proofs.put2.Reads as put2-reads
+use Rattle.type2.proofs.put3.Reads as put3-reads
+
+size : (c : lts.Joined1 (put1-reads.Asked, put1-reads.Learnt, put2-reads.Asked, put2-reads.Learnt, put3-reads.Asked, put3-reads.Learnt) reads.Pre reads.Post) → Size (c .before .before .args .w) (c .if1 .i)
+size c = ⊎-elim (λ w. inl (w .0 .taken, w .1)) (λ w. inr (w .0 .left, w .1)) (c .if1 .came)
+
+side : (c : lts.Joined2 (put1-reads.Asked, put1-reads.Learnt, put2-reads.Asked, put2-reads.Learnt, put3-reads.Asked, put3-reads.Learnt) reads.Pre reads.Post) → Side (c .before .before .before .args .w) (c .if2 .base)
+side c = ⊎-elim (λ w. inl (w .0 .taken, w .1)) (λ w. inr (w .0 .left, w .1)) (c .if2 .came)
+
+sub-i : tie.Need-sub-i
+sub-i c = search needs
 
 sub-put1 : tie.Need-sub-put1
-sub-put1 c = search needs
+sub-put1 c =
+    let (a, b) = small _ _ (size (c .before .before .before)) (c .before .if3 .taken) in omega arith
 
 cast-put1 : tie.Need-cast-put1
-cast-put1 c = search needs
+cast-put1 c =
+    let (a, b) = small _ _ (size (c .before .before .before)) (c .before .if3 .taken) in omega arith
 
 put1-requires : tie.Need-put1-requires
 put1-requires c κs = search needs
@@ -19,13 +36,18 @@ same-length : tie.Need-same-length
 same-length c = search needs
 
 returns : tie.Need-returns
-returns c = let s = c .before .before .before .before .before .before .before in same-bytes (s .args .out .now) (s .args .at) (c .before .before .put1 .ensures) (one-form (s .args .w) (s .pre .0) (s .pre .1) (c .before .before .before .before .before .if1 .taken) (c .before .before .before .before .if2 .taken))
+returns c =
+    let s = c .before .before .before .before .before .before .before .before in
+    let (a, b) = small (s .args .w) (c .before .before .before .before .before .before .if1 .i) (size (c .before .before .before .before .before .before)) (c .before .before .before .before .if3 .taken) in
+    same-bytes (s .args .out .now) (s .args .at) (c .before .before .put1 .ensures) (one-form (s .args .w) (s .pre .0) (s .pre .1) a b)
 
 add-put2 : tie.Need-add-put2
-add-put2 c = search needs
+add-put2 c =
+    let z = pair-fits _ (c .before .before .before .before .before .before .if1 .i) (c .before .before .before .before .before .if2 .base) (side (c .before .before .before .before .before)) (c .before .before .before .if4 .taken) in omega arith
 
 cast-put2 : tie.Need-cast-put2
-cast-put2 c = search needs
+cast-put2 c =
+    let z = pair-fits _ (c .before .before .before .before .before .before .if1 .i) (c .before .before .before .before .before .if2 .base) (side (c .before .before .before .before .before)) (c .before .before .before .if4 .taken) in omega arith
 
 cast-put2-2 : tie.Need-cast-put2-2
 cast-put2-2 c = search needs
@@ -37,25 +59,9 @@ same-length-2 : tie.Need-same-length-2
 same-length-2 c = search needs
 
 returns-2 : tie.Need-returns-2
-returns-2 c = let s = c .before .before .before .before .before .before .before .before in same-bytes (s .args .out .now) (s .args .at) (c .before .before .put2 .ensures) (below-form (s .args .w) (s .pre .0) (s .pre .1) (c .before .before .before .before .before .if2 .left) (c .before .before .before .before .if3 .taken))
-
-add-put2-2 : tie.Need-add-put2-2
-add-put2-2 c = search needs
-
-cast-put2-3 : tie.Need-cast-put2-3
-cast-put2-3 c = search needs
-
-cast-put2-4 : tie.Need-cast-put2-4
-cast-put2-4 c = search needs
-
-put2-requires-2 : tie.Need-put2-requires-2
-put2-requires-2 c κs = search needs
-
-same-length-3 : tie.Need-same-length-3
-same-length-3 c = search needs
-
-returns-3 : tie.Need-returns-3
-returns-3 c = let s = c .before .before .before .before .before .before .before in same-bytes (s .args .out .now) (s .args .at) (c .before .before .put22 .ensures) (above-form (s .args .w) (s .pre .0) (s .pre .1) (c .before .before .before .before .before .if1 .left) (c .before .before .before .before .if4 .taken))
+returns-2 c =
+    let s = c .before .before .before .before .before .before .before .before .before .before .before in
+    same-bytes (s .args .out .now) (s .args .at) (c .before .before .put2 .ensures) (two-form (s .args .w) (s .pre .0) (s .pre .1) (c .before .before .before .before .before .before .before .before .before .if1 .i) (c .before .before .before .before .before .before .before .before .if2 .base) (size (c .before .before .before .before .before .before .before .before .before)) (side (c .before .before .before .before .before .before .before .before)) (c .before .before .before .before .before .before .before .if3 .left) (c .before .before .before .before .before .before .if4 .taken))
 
 cast-put3 : tie.Need-cast-put3
 cast-put3 c = search needs
@@ -66,16 +72,19 @@ cast-put3-2 c = search needs
 put3-requires : tie.Need-put3-requires
 put3-requires c κs = search needs
 
-same-length-4 : tie.Need-same-length-4
-same-length-4 c = search needs
+same-length-3 : tie.Need-same-length-3
+same-length-3 c = search needs
 
-returns-4 : tie.Need-returns-4
-returns-4 c = let s = c .before .before .before .before .before .before in same-bytes (s .args .out .now) (s .args .at) (c .before .before .put3 .ensures) (short-form (s .args .w) (s .pre .0) (s .pre .1) (⊎-elim (λ w. inl (w .2 .left)) (λ w. inr (w .1 .left)) (c .before .before .before .before .if1 .came)))
+returns-3 : tie.Need-returns-3
+returns-3 c =
+    let s = c .before .before .before .before .before .before .before .before .before in
+    same-bytes (s .args .out .now) (s .args .at) (c .before .before .put3 .ensures) (short-form (s .args .w) (s .pre .0) (s .pre .1) (c .before .before .before .before .before .before .before .if1 .i) (size (c .before .before .before .before .before .before .before)) (c .before .before .before .before .if4 .left))
 
 pub push-whole-spec : {M : Type 1} → statement M
 push-whole-spec =
     tie.close
     (tie.spec
+    sub-i
     sub-put1
     cast-put1
     put1-requires
@@ -87,14 +96,8 @@ push-whole-spec =
     put2-requires
     same-length-2
     returns-2
-    add-put2-2
-    cast-put2-3
-    cast-put2-4
-    put2-requires-2
-    same-length-3
-    returns-3
     cast-put3
     cast-put3-2
     put3-requires
-    same-length-4
-    returns-4)
+    same-length-3
+    returns-3)
