@@ -2,6 +2,7 @@
 //!
 //!     bench [--rounds N] FONTS..
 //!     bench --ours-only FONT
+//!     bench --least [--rounds N] FONTS..
 //!
 //! Ours gets 256 stem records, 256 entries of the command store and 4,096 bytes of output, and leaves the stores
 //! all zeros; the Rust takes its own memory. A time is the median of the rounds, and the thread's own.
@@ -528,6 +529,72 @@ fn widths(rounds: usize) {
     }
 }
 
+/// Whether the offsets of a bank do not fall: what is to be read of it before a run, whatever the glyph calls.
+fn offsets_rise(bank: &[u8]) -> bool {
+    let count = usize::from(u16::from_be_bytes([bank[0], bank[1]]));
+    let offsets = bank[2..6 + 4 * count].chunks_exact(4);
+    let mut before = 0;
+    for o in offsets {
+        let offset = u32::from_be_bytes(o.try_into().expect("four bytes"));
+        if offset < before {
+            return false;
+        }
+        before = offset;
+    }
+    true
+}
+
+/// What the contract alone takes of each glyph, whatever the code: filling what is lent with zeros, and reading the
+/// bank's offsets. Beside half of the Rust's time, and for the empty glyph beside all of it.
+fn least(paths: &[String], rounds: usize) {
+    let mut stores = Stores::usual();
+    let identity = &MATRICES[0].1;
+    println!("| glyphs of | the Rust, ns a glyph | zeros, ns | offsets, ns | ours, ns a glyph |");
+    println!("|---|---|---|---|---|");
+    let empty = [alone(&[], &[], NOT_ENCRYPTED, &mut stores)];
+    least_row("the empty glyph", &empty, &mut stores, identity, 3_000, rounds);
+    for path in paths {
+        let read = font::read_all(std::slice::from_ref(path));
+        let last = path.trim_end_matches('/').rsplit('/').next().unwrap_or(path);
+        let sets: Vec<Set> = read.iter().map(|f| of_font(f, &mut stores, identity).0).collect();
+        let label = format!("{last} ({} fonts), identity", read.len());
+        least_row(&label, &sets, &mut stores, identity, 1, rounds);
+    }
+}
+
+fn least_row(label: &str, sets: &[Set], stores: &mut Stores, m: &[f64; 6], times: usize, rounds: usize) {
+    let matrix = matrix_of(m);
+    let glyphs: usize = sets.iter().map(|s| s.cases.len()).sum();
+    let mut sums = [0.0; 4];
+    for s in sets {
+        let mut all: [Vec<f64>; 4] = Default::default();
+        for _ in 0..rounds {
+            all[0].push(time_rust(s, &matrix, What::Convert, times));
+            let start = now();
+            for case in (0..times).flat_map(|_| &s.cases) {
+                black_box(case);
+                // All of a record, what lies between its fields too: the fastest way.
+                unsafe { stores.stems.as_mut_ptr().write_bytes(0, stores.stems.len()) };
+                stores.commands.fill(0);
+                stores.out.fill(0);
+                black_box(&mut *stores);
+            }
+            all[1].push((now() - start) / times as f64);
+            let start = now();
+            for case in (0..times).flat_map(|_| &s.cases) {
+                assert!(black_box(offsets_rise(black_box(&case.subrs.bank))));
+            }
+            all[2].push((now() - start) / times as f64);
+            all[3].push(time_ours(s, stores, m, What::Convert, times));
+        }
+        for (sum, times) in sums.iter_mut().zip(all) {
+            *sum += median(times);
+        }
+    }
+    let [theirs, zeros, offsets, ours] = sums.map(|t| t / glyphs as f64);
+    println!("| {label} | {theirs:.0} | {zeros:.0} | {offsets:.0} | {ours:.0} |");
+}
+
 fn main() {
     let mut words: Vec<String> = std::env::args().skip(1).collect();
     if words.first().is_some_and(|w| w == "--ours-only") {
@@ -549,10 +616,18 @@ fn main() {
         }
         return;
     }
+    let only_least = words.first().is_some_and(|w| w == "--least");
+    if only_least {
+        words.remove(0);
+    }
     let mut rounds = 11;
     if words.first().is_some_and(|w| w == "--rounds") {
         rounds = words[1].parse().expect("a count of rounds");
         words.drain(..2);
+    }
+    if only_least {
+        least(&words, rounds);
+        return;
     }
     fonts(&words, rounds);
     growth(15);
