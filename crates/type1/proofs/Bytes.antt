@@ -8,27 +8,30 @@ use mathlib.Core.Bool.{Bool, true, false, cond, true≢false}
 use mathlib.Core.List.{List, [], _∷_, _++_}
 use borrow.Author.Tests.{lt-ltb, le-ltb, ne-eqb, le-leb, lt-leb, eqb-true, eqb-false}
 use lib.Bits.{bitXor}
-use lib.Dec.{eqb, ltb, leb, lit≤}
+use lib.Dec.{T, eqb, ltb, leb, lit≤}
 use lib.IntN.{ℤ}
 use lib.ListN.{length, getD, take, drop, set, length-set, length-take}
 use lib.Seq.{take-suc-set}
 use lib.Arith.{lt-of-le-ne}
 use lib.Ieee.{Float}
-use Rattle.charstring.specs.Cipher.{step, plainByte}
+use Rattle.charstring.specs.Cipher.{Bytes, step, plainByte}
 use Rattle.charstring.specs.Cursor.{after, byteAt, rest}
-use Rattle.charstring.specs.Laws.{rest-more, rest-none, rest-length}
+use Rattle.charstring.specs.Laws.{rest-more, rest-none, rest-length, rest-bytes}
 use Rattle.type1.specs.declared.St.{St}
 use Rattle.type1.specs.declared.Tok.{Tok}
 use Rattle.type1.specs.declared.Num.{Num}
 use Rattle.type1.specs.declared.Ran.{Ran}
 use Rattle.type1.specs.declared.Drawn.{Drawn}
-use Rattle.type1.specs.Operator.{Operator, ofByte, ofEscape}
+use Rattle.type1.specs.Operator.{Operator, closepath, ofByte, ofEscape}
 use Rattle.type1.specs.Number.{Token, cut, number, operator, token, tokenTwo, tokenFive, tokenEscape, oneByte, twoBytes, twoBytesBelow, fourBytes, double}
 use Rattle.type1.specs.State.{State, withOperands}
 use Rattle.type1.specs.Run.{pick, Limits, within, Outcome, going, returning, ending, refused, andThen, check, push, consume, operate, runBytes}
 use Rattle.type1.specs.Memory.{Mem, abs, Fit, Meets, operatorOf}
-use Rattle.type1.specs.Small.{ranOf}
-use Rattle.type1.specs.Reading.{cursorOf, byteOf, placed, tokOf, left, isQuick, drawnTo, Draws, DrawsAs, readMem, goesOn, Numbered, Operated, Reads}
+use Rattle.type1.specs.Small.{ranOf, withOpened}
+use Rattle.type1.specs.Sound.{Sound, SoundOut, SmallToken}
+use Rattle.type1.specs.SoundLaws.{sound-stable}
+use Rattle.type1.specs.StableLaws.{token-small}
+use Rattle.type1.specs.Reading.{cursorOf, byteOf, placed, tokOf, left, isRead, isQuick, drawnTo, Draws, ReadsAs, readMem, goesOn, Numbered, Operated, Reads}
 
 -- ---- keys of which only the last 16 bits count
 pub key-wide : (c key : ℕ) → c < 256 → (key * 52845 + (3954879 - c * 12691)) % 4294967296 % 65536 ≡ step c (key % 65536)
@@ -181,38 +184,35 @@ and-same (ending s) k k' h = refl
 and-same (refused n) k k' h = refl
 
 -- a step that goes on
-step-on : (r : Ran) (M : Mem) (o : Outcome) (k : State → Outcome) → Meets r M o → r .flow ≡ 0 → (andThen o k ≡ k (abs (r .st) M)) × Fit (r .st) M
-step-on r M (going s) k h z = (ap k (sym (h .1 .is)), h .1 .fit)
-step-on r M (returning s) k h z = absurd (let y : 1 ≡ 0 = sym (h .0) ∙ z in let x : ⊥ = omega arith in x)
-step-on r M (ending s) k h z = absurd (let y : 2 ≡ 0 = sym (h .0) ∙ z in let x : ⊥ = omega arith in x)
-step-on r M (refused i) k h z = absurd (let a = h .0 in let b = h .1 in let x : ⊥ = omega arith in x)
+pub goes : (o : Outcome) (k : State → Outcome) (r : Ran) (m : Mem) → Meets r m o → r .flow ≡ 0 → ((andThen o k ≡ k (abs (r .st) m)) × (Fit (r .st) m × (SoundOut o → Sound (abs (r .st) m))))
+goes (going s) k r m e z = (ap k (sym (e .1 .is)), (e .1 .fit, λ q. subst Sound (sym (e .1 .is)) q))
+goes (returning s) k r m e z = absurd (let y : 1 ≡ 0 = sym (e .0) ∙ z in let x : ⊥ = omega arith in x)
+goes (ending s) k r m e z = absurd (let y : 2 ≡ 0 = sym (e .0) ∙ z in let x : ⊥ = omega arith in x)
+goes (refused i) k r m e z = absurd (let a = e .0 in let b = e .1 in let x : ⊥ = omega arith in x)
 
--- an entry more, a command more
-drawn-less : (t u : St) (m m′ : Mem) → Fit t m → Fit u m′ → u .groups ≡ t .groups → u .entries ≡ t .entries + 1 → length (abs t m .drawn) < length (abs u m′ .drawn)
-unfolding abs
-drawn-less t u m m′ F F′ g k = let a = F .entries in let b = F′ .entries in omega arith
+pub quick-is : (c o b : Bool) → b ≡ isQuick c o → b ≡ true → (o ≡ true) × (c ≡ false)
+quick-is true o b e z = absurd (true≢false (sym (sym e ∙ z)))
+quick-is false o b e z = (sym e ∙ z, refl)
 
-pub quick-is : (t : St) (b : Bool) → b ≡ isQuick t → b ≡ true → (t .opened ≡ true) × (t .changed ≡ false)
-quick-is t b e z = go (t .changed) refl (sym e ∙ z)
-  where
-    go : (c : Bool) → t .changed ≡ c → pick c false (t .opened) ≡ true → (t .opened ≡ true) × (t .changed ≡ false)
-    go true q h = absurd (true≢false (sym h))
-    go false q h = (h, q)
+nine-is : ofByte 9 ≡ closepath
+unfolding ofByte
+nine-is = refl
 
 -- what was read so far: what is left does what the whole does
-pub record Going (code : List ℕ) (from start : ℕ) (e : Bool) (st : St) (ops₀ : List Float) (cmds₀ : List ℕ) (ops : List Float) (cmds : List ℕ) (i key n : ℕ) (x y : Float) (k : ℕ) : Type 0 where
-  pub fit : (m : Mem) → Fit st (readMem ops₀ cmds₀ m) → Fit (placed n x y k st) (readMem ops cmds m)
-  pub same : (m : Mem) (f : Operator → State → Outcome) → Fit st (readMem ops₀ cmds₀ m) → DrawsAs (within (length (m .stems)) (length cmds₀)) (length (abs (placed n x y k st) (readMem ops cmds m) .drawn)) f
-      → runBytes (within (length (m .stems)) (length cmds₀)) f (left code from start e) 0 (abs st (readMem ops₀ cmds₀ m)) ≡ runBytes (within (length (m .stems)) (length cmds₀)) f (left code i (key % 65536) e) 0 (abs (placed n x y k st) (readMem ops cmds m))
+pub record Going (code : List ℕ) (from start : ℕ) (e : Bool) (st : St) (ops₀ : List Float) (cmds₀ : List ℕ) (ops : List Float) (cmds : List ℕ) (i key n : ℕ) (x y : Float) (k : ℕ) (o : Bool) : Type 0 where
+  pub fit : (m : Mem) → Fit st (readMem ops₀ cmds₀ m) → Fit (placed n x y k (withOpened o st)) (readMem ops cmds m)
+  pub same : (m : Mem) (f : Operator → State → Outcome) → Fit st (readMem ops₀ cmds₀ m) → ReadsAs (within (length (m .stems)) (length cmds₀)) f
+      → runBytes (within (length (m .stems)) (length cmds₀)) f (left code from start e) 0 (abs st (readMem ops₀ cmds₀ m)) ≡ runBytes (within (length (m .stems)) (length cmds₀)) f (left code i (key % 65536) e) 0 (abs (placed n x y k (withOpened o st)) (readMem ops cmds m))
+  pub sound : (m : Mem) → Fit st (readMem ops₀ cmds₀ m) → Bytes code → Sound (abs st (readMem ops₀ cmds₀ m)) → Sound (abs (placed n x y k (withOpened o st)) (readMem ops cmds m))
   pub few : n ≤ 256
   pub space : 14 * k ≤ length cmds
   pub inside : i ≤ length code
   pub on : from ≤ i
   pub whole : length cmds ≡ length cmds₀
 
-module _ (code : List ℕ) (from start : ℕ) (e : Bool) (st : St) (ops₀ : List Float) (cmds₀ : List ℕ) (ops : List Float) (cmds : List ℕ) (i key n : ℕ) (x y : Float) (k : ℕ) (G : Going code from start e st ops₀ cmds₀ ops cmds i key n x y k) where
+module _ (code : List ℕ) (from start : ℕ) (e : Bool) (st : St) (ops₀ : List Float) (cmds₀ : List ℕ) (ops : List Float) (cmds : List ℕ) (i key n : ℕ) (x y : Float) (k : ℕ) (o : Bool) (G : Going code from start e st ops₀ cmds₀ ops cmds i key n x y k o) where
   abbrev here : St
-  here = placed n x y k st
+  here = placed n x y k (withOpened o st)
 
   abbrev state : Mem → State
   state m = abs here (readMem ops cmds m)
@@ -234,10 +234,18 @@ module _ (code : List ℕ) (from start : ℕ) (e : Bool) (st : St) (ops₀ : Lis
     next : (m : Mem) (f : Operator → State → Outcome) → runBytes (limits m) f (left code i (key % 65536) e) 0 (state m) ≡ consume (limits m) f (token v after-it) (state m) (runBytes (limits m) f after-it)
     next m f = one (limits m) f (state m) v after-it (left-read code i (key % 65536) e c v (k′ % 65536) h p q q′)
 
+    -- the first byte, and the rest, are bytes
+    byte-here : Bytes code → v < 256
+    byte-here b = subst Bytes (left-read code i (key % 65536) e c v (k′ % 65536) h p q q′) (rest-bytes (cursorOf i (key % 65536) e) code (omega arith) b) 0
+
+    bytes-after : Bytes code → Bytes after-it
+    bytes-after b = rest-bytes (cursorOf (i + 1) (k′ % 65536) e) code (omega arith) b
+
     pub at-operator : (u : St) (t : Tok) (d : List ℕ) → d ≡ cmds → u ≡ here → Operated code (i + 1) k′ e v u t → Reads code from start e st ops₀ cmds₀ t ops d
     at-operator u t d ed eu O = subst (λ (z : List ℕ). Reads code from start e st ops₀ cmds₀ t ops z) (sym ed) (record {
       fit = λ m F. subst (λ (z : St). Fit z (readMem ops cmds m)) (sym is-here) (G .fit m F);
-      same = λ m f F w. G .same m f F (subst (λ (z : St). DrawsAs (limits m) (length (abs z (readMem ops cmds m) .drawn)) f) is-here w) ∙ next m f ∙ go (eqb (t .flow) 0) refl m f;
+      sound = λ m F b q. subst (λ (z : St). Sound (abs z (readMem ops cmds m))) (sym is-here) (G .sound m F b q);
+      same = λ m f F w. G .same m f F w ∙ next m f ∙ go (eqb (t .flow) 0) refl m f;
       on = (let a = O .on .0 in let b = G .on in omega arith);
       whole = G .whole;
       number = λ a b. subst (λ (j : ℕ). 3 ≤ j) (sym (O .cut a .0)) (lit≤ tt);
@@ -256,26 +264,28 @@ module _ (code : List ℕ) (from start : ℕ) (e : Bool) (st : St) (ops₀ : Lis
             let w = O .cut (eqb-false (t .flow) 0 z) in
             ap (λ (a : Token). consume (limits m) f a (state m) (runBytes (limits m) f after-it)) (w .1) ∙ sym (simp (w .0))
 
+    -- an operator was done
+    did-so : (m : Mem) (f : Operator → State → Outcome) (op : Operator) → ReadsAs (limits m) f → T (isRead op) → token v after-it ≡ operator 0 op → runBytes (limits m) f (left code i (key % 65536) e) 0 (state m) ≡ andThen (operate (limits m) (refused 6) op (state m)) (runBytes (limits m) f after-it 0)
+    did-so m f op w r is = next m f ∙ ap (λ (a : Token). consume (limits m) f a (state m) (runBytes (limits m) f after-it)) is ∙ ap (λ (a : Outcome). andThen a (runBytes (limits m) f after-it 0)) (w op (state m) r)
+
     -- a line or a curve was listed
-    module _ (r : Drawn) (d : List ℕ) (op : st .opened ≡ true) (ch : st .changed ≡ false) (low : v < 32) (D : Draws v n x y k ops cmds r d) (z : r .done ≡ true) where
+    module _ (r : Drawn) (d : List ℕ) (op : o ≡ true) (ch : st .changed ≡ false) (low : v < 32) (D : Draws v n x y k ops cmds r d) (z : r .done ≡ true) where
       abbrev to : Ran
-      to = ranOf (drawnTo r k st) 0
+      to = ranOf (drawnTo r k (withOpened o st)) 0
 
       did : (m : Mem) → Fit st (readMem ops₀ cmds₀ m) → Meets to (readMem ops d m) (operate (limits m) (refused 6) (operatorOf v) (state m))
-      did m F = subst (λ (j : ℕ). Meets to (readMem ops d m) (operate (within (length (m .stems)) j) (refused 6) (operatorOf v) (state m))) (G .whole) (D .done z st m (state m) op ch (record { is = refl; fit = G .fit m F }))
+      did m F = subst (λ (j : ℕ). Meets to (readMem ops d m) (operate (within (length (m .stems)) j) (refused 6) (operatorOf v) (state m))) (G .whole) (D .done z (withOpened o st) m (state m) op ch (record { is = refl; fit = G .fit m F }))
 
-      fits : (m : Mem) → Fit st (readMem ops₀ cmds₀ m) → Fit (drawnTo r k st) (readMem ops d m)
-      fits m F = step-on to (readMem ops d m) (operate (limits m) (refused 6) (operatorOf v) (state m)) (λ s. going s) (did m F) refl .1
+      after-did : (m : Mem) (f : State → Outcome) → Fit st (readMem ops₀ cmds₀ m) → ((andThen (operate (limits m) (refused 6) (operatorOf v) (state m)) f ≡ f (abs (to .st) (readMem ops d m))) × (Fit (to .st) (readMem ops d m) × (SoundOut (operate (limits m) (refused 6) (operatorOf v) (state m)) → Sound (abs (to .st) (readMem ops d m)))))
+      after-did m f F = goes (operate (limits m) (refused 6) (operatorOf v) (state m)) f to (readMem ops d m) (did m F) refl
 
-      pub listed : Going code from start e st ops₀ cmds₀ ops d (i + 1) k′ 0 (r .x) (r .y) (k + 1)
+      pub listed : Going code from start e st ops₀ cmds₀ ops d (i + 1) k′ 0 (r .x) (r .y) (k + 1) o
       listed = record {
-        fit = fits;
+        fit = λ m F. after-did m (λ s. going s) F .1 .0;
+        sound = λ m F b s. after-did m (λ s. going s) F .1 .1 (sound-stable (limits m) .operator (refused 6) (operatorOf v) (state m) (G .sound m F b s) tt);
         same = λ m f F w.
-            let less = drawn-less here (drawnTo r k st) (readMem ops cmds m) (readMem ops d m) (G .fit m F) (fits m F) refl refl in
-            G .same m f F (λ o s a b. w o s a (let y = less in omega arith)) ∙ next m f
-            ∙ ap (λ (a : Token). consume (limits m) f a (state m) (runBytes (limits m) f after-it)) (token-op v after-it low (D .drawn z .1) ∙ ap (operator 0) (sym (operator-low v (omega arith))))
-            ∙ ap (λ (a : Outcome). andThen a (runBytes (limits m) f after-it 0)) (w (operatorOf v) (state m) (D .drawn z .0) less)
-            ∙ step-on to (readMem ops d m) (operate (limits m) (refused 6) (operatorOf v) (state m)) (runBytes (limits m) f after-it 0) (did m F) refl .0;
+            G .same m f F w ∙ did-so m f (operatorOf v) w (D .drawn z .0) (token-op v after-it low (D .drawn z .1) ∙ ap (operator 0) (sym (operator-low v (omega arith))))
+            ∙ after-did m (runBytes (limits m) f after-it 0) F .0;
         few = lit≤ tt;
         space = (let a = D .space z in let b = D .same in omega arith);
         inside = omega arith;
@@ -283,11 +293,48 @@ module _ (code : List ℕ) (from start : ℕ) (e : Bool) (st : St) (ops₀ : Lis
         whole = D .same ∙ G .whole;
       }
 
+    -- the subpath was closed
+    module _ (nine : v ≡ 9) where
+      closed-is : (m : Mem) → operate (limits m) (refused 6) closepath (state m) ≡ going (abs (placed 0 x y k (withOpened false st)) (readMem ops cmds m))
+      unfolding operate abs
+      closed-is m = refl
+
+      closed-fit : (m : Mem) → Fit here (readMem ops cmds m) → Fit (placed 0 x y k (withOpened false st)) (readMem ops cmds m)
+      closed-fit m F = record {
+        bounds = record { operands = lit≤ tt; postscript = F .bounds .postscript; points = F .bounds .points; hints = F .bounds .hints; last = F .bounds .last; groups = F .bounds .groups; entries = F .bounds .entries; ran = F .bounds .ran };
+        ops = F .ops;
+        ps = F .ps;
+        cells = F .cells;
+        edges = F .edges;
+        across = F .across;
+        stems = F .stems;
+        groups = F .groups;
+        entries = F .entries;
+        used = F .used;
+        below = F .below;
+        last = F .last;
+      }
+
+      pub closed : Going code from start e st ops₀ cmds₀ ops cmds (i + 1) k′ 0 x y k false
+      closed = record {
+        fit = λ m F. closed-fit m (G .fit m F);
+        sound = λ m F b s. subst SoundOut (closed-is m) (sound-stable (limits m) .operator (refused 6) closepath (state m) (G .sound m F b s) tt);
+        same = λ m f F w.
+            G .same m f F w ∙ did-so m f closepath w tt (token-op v after-it (omega arith) (λ t. let z : ⊥ = omega arith in z) ∙ ap (operator 0) (ap ofByte nine ∙ nine-is))
+            ∙ ap (λ (a : Outcome). andThen a (runBytes (limits m) f after-it 0)) (closed-is m);
+        few = lit≤ tt;
+        space = G .space;
+        inside = omega arith;
+        on = (let a = G .on in omega arith);
+        whole = G .whole;
+      }
+
     module _ (r : Num) (N : Numbered code (i + 1) k′ e v r) where
       -- a cut number
       pub at-cut : (u : St) (t : Tok) → r .cut ≡ true → u ≡ here → t ≡ tokOf u (i + 1) (k′ % 65536) 5 0 → Reads code from start e st ops₀ cmds₀ t ops cmds
       at-cut u t z eu et = subst (λ (a : Tok). Reads code from start e st ops₀ cmds₀ a ops cmds) (sym (et ∙ ap (λ (a : St). tokOf a (i + 1) (k′ % 65536) 5 0) eu)) (record {
         fit = G .fit;
+        sound = G .sound;
         same = λ m f F w. G .same m f F w ∙ next m f ∙ ap (λ (a : Token). consume (limits m) f a (state m) (runBytes (limits m) f after-it)) (N .cut z);
         on = (let b = G .on in omega arith);
         whole = G .whole;
@@ -298,18 +345,22 @@ module _ (code : List ℕ) (from start : ℕ) (e : Bool) (st : St) (ops₀ : Lis
       taken w = length-take n ops ∙ (let b = G .few in let z : min n (length ops) ≡ n = omega arith in z)
 
       -- a number is pushed, or finds the stack full
+      push-is : (m : Mem) (z : ℤ) → length ops ≡ 256 → (b : Bool) → leb (n + 1) 256 ≡ b → r .x ≡ double z → push (limits m) (double z) (state m) ≡ check b 15 (going (withOperands (take n ops ++ (r .x ∷ [])) (state m)))
+      unfolding push abs
+      push-is m z w b is eq =
+          ap (λ (a : Bool). check a 15 (going (withOperands (take n ops ++ (double z ∷ [])) (state m)))) (ap (λ (a : ℕ). leb (a + 1) 256) (taken w) ∙ is)
+          ∙ ap (λ (a : Float). check b 15 (going (withOperands (take n ops ++ (a ∷ [])) (state m)))) (sym eq)
+
       pushing : (m : Mem) (f : Operator → State → Outcome) (j : ℕ) (z : ℤ) → length ops ≡ 256 → (b : Bool) → leb (n + 1) 256 ≡ b → r .x ≡ double z
           → consume (limits m) f (number j z) (state m) (runBytes (limits m) f after-it) ≡ andThen (check b 15 (going (withOperands (take n ops ++ (r .x ∷ [])) (state m)))) (runBytes (limits m) f after-it j)
-      unfolding push abs
-      pushing m f j z w b is eq =
-          ap (λ (a : Bool). andThen (check a 15 (going (withOperands (take n ops ++ (double z ∷ [])) (state m)))) (runBytes (limits m) f after-it j)) (ap (λ (a : ℕ). leb (a + 1) 256) (taken w) ∙ is)
-          ∙ ap (λ (a : Float). andThen (check b 15 (going (withOperands (take n ops ++ (a ∷ [])) (state m)))) (runBytes (limits m) f after-it j)) (sym eq)
+      pushing m f j z w b is eq = ap (λ (a : Outcome). andThen a (runBytes (limits m) f after-it j)) (push-is m z w b is eq)
 
       pub at-full : (u : St) (t : Tok) → r .cut ≡ false → n ≡ 256 → u ≡ here → t ≡ tokOf u (i + 1) (k′ % 65536) 15 0 → Reads code from start e st ops₀ cmds₀ t ops cmds
       at-full u t z full eu et =
           let (j, w, tk, is, dr) = N .number z in
           subst (λ (a : Tok). Reads code from start e st ops₀ cmds₀ a ops cmds) (sym (et ∙ ap (λ (a : St). tokOf a (i + 1) (k′ % 65536) 15 0) eu)) (record {
             fit = G .fit;
+            sound = G .sound;
             same = λ m f F W. G .same m f F W ∙ next m f ∙ ap (λ (a : Token). consume (limits m) f a (state m) (runBytes (limits m) f after-it)) tk ∙ pushing m f j w (G .fit m F .ops) false (lt-leb (n + 1) 256 (omega arith)) is;
             on = (let b = G .on in omega arith);
             whole = G .whole;
@@ -317,11 +368,11 @@ module _ (code : List ℕ) (from start : ℕ) (e : Bool) (st : St) (ops₀ : Lis
           })
 
       -- the state with one operand more
-      more-state : (m : Mem) → n < length ops → withOperands (take n ops ++ (r .x ∷ [])) (state m) ≡ abs (placed (n + 1) x y k st) (readMem (set ops n (r .x)) cmds m)
+      more-state : (m : Mem) → n < length ops → withOperands (take n ops ++ (r .x ∷ [])) (state m) ≡ abs (placed (n + 1) x y k (withOpened o st)) (readMem (set ops n (r .x)) cmds m)
       unfolding abs
       more-state m less = ap (λ (d : List Float). withOperands d (state m)) (sym (ap (λ (j : ℕ). take j (set ops n (r .x))) (add-one n) ∙ take-suc-set ops n (r .x) less))
 
-      more-fit : (m : Mem) → n + 1 ≤ 256 → Fit here (readMem ops cmds m) → Fit (placed (n + 1) x y k st) (readMem (set ops n (r .x)) cmds m)
+      more-fit : (m : Mem) → n + 1 ≤ 256 → Fit here (readMem ops cmds m) → Fit (placed (n + 1) x y k (withOpened o st)) (readMem (set ops n (r .x)) cmds m)
       more-fit m few F = record {
         bounds = record { operands = few; postscript = F .bounds .postscript; points = F .bounds .points; hints = F .bounds .hints; last = F .bounds .last; groups = F .bounds .groups; entries = F .bounds .entries; ran = F .bounds .ran };
         ops = length-set ops n (r .x) ∙ F .ops;
@@ -337,12 +388,15 @@ module _ (code : List ℕ) (from start : ℕ) (e : Bool) (st : St) (ops₀ : Lis
         last = F .last;
       }
 
-      pub pushed : r .cut ≡ false → (n ≡ 256 → ⊥) → Going code from start e st ops₀ cmds₀ (set ops n (r .x)) cmds (r .next) (r .key) (n + 1) x y k
+      pub pushed : r .cut ≡ false → (n ≡ 256 → ⊥) → Going code from start e st ops₀ cmds₀ (set ops n (r .x)) cmds (r .next) (r .key) (n + 1) x y k o
       unfolding abs
       pushed z full =
           let (j, w, tk, is, dr) = N .number z in
           record {
             fit = λ m F. more-fit m below (G .fit m F);
+            sound = λ m F b s.
+                subst Sound (more-state m (let a = G .fit m F .ops in let y = below in omega arith))
+                (subst SoundOut (push-is m w (G .fit m F .ops) true (le-leb (n + 1) 256 below) is) (sound-stable (limits m) .number w (subst SmallToken tk (token-small v after-it (byte-here b) (bytes-after b))) (state m) (G .sound m F b s)));
             same = λ m f F W.
                 G .same m f F W ∙ next m f ∙ ap (λ (a : Token). consume (limits m) f a (state m) (runBytes (limits m) f after-it)) tk
                 ∙ pushing m f j w (G .fit m F .ops) true (le-leb (n + 1) 256 below) is
@@ -363,11 +417,12 @@ module _ (code : List ℕ) (from start : ℕ) (e : Bool) (st : St) (ops₀ : Lis
   unfolding runBytes
   at-end u t h h' eu et = subst (λ (a : Tok). Reads code from start e st ops₀ cmds₀ a ops cmds) (sym (et ∙ ap (λ (a : St). tokOf a i (key % 65536) 1 0) eu)) (record {
     fit = G .fit;
+    sound = G .sound;
     same = λ m f F w. G .same m f F w ∙ ap (λ (a : List ℕ). runBytes (limits m) f a 0 (state m)) (left-none code i (key % 65536) e h);
     on = omega arith;
     whole = G .whole;
     number = λ a b. absurd (b refl);
   })
 
-pub begins : (code : List ℕ) (from start : ℕ) (e : Bool) (st : St) (ops : List Float) (cmds : List ℕ) → start < 65536 → from < length code → st .operands ≤ 256 → 14 * st .entries ≤ length cmds → Going code from start e st ops cmds ops cmds from start (st .operands) (st .x) (st .y) (st .entries)
-begins code from start e st ops cmds q h n k = record { fit = λ m F. F; same = λ m f F w. ap (λ (a : ℕ). runBytes (within (length (m .stems)) (length cmds)) f (left code from a e) 0 (abs st (readMem ops cmds m))) (let z : start ≡ start % 65536 = omega arith in z); few = n; space = k; inside = omega arith; on = omega arith; whole = refl }
+pub begins : (code : List ℕ) (from start : ℕ) (e : Bool) (st : St) (ops : List Float) (cmds : List ℕ) → start < 65536 → from < length code → st .operands ≤ 256 → 14 * st .entries ≤ length cmds → Going code from start e st ops cmds ops cmds from start (st .operands) (st .x) (st .y) (st .entries) (st .opened)
+begins code from start e st ops cmds q h n k = record { fit = λ m F. F; sound = λ m F b s. s; same = λ m f F w. ap (λ (a : ℕ). runBytes (within (length (m .stems)) (length cmds)) f (left code from a e) 0 (abs st (readMem ops cmds m))) (let z : start ≡ start % 65536 = omega arith in z); few = n; space = k; inside = omega arith; on = omega arith; whole = refl }

@@ -175,15 +175,16 @@ fn four_bytes(a: u8, b: u8, c: u8, d: u8) -> f64
     }
 }
 
-// The state with so many operands held, another point and so many entries.
-fn place(st: St, n: usize, x: f64, y: f64, entries: usize) -> St
-    ensures { λ r. ⌜ r ≡ placed n x y entries st ⌝ }
+// The state with so many operands held, another point, so many entries, and a subpath open or not.
+fn place(st: St, n: usize, x: f64, y: f64, entries: usize, opened: bool) -> St
+    ensures { λ r. ⌜ r ≡ placed n x y entries (Small.withOpened opened st) ⌝ }
 {
     let mut s = st;
     s.operands = n;
     s.x = x;
     s.y = y;
     s.entries = entries;
+    s.opened = opened;
     s
 }
 
@@ -487,14 +488,14 @@ fn draw(v: u8, n: usize, x: f64, y: f64, k: usize, ops: &[f64; 256], cmds: &mut 
 }
 
 // Whether a line or a curve is one entry: a subpath is open, and the stems in force did not change.
-fn is_quick(st: St) -> bool
-    ensures { λ r. ⌜ r ≡ isQuick st ⌝ }
+fn is_quick(changed: bool, opened: bool) -> bool
+    ensures { λ r. ⌜ r ≡ isQuick changed opened ⌝ }
 {
-    if st.changed { false } else { st.opened }
+    if changed { false } else { opened }
 }
 
-// Reads numbers, which it pushes, and lines and curves, which it lists where `is_quick` says so, up to another
-// operator or the end of the bytes.
+// Reads numbers, which it pushes, closepath, and lines and curves, which it lists where `is_quick` says so, up to
+// another operator or the end of the bytes.
 fn token(
     code: &[u8],
     from: usize,
@@ -507,38 +508,59 @@ fn token(
     requires { ⌜ (from < length (now code)) × ((st .operands ≤ 256) × (14 * st .entries ≤ length (now cmds))) ⌝ }
     ensures { λ r. ⌜ Reads (now (code .entry)) from start encrypted st (now (ops .entry)) (now (cmds .entry)) r (now (ops .exit)) (now (cmds .exit)) ⌝ }
 {
-    let quick = is_quick(st);
     let mut i = from;
     let mut key = start as u32;
     let mut n = st.operands;
     let mut x = st.x;
     let mut y = st.y;
     let mut entries = st.entries;
+    let mut opened = st.opened;
     while i < code.len() {
         let c = code[i];
         let v = plain_of(c, key, encrypted);
         let k = key_after(c, key);
         if v < 32 {
-            if !quick {
-                return operator_at(code, i + 1, k, encrypted, v, place(st, n, x, y, entries));
+            if v == 9 {
+                n = 0;
+                opened = false;
+                i += 1;
+                key = k;
+            } else {
+                if !is_quick(st.changed, opened) {
+                    return operator_at(
+                        code,
+                        i + 1,
+                        k,
+                        encrypted,
+                        v,
+                        place(st, n, x, y, entries, opened),
+                    );
+                }
+                let d = draw(v, n, x, y, entries, ops, cmds);
+                if !d.done {
+                    return operator_at(
+                        code,
+                        i + 1,
+                        k,
+                        encrypted,
+                        v,
+                        place(st, n, x, y, entries, opened),
+                    );
+                }
+                n = 0;
+                x = d.x;
+                y = d.y;
+                entries += 1;
+                i += 1;
+                key = k;
             }
-            let d = draw(v, n, x, y, entries, ops, cmds);
-            if !d.done {
-                return operator_at(code, i + 1, k, encrypted, v, place(st, n, x, y, entries));
-            }
-            n = 0;
-            x = d.x;
-            y = d.y;
-            entries += 1;
-            i += 1;
-            key = k;
         } else {
             let w = number_at(code, i + 1, k, encrypted, v);
             if w.cut {
-                return found(place(st, n, x, y, entries), i + 1, short(k), 5, 0);
+                return found(place(st, n, x, y, entries, opened), i + 1, short(k), 5, 0);
             }
             if n == 256 {
-                return found(place(st, n, x, y, entries), i + 1, short(k), 15, 0);
+                return found(place(st, n, x, y, entries, opened), i + 1, short(k), 15, 0);
             }
             ops[n] = w.x;
             n += 1;
@@ -546,7 +568,7 @@ fn token(
             key = w.key;
         }
     }
-    found(place(st, n, x, y, entries), i, short(key), 1, 0)
+    found(place(st, n, x, y, entries, opened), i, short(key), 1, 0)
 }
 
 // ---- answers
