@@ -3,17 +3,17 @@ use mathlib.Core.Path.{_≡_, refl, sym, _∙_, ap, subst}
 use Prim.Native.Nat.{ℕ, zero, suc, _+_, _-_, _*_, _<_, _≤_}
 use native.Mathlib.Omega.{arith}
 use native.Mathlib.Nat.{suc-sub-suc, sub-zero}
-use mathlib.Core.Bool.{Bool, true, false, not, _&&_}
+use mathlib.Core.Bool.{Bool, true, false, not}
 use mathlib.Core.List.{List, [], _∷_, _++_}
 use lib.ListN.{length, take, getD}
 use lib.Seq.{paste, length-take-le}
-use lib.Dec.{T, eqb, ltb, eqb→eq, eqb-refl, lit≤, lit<, nltb→le, ltb→lt, lt→ltb}
+use lib.Dec.{T, eqb, ltb, eqb→eq, eqb-refl, lit≤, lit<, nltb→le, ltb→lt}
 use lib.Ieee.{Float, nan}
 use lib.Ieee.Scale.{finite}
 use Rattle.charstring.specs.declared.Cursor.{Cursor}
 use Rattle.charstring.specs.Cipher.{Bytes, plain}
 use Rattle.charstring.specs.Cursor.{start, rest}
-use Rattle.charstring.specs.Laws.{rest-start, rest-none, rest-bytes}
+use Rattle.charstring.specs.Laws.{rest-start, rest-none}
 use Rattle.bank.specs.Bank.{bytesAt, found}
 use Rattle.geometry.specs.declared.Point.{Point}
 use Rattle.type1.specs.declared.Stem.{Stem}
@@ -27,11 +27,12 @@ use Rattle.type1.specs.State.{State}
 use Rattle.type1.specs.Run.{pick, Limits, within, Outcome, going, returning, ending, refused, andThen, returned, Font, operate, callSubr, execute, runBytes, runBody}
 use Rattle.type1.specs.Memory.{Mem, pointsAt, stemsAt, flexIn, abs, Fit, Holds, Good, Meets, operatorOf, kept}
 use Rattle.type1.specs.Small.{ranOf, Finite}
-use Rattle.type1.specs.Reading.{cursorOf, isDrawn, DrawsAs, readMem, goesOn, Reads, Calls}
+use Rattle.type1.specs.Reading.{cursorOf, isRead, ReadsAs, readMem, goesOn, Reads, Calls}
 use Rattle.type1.specs.Sound.{All, OfFlex, GoodPoint, Sound, SoundOut}
 use Rattle.type1.specs.Cycle.{Ready, limitsOf, fontOf, opD, runD}
 use Rattle.type1.specs.Outcomes.{all-getD}
-use Rattle.type1.specs.SoundLaws.{callSubr-sound, execute-sound, runBytes-sound, runBody-sound}
+use Rattle.type1.specs.SoundLaws.{callSubr-sound, execute-sound, runBody-sound}
+use Rattle.type1.proofs.Bytes.{goes}
 
 -- ---- tests
 twice-not : (t : Bool) → T (not (not t)) → T t
@@ -56,18 +57,6 @@ not-picked false x y _ = refl
 not-t : (t : Bool) → (T t → ⊥) → T (not t)
 not-t true f = absurd (f tt)
 not-t false _ = tt
-
-both-t : (p q : Bool) → T p → T q → T (p && q)
-both-t true true _ _ = tt
-both-t true false _ h = h
-both-t false q h _ = h
-
-not-both : (p q : Bool) → T (not q) → T (not (p && q))
-not-both true q h = h
-not-both false q _ = tt
-
-not-less : (n : ℕ) → T (not (ltb n n))
-not-less n = not-t (ltb n n) (λ h. let l = ltb→lt n n h in let z : ⊥ = omega arith in z)
 
 -- ---- what callees ask
 getD-take : {A : Type 0} (n : ℕ) (l : List A) (i : ℕ) (d : A) → i < n → getD (take n l) i d ≡ getD l i d
@@ -185,7 +174,7 @@ other-call lim c d op.pop s h = refl
 other-call lim c d op.setcurrentpoint s h = refl
 other-call lim c d op.unknown s h = refl
 
-no-call : (o : Operator) → T (isDrawn o) → one-of o ≡ false
+no-call : (o : Operator) → T (isRead o) → one-of o ≡ false
 no-call op.hstem h = refl
 no-call op.vstem h = refl
 no-call op.vmoveto h = refl
@@ -213,10 +202,10 @@ no-call op.pop h = refl
 no-call op.setcurrentpoint h = refl
 no-call op.unknown h = refl
 
--- lines and curves are done alike, whatever a call does
-step-draws : (lim : Limits) (f : Font) (deep : List ℕ → State → Outcome) (o : Operator) (s : State) → T (isDrawn o) → execute lim f deep o s ≡ operate lim (refused 6) o s
+-- what is done as it is read is done alike, whatever a call does
+step-read : (lim : Limits) (f : Font) (deep : List ℕ → State → Outcome) (o : Operator) (s : State) → T (isRead o) → execute lim f deep o s ≡ operate lim (refused 6) o s
 unfolding execute
-step-draws lim f deep o s h = other-call lim (callSubr f deep s) (refused 6) o s (no-call o h)
+step-read lim f deep o s h = other-call lim (callSubr f deep s) (refused 6) o s (no-call o h)
 
 -- a table has callsubr nowhere, or not at b
 abbrev Without : List (ℕ × Operator) → ℕ → Type 0
@@ -279,12 +268,6 @@ stops (going s) k r m e f = absurd (f (e .0))
 stops (returning s) k r m e f = (back (r .flow) (e .0), e .1)
 stops (ending s) k r m e f = (stays (r .flow) (λ y. apart (r .flow) 1 2 y (e .0) (lit< tt)) ∙ e .0, e .1)
 stops (refused n) k r m e f = (stays (r .flow) (above (r .flow) n (e .0) (e .1)) ∙ e .0, e .1)
-
-goes : (o : Outcome) (k : State → Outcome) (r : Ran) (m : Mem) → Meets r m o → r .flow ≡ 0 → ((andThen o k ≡ k (abs (r .st) m)) × (Fit (r .st) m × (SoundOut o → Sound (abs (r .st) m))))
-goes (going s) k r m e z = (ap k (sym (e .1 .is)), (e .1 .fit, λ q. subst Sound (sym (e .1 .is)) q))
-goes (returning s) k r m e z = absurd (apart (r .flow) 0 1 z (e .0) (lit< tt))
-goes (ending s) k r m e z = absurd (apart (r .flow) 0 2 z (e .0) (lit< tt))
-goes (refused n) k r m e z = absurd (let no-way : ⊥ = omega (arith, e .0, e .1, z) in no-way)
 
 module _ (bank : List ℕ) (lenIV levels : ℕ) where
   abbrev font : Font
@@ -389,41 +372,19 @@ module _ (bank : List ℕ) (lenIV levels : ℕ) where
         fit-token : Fit (t .st) m₁
         fit-token = reads .fit m (on .ready .fit)
 
-        read-is : (f : Operator → State → Outcome) → DrawsAs lim (length (at .drawn)) f → runBytes lim f (rest (cursorOf i key enc) code) 0 (abs h m) ≡ goesOn t code enc lim f at
-        read-is f = subst (λ (l : Limits). DrawsAs l (length (at .drawn)) f → runBytes l f (rest (cursorOf i key enc) code) 0 (abs h m) ≡ goesOn t code enc l f at) limits-are (reads .same m f (on .ready .fit))
+        read-is : (f : Operator → State → Outcome) → ReadsAs lim f → runBytes lim f (rest (cursorOf i key enc) code) 0 (abs h m) ≡ goesOn t code enc lim f at
+        read-is f = subst (λ (l : Limits). ReadsAs l f → runBytes l f (rest (cursorOf i key enc) code) 0 (abs h m) ≡ goesOn t code enc l f at) limits-are (reads .same m f (on .ready .fit))
 
         going-on : T (not (not (eqb (t .flow) 0))) → (f : Operator → State → Outcome) → goesOn t code enc lim f at ≡ andThen (f (operatorOf (t .op)) at) (runBytes lim f (rest (cursorOf (t .next) (t .key) enc) code) 0)
         going-on z f =
             picked (eqb (t .flow) 0) (andThen (f (operatorOf (t .op)) at) (runBytes lim f (rest (cursorOf (t .next) (t .key) enc) code) 0)) (pick (eqb (t .flow) 1) (going at) (refused (t .flow))) (twice-not (eqb (t .flow) 0) z)
 
         step-is : runBytes lim (stepOf lim) (rest (cursorOf i key enc) code) 0 (abs h m) ≡ goesOn t code enc lim (stepOf lim) at
-        step-is = read-is (stepOf lim) (λ o s d l. step-draws lim font (deepOf lim) o s d)
-
-        -- what was drawn on the way, and then the end
-        abbrev drawnOnly : Operator → State → Outcome
-        drawnOnly o s = pick (isDrawn o && ltb (length (s .drawn)) (length (at .drawn))) (execute lim font (λ l u. ending u) o s) (ending s)
-
-        only-draws : DrawsAs lim (length (at .drawn)) drawnOnly
-        only-draws o s d l =
-            picked (isDrawn o && ltb (length (s .drawn)) (length (at .drawn))) (execute lim font (λ l u. ending u) o s) (ending s) (both-t (isDrawn o) (ltb (length (s .drawn)) (length (at .drawn))) d (lt→ltb (length (s .drawn)) (length (at .drawn)) l))
-            ∙ step-draws lim font (λ l u. ending u) o s d
-
-        only-sound : Bytes bank → (o : Operator) (s : State) → Sound s → SoundOut (drawnOnly o s)
-        only-sound b o s q = go (isDrawn o && ltb (length (s .drawn)) (length (at .drawn)))
-          where
-            go : (y : Bool) → SoundOut (pick y (execute lim font (λ l u. ending u) o s) (ending s))
-            go true = execute-sound lim font (λ l u. ending u) b (λ l u k r. r) o s q
-            go false = q
-
-        only-ends : (o : Operator) → drawnOnly o at ≡ ending at
-        only-ends o = not-picked (isDrawn o && ltb (length (at .drawn)) (length (at .drawn))) (execute lim font (λ l u. ending u) o at) (ending at) (not-both (isDrawn o) (ltb (length (at .drawn)) (length (at .drawn))) (not-less (length (at .drawn))))
+        step-is = read-is (stepOf lim) (step-read lim font (deepOf lim))
 
         -- the state at an operator
-        pub ready-token : Bytes bank → Bytes code → key < 65536 → T (not (not (eqb (t .flow) 0))) → Ready (t .st) m₁
-        ready-token bb b k z = record {
-          fit = fit-token;
-          sound = subst SoundOut (read-is drawnOnly only-draws ∙ going-on z drawnOnly ∙ ap (λ (o : Outcome). andThen o (runBytes lim drawnOnly (rest (cursorOf (t .next) (t .key) enc) code) 0)) (only-ends (operatorOf (t .op)))) (runBytes-sound lim drawnOnly (only-sound bb) (rest (cursorOf i key enc) code) 0 (abs h m) (rest-bytes (cursorOf i key enc) code k b) (on .ready .sound));
-        }
+        pub ready-token : Bytes code → Ready (t .st) m₁
+        ready-token b = record { fit = fit-token; sound = reads .sound m (on .ready .fit) b (on .ready .sound) }
 
         -- the bytes end, or what stands there is refused
         pub token-stopped : T (not (eqb (t .flow) 0)) → (r : Ran) → r ≡ ranOf (t .st) (pick (eqb (t .flow) 1) 0 (t .flow)) → Meets r m₁ fin

@@ -17,7 +17,7 @@ use Rattle.type1.specs.State.{Command, line, curve, State, plusZero}
 use Rattle.type1.specs.Run.{Limits, within, Outcome, refused, pointAt, isFinite, enter, list, lineBy, curveBy, operate}
 use Rattle.type1.specs.Memory.{Mem, Holds, Meets, operatorOf, withOps, withCmds, withStems, pointCommand}
 use Rattle.type1.specs.Small.{ranOf}
-use Rattle.type1.specs.Reading.{placed, drawnTo, isDrawn, Stores, Adds, Draws}
+use Rattle.type1.specs.Reading.{placed, drawnTo, isRead, Stores, Adds, Draws}
 use Rattle.type1.proofs.Store.{withEntries, enter-full, wrote-3, wrote-7, point-entered, curve-entered}
 use Rattle.type1.proofs.Groups.{Step, kept-none, commits-none, quiet-told}
 use Rattle.type1.proofs.Paths.{lists-on, lines-listed, line-open, curves-listed, curve-open}
@@ -102,7 +102,7 @@ curve-added x y dx1 dy1 dx2 dy2 dx3 dy3 x1 y1 x2 y2 x3 y3 k c d b is f S z = rec
 
 -- ---- the operators
 module _ (v n : ℕ) (x y : Float) (k : ℕ) (ops : List Float) (c : List ℕ) (r : Drawn) (d : List ℕ) where
-  drawn-by : (o : Operator) → operatorOf v ≡ o → T (isDrawn o) → (v ≡ 12 → ⊥) → (E : Limits → State → Outcome)
+  drawn-by : (o : Operator) → operatorOf v ≡ o → T (isRead o) → (v ≡ 12 → ⊥) → (E : Limits → State → Outcome)
       → ((t : St) (room : ℕ) → Step false (placed 0 x y k t) (ranOf (drawnTo r k t) 0) c d room E → Operates false (placed n x y k t) (ranOf (drawnTo r k t) 0) ops c d room o)
       → Adds E x y k c r d → Draws v n x y k ops c r d
   drawn-by o is dr not-12 E does A = record {
@@ -112,7 +112,7 @@ module _ (v n : ℕ) (x y : Float) (k : ℕ) (ops : List Float) (c : List ℕ) (
         let got = does t room (λ n u q j K. A .done w t room op ch n u q K) m s (refused 6) refl (quiet-told false (placed n x y k t) (withOps ops (withCmds c m)) s H ch) H in
         subst (λ (z : Operator). Meets q (withOps ops (withCmds d m)) (operate (within room (length c)) (refused 6) z s)) (sym is)
         (subst (λ (z : List Stem). Meets q (withOps ops (withCmds d (withStems z m))) (operate (within room (length c)) (refused 6) o s)) (kept-none (placed n x y k t) (drawnTo r k t) (m .edges) (m .across) (m .stems) refl) got);
-    drawn = λ w. (subst (λ (z : Operator). T (isDrawn z)) (sym is) dr, not-12);
+    drawn = λ w. (subst (λ (z : Operator). T (isRead z)) (sym is) dr, not-12);
     space = A .space;
     none = A .none;
     same = A .same;

@@ -1,5 +1,5 @@
 -- Definitions: what the functions that read bytes and call bodies say of the run (document 01, "Reading", "Bytes run"; T1, 6.2 and 6.4).
-use Prim.Native.Nat.{ℕ, _+_, _-_, _*_, _≤_, _<_}
+use Prim.Native.Nat.{ℕ, _+_, _-_, _*_, _%_, _≤_, _<_}
 use mathlib.Core.Path.{_≡_}
 use mathlib.Core.Bool.{Bool, true, false, cond}
 use mathlib.Core.List.{List}
@@ -8,7 +8,7 @@ use lib.ListN.{length, drop}
 use lib.IntN.{ℤ}
 use lib.Ieee.{Float}
 use Rattle.charstring.specs.declared.Cursor.{Cursor}
-use Rattle.charstring.specs.Cipher.{step, plainByte}
+use Rattle.charstring.specs.Cipher.{Bytes, plainByte}
 use Rattle.charstring.specs.Cursor.{rest}
 use Rattle.bank.specs.Bank.{bytesAt, found}
 use Rattle.type1.specs.declared.St.{St}
@@ -23,16 +23,14 @@ use Rattle.type1.specs.State.{Command, State}
 use Rattle.type1.specs.Run.{pick, Limits, within, Outcome, going, refused, andThen, returned, enter, operate, callSubr, runBytes}
 use Rattle.type1.specs.Memory.{Mem, abs, Fit, Holds, Meets, withOps, withCmds, after, operatorOf}
 use Rattle.type1.specs.Small.{ranOf}
+use Rattle.type1.specs.Sound.{Sound}
 
 abbrev pub cursorOf : ℕ → ℕ → Bool → Cursor
 cursorOf at key encrypted = record { at = at; key = key; encrypted = encrypted }
 
--- the plain byte of the byte c, and the key after it
+-- the plain byte of the byte c
 abbrev pub byteOf : ℕ → ℕ → Bool → ℕ
 byteOf c key encrypted = cond encrypted (plainByte c key) c
-
-abbrev pub keyOf : ℕ → ℕ → Bool → ℕ
-keyOf c key encrypted = cond encrypted (step c key) key
 
 -- the state with another number of operands
 abbrev pub withCount : ℕ → St → St
@@ -49,51 +47,51 @@ tokOf t next key flow op = record { st = t; next = next; key = key; flow = flow;
 abbrev pub left : List ℕ → ℕ → ℕ → Bool → List ℕ
 left code at key encrypted = rest (cursorOf at key encrypted) code
 
--- the number that starts with the byte v, with the bytes from i on after it
+-- the number that starts with the byte v, with the bytes from i on after it; of a key only the last 16 bits count
 pub record Numbered (code : List ℕ) (i key : ℕ) (encrypted : Bool) (v : ℕ) (r : Num) : Type 0 where
-  pub number : r .cut ≡ false → (m : ℕ) × (z : ℤ) × (token v (left code i key encrypted) ≡ number m z) × (r .x ≡ double z) × (drop m (left code i key encrypted) ≡ left code (r .next) (r .key) encrypted)
-  pub cut : r .cut ≡ true → token v (left code i key encrypted) ≡ cut
+  pub number : r .cut ≡ false → (m : ℕ) × (z : ℤ) × (token v (left code i (key % 65536) encrypted) ≡ number m z) × (r .x ≡ double z) × (drop m (left code i (key % 65536) encrypted) ≡ left code (r .next) (r .key % 65536) encrypted)
+  pub cut : r .cut ≡ true → token v (left code i (key % 65536) encrypted) ≡ cut
   pub on : (i ≤ r .next) × (r .next ≤ length code)
 
 -- the operator that starts with the byte v, likewise
 pub record Operated (code : List ℕ) (i key : ℕ) (encrypted : Bool) (v : ℕ) (st : St) (t : Tok) : Type 0 where
-  pub operator : t .flow ≡ 0 → (m : ℕ) × (token v (left code i key encrypted) ≡ operator m (operatorOf (t .op))) × (drop m (left code i key encrypted) ≡ left code (t .next) (t .key) encrypted)
-  pub cut : (t .flow ≡ 0 → ⊥) → (t .flow ≡ 5) × (token v (left code i key encrypted) ≡ cut)
+  pub operator : t .flow ≡ 0 → (m : ℕ) × (token v (left code i (key % 65536) encrypted) ≡ operator m (operatorOf (t .op))) × (drop m (left code i (key % 65536) encrypted) ≡ left code (t .next) (t .key) encrypted)
+  pub cut : (t .flow ≡ 0 → ⊥) → (t .flow ≡ 5) × (token v (left code i (key % 65536) encrypted) ≡ cut)
   pub state : t .st ≡ st
   pub on : (i ≤ t .next) × (t .next ≤ length code)
 
--- ---- lines and curves that are listed as they are read: 5, 6, 7, 8, 30, 31 (document 01, "Reading" and "Hints"; T1, 6.4)
-abbrev pub isDrawn : Operator → Bool
-isDrawn op.hstem = false
-isDrawn op.vstem = false
-isDrawn op.vmoveto = false
-isDrawn op.rlineto = true
-isDrawn op.hlineto = true
-isDrawn op.vlineto = true
-isDrawn op.rrcurveto = true
-isDrawn op.closepath = false
-isDrawn op.callsubr = false
-isDrawn op.return = false
-isDrawn op.hsbw = false
-isDrawn op.endchar = false
-isDrawn op.rmoveto = false
-isDrawn op.hmoveto = false
-isDrawn op.vhcurveto = true
-isDrawn op.hvcurveto = true
-isDrawn op.dotsection = false
-isDrawn op.vstem3 = false
-isDrawn op.hstem3 = false
-isDrawn op.seac = false
-isDrawn op.sbw = false
-isDrawn op.div = false
-isDrawn op.callothersubr = false
-isDrawn op.pop = false
-isDrawn op.setcurrentpoint = false
-isDrawn op.unknown = false
+-- ---- operators that are done as they are read: lines and curves, which are listed, 5, 6, 7, 8, 30, 31, and closepath, 9 (document 01, "Reading" and "Hints"; T1, 6.4)
+abbrev pub isRead : Operator → Bool
+isRead op.hstem = false
+isRead op.vstem = false
+isRead op.vmoveto = false
+isRead op.rlineto = true
+isRead op.hlineto = true
+isRead op.vlineto = true
+isRead op.rrcurveto = true
+isRead op.closepath = true
+isRead op.callsubr = false
+isRead op.return = false
+isRead op.hsbw = false
+isRead op.endchar = false
+isRead op.rmoveto = false
+isRead op.hmoveto = false
+isRead op.vhcurveto = true
+isRead op.hvcurveto = true
+isRead op.dotsection = false
+isRead op.vstem3 = false
+isRead op.hstem3 = false
+isRead op.seac = false
+isRead op.sbw = false
+isRead op.div = false
+isRead op.callothersubr = false
+isRead op.pop = false
+isRead op.setcurrentpoint = false
+isRead op.unknown = false
 
 -- a subpath is open, and the stems in force did not change: a line or a curve is then one entry, with no move and no group before it
-abbrev pub isQuick : St → Bool
-isQuick t = pick (t .changed) false (t .opened)
+abbrev pub isQuick : Bool → Bool → Bool
+isQuick changed opened = pick changed false opened
 
 -- entry k was listed, or has no room
 pub record Stores (x : Command) (k : ℕ) (c : List ℕ) (r : Bool) (d : List ℕ) : Type 0 where
@@ -118,14 +116,14 @@ pub record Adds (D : Limits → State → Outcome) (x y : Float) (k : ℕ) (c : 
 pub record Draws (v n : ℕ) (x y : Float) (k : ℕ) (ops : List Float) (c : List ℕ) (r : Drawn) (d : List ℕ) : Type 0 where
   pub done : r .done ≡ true → (t : St) (m : Mem) (s : State) → t .opened ≡ true → t .changed ≡ false
       → Holds (placed n x y k t) (withOps ops (withCmds c m)) s → Meets (ranOf (drawnTo r k t) 0) (withOps ops (withCmds d m)) (operate (within (length (m .stems)) (length c)) (refused 6) (operatorOf v) s)
-  pub drawn : r .done ≡ true → T (isDrawn (operatorOf v)) × (v ≡ 12 → ⊥)
+  pub drawn : r .done ≡ true → T (isRead (operatorOf v)) × (v ≡ 12 → ⊥)
   pub space : r .done ≡ true → 14 * (k + 1) ≤ length c
   pub none : r .done ≡ false → d ≡ c
   pub same : length d ≡ length c
 
--- f does these operators as the run does, while fewer than k commands are listed
-abbrev pub DrawsAs : Limits → ℕ → (Operator → State → Outcome) → Type 0
-DrawsAs lim k f = (o : Operator) (s : State) → T (isDrawn o) → length (s .drawn) < k → f o s ≡ operate lim (refused 6) o s
+-- f does these operators as the run does
+abbrev pub ReadsAs : Limits → (Operator → State → Outcome) → Type 0
+ReadsAs lim f = (o : Operator) (s : State) → T (isRead o) → f o s ≡ operate lim (refused 6) o s
 
 -- what the bytes do from a token on: an operator, then the bytes after it; the end; a refusal
 abbrev pub goesOn : Tok → List ℕ → Bool → Limits → (Operator → State → Outcome) → State → Outcome
@@ -141,8 +139,9 @@ readMem o c m = withOps o (withCmds c m)
 -- the bytes from a place on were read up to the token t
 pub record Reads (code : List ℕ) (from key : ℕ) (encrypted : Bool) (st : St) (ops : List Float) (cmds : List ℕ) (t : Tok) (exit : List Float) (cexit : List ℕ) : Type 0 where
   pub fit : (m : Mem) → Fit st (readMem ops cmds m) → Fit (t .st) (readMem exit cexit m)
-  pub same : (m : Mem) (f : Operator → State → Outcome) → Fit st (readMem ops cmds m) → DrawsAs (within (length (m .stems)) (length cmds)) (length (abs (t .st) (readMem exit cexit m) .drawn)) f
+  pub same : (m : Mem) (f : Operator → State → Outcome) → Fit st (readMem ops cmds m) → ReadsAs (within (length (m .stems)) (length cmds)) f
       → runBytes (within (length (m .stems)) (length cmds)) f (rest (cursorOf from key encrypted) code) 0 (abs st (readMem ops cmds m)) ≡ goesOn t code encrypted (within (length (m .stems)) (length cmds)) f (abs (t .st) (readMem exit cexit m))
+  pub sound : (m : Mem) → Fit st (readMem ops cmds m) → Bytes code → Sound (abs st (readMem ops cmds m)) → Sound (abs (t .st) (readMem exit cexit m))
   pub on : from < t .next
   pub whole : length cexit ≡ length cmds
   pub number : (t .flow ≡ 0 → ⊥) → (t .flow ≡ 1 → ⊥) → 3 ≤ t .flow

@@ -4,13 +4,13 @@
 ghost use mathlib.Core.Path.{_≡_};
 ghost use mathlib.Core.Bool.{Bool, true, false, not, cond, _&&_};
 ghost use mathlib.Core.List.{List, [], _∷_, _++_};
-ghost use Prim.Native.Nat.{ℕ, _+_, _-_, _*_, _≤_, _<_};
+ghost use Prim.Native.Nat.{ℕ, _+_, _-_, _*_, _%_, _≤_, _<_};
 ghost use lib.ListN.{length, getD, take, drop, set, replicate};
 ghost use lib.Seq.{paste};
 ghost use lib.Dec.{T, eqb, ltb, leb};
 ghost use lib.Ieee.{Float, nan, fin};
 ghost use lib.Ieee.Scale.{finite};
-ghost use Rattle.charstring.specs.Cipher.{maxCharstringBytes};
+ghost use Rattle.charstring.specs.Cipher.{step, maxCharstringBytes};
 ghost use Rattle.charstring.specs.Cursor.{start};
 ghost use Rattle.bank.specs.Bank.{Valid};
 ghost use Rattle.type1.specs.Number as Number;
@@ -20,7 +20,7 @@ ghost use Rattle.type1.specs.Operator as Op;
 ghost use Rattle.type1.specs.Run as Run;
 ghost use Rattle.type1.specs.Run.{pick, within, stemOf, pointAt, isFinite, operate};
 ghost use Rattle.type1.specs.Memory.{Mem, stemAt, stemsAt, Bounds, Good, Holds, Meets, operatorOf, withOps, withPs, withCells, withCmds, withHints, withPath, after, Told, Plain, Path, pointCommand};
-ghost use Rattle.type1.specs.Reading.{cursorOf, byteOf, keyOf, withCount, placed, tokOf, Numbered, Operated, Stores, Adds, Draws, isQuick, Reads, Calls};
+ghost use Rattle.type1.specs.Reading.{cursorOf, byteOf, withCount, placed, tokOf, Numbered, Operated, Stores, Adds, Draws, isQuick, Reads, Calls};
 ghost use Rattle.type1.specs.Small as Small;
 ghost use Rattle.type1.specs.Cycle.{memOf, Ready, opD, runD};
 ghost use Rattle.type1.specs.Entry.{zeroSt, startFlow, numberOf, answerOf, Cleared};
@@ -121,26 +121,29 @@ fn wider(b: u8) -> u64
     b as u64
 }
 
-// The plain byte of the byte c.
-fn plain_of(c: u8, key: u16, encrypted: bool) -> u8
-    ensures { λ r. ⌜ r ≡ byteOf c key encrypted ⌝ }
+// The plain byte of the byte c. Only the last 16 bits of a key count.
+fn plain_of(c: u8, key: u32, encrypted: bool) -> u8
+    ensures { λ r. ⌜ r ≡ byteOf c (key % 65536) encrypted ⌝ }
 {
     if encrypted {
-        charstring::plain_byte(c, key)
+        c ^ ((key / 256 % 256) as u8)
     } else {
         c
     }
 }
 
-// The key after the byte c.
-fn key_after(c: u8, key: u16, encrypted: bool) -> u16
-    ensures { λ r. ⌜ r ≡ keyOf c key encrypted ⌝ }
+// The key after the byte c: 12691 is 65536 - 52845, and 3954879 is 22719 + 60 * 65536. The key's product stands apart, so that it need not wait for the byte.
+fn key_after(c: u8, key: u32) -> u32
+    ensures { λ r. ⌜ r % 65536 ≡ step c (key % 65536) ⌝ }
 {
-    if encrypted {
-        charstring::next_key(c, key)
-    } else {
-        key
-    }
+    (((key as u64) * 52845 + (3954879 - (c as u64) * 12691)) % 4294967296) as u32
+}
+
+// The last 16 bits of a key.
+fn short(key: u32) -> u16
+    ensures { λ r. ⌜ r ≡ key % 65536 ⌝ }
+{
+    (key % 65536) as u16
 }
 
 // 32 to 246.
@@ -172,15 +175,16 @@ fn four_bytes(a: u8, b: u8, c: u8, d: u8) -> f64
     }
 }
 
-// The state with so many operands held, another point and so many entries.
-fn place(st: St, n: usize, x: f64, y: f64, entries: usize) -> St
-    ensures { λ r. ⌜ r ≡ placed n x y entries st ⌝ }
+// The state with so many operands held, another point, so many entries, and a subpath open or not.
+fn place(st: St, n: usize, x: f64, y: f64, entries: usize, opened: bool) -> St
+    ensures { λ r. ⌜ r ≡ placed n x y entries (Small.withOpened opened st) ⌝ }
 {
     let mut s = st;
     s.operands = n;
     s.x = x;
     s.y = y;
     s.entries = entries;
+    s.opened = opened;
     s
 }
 
@@ -200,12 +204,12 @@ fn found(st: St, next: usize, key: u16, flow: u8, op: u16) -> Tok
 struct Num {
     x: f64,
     next: usize,
-    key: u16,
+    key: u32,
     cut: bool,
 }
 
 // The number whose first byte v was read, with the bytes from a place on.
-fn number_at(code: &[u8], i: usize, key: u16, encrypted: bool, v: u8) -> Num
+fn number_at(code: &[u8], i: usize, key: u32, encrypted: bool, v: u8) -> Num
     requires { ⌜ (32 ≤ v) × (i ≤ length (now code)) ⌝ }
     ensures { λ r. ⌜ Numbered (now (code .entry)) i key encrypted v r ⌝ }
 {
@@ -230,7 +234,7 @@ fn number_at(code: &[u8], i: usize, key: u16, encrypted: bool, v: u8) -> Num
         return Num {
             x: two_bytes(v, plain_of(c, key, encrypted)),
             next: i + 1,
-            key: key_after(c, key, encrypted),
+            key: key_after(c, key),
             cut: false,
         };
     }
@@ -246,9 +250,9 @@ fn number_at(code: &[u8], i: usize, key: u16, encrypted: bool, v: u8) -> Num
     let c2 = code[i + 1];
     let c3 = code[i + 2];
     let c4 = code[i + 3];
-    let k2 = key_after(c1, key, encrypted);
-    let k3 = key_after(c2, k2, encrypted);
-    let k4 = key_after(c3, k3, encrypted);
+    let k2 = key_after(c1, key);
+    let k3 = key_after(c2, k2);
+    let k4 = key_after(c3, k3);
     let x = four_bytes(
         plain_of(c1, key, encrypted),
         plain_of(c2, k2, encrypted),
@@ -258,25 +262,25 @@ fn number_at(code: &[u8], i: usize, key: u16, encrypted: bool, v: u8) -> Num
     Num {
         x,
         next: i + 4,
-        key: key_after(c4, k4, encrypted),
+        key: key_after(c4, k4),
         cut: false,
     }
 }
 
 // The operator whose first byte v was read, with the bytes from a place on.
-fn operator_at(code: &[u8], i: usize, key: u16, encrypted: bool, v: u8, st: St) -> Tok
+fn operator_at(code: &[u8], i: usize, key: u32, encrypted: bool, v: u8, st: St) -> Tok
     requires { ⌜ (v < 32) × (i ≤ length (now code)) ⌝ }
     ensures { λ r. ⌜ Operated (now (code .entry)) i key encrypted v st r ⌝ }
 {
     if v != 12 {
-        return found(st, i, key, 0, wide(v));
+        return found(st, i, short(key), 0, wide(v));
     }
     if code.len() - i < 1 {
-        return found(st, i, key, 5, 0);
+        return found(st, i, short(key), 5, 0);
     }
     let c = code[i];
     let e = plain_of(c, key, encrypted);
-    found(st, i + 1, key_after(c, key, encrypted), 0, 256 + wide(e))
+    found(st, i + 1, short(key_after(c, key)), 0, 256 + wide(e))
 }
 
 // ---- lines and curves of an open subpath, drawn as they are read
@@ -484,14 +488,14 @@ fn draw(v: u8, n: usize, x: f64, y: f64, k: usize, ops: &[f64; 256], cmds: &mut 
 }
 
 // Whether a line or a curve is one entry: a subpath is open, and the stems in force did not change.
-fn is_quick(st: St) -> bool
-    ensures { λ r. ⌜ r ≡ isQuick st ⌝ }
+fn is_quick(changed: bool, opened: bool) -> bool
+    ensures { λ r. ⌜ r ≡ isQuick changed opened ⌝ }
 {
-    if st.changed { false } else { st.opened }
+    if changed { false } else { opened }
 }
 
-// Reads numbers, which it pushes, and lines and curves, which it lists where `is_quick` says so, up to another
-// operator or the end of the bytes.
+// Reads numbers, which it pushes, closepath, and lines and curves, which it lists where `is_quick` says so, up to
+// another operator or the end of the bytes.
 fn token(
     code: &[u8],
     from: usize,
@@ -504,38 +508,59 @@ fn token(
     requires { ⌜ (from < length (now code)) × ((st .operands ≤ 256) × (14 * st .entries ≤ length (now cmds))) ⌝ }
     ensures { λ r. ⌜ Reads (now (code .entry)) from start encrypted st (now (ops .entry)) (now (cmds .entry)) r (now (ops .exit)) (now (cmds .exit)) ⌝ }
 {
-    let quick = is_quick(st);
     let mut i = from;
-    let mut key = start;
+    let mut key = start as u32;
     let mut n = st.operands;
     let mut x = st.x;
     let mut y = st.y;
     let mut entries = st.entries;
+    let mut opened = st.opened;
     while i < code.len() {
         let c = code[i];
         let v = plain_of(c, key, encrypted);
-        let k = key_after(c, key, encrypted);
+        let k = key_after(c, key);
         if v < 32 {
-            if !quick {
-                return operator_at(code, i + 1, k, encrypted, v, place(st, n, x, y, entries));
+            if v == 9 {
+                n = 0;
+                opened = false;
+                i += 1;
+                key = k;
+            } else {
+                if !is_quick(st.changed, opened) {
+                    return operator_at(
+                        code,
+                        i + 1,
+                        k,
+                        encrypted,
+                        v,
+                        place(st, n, x, y, entries, opened),
+                    );
+                }
+                let d = draw(v, n, x, y, entries, ops, cmds);
+                if !d.done {
+                    return operator_at(
+                        code,
+                        i + 1,
+                        k,
+                        encrypted,
+                        v,
+                        place(st, n, x, y, entries, opened),
+                    );
+                }
+                n = 0;
+                x = d.x;
+                y = d.y;
+                entries += 1;
+                i += 1;
+                key = k;
             }
-            let d = draw(v, n, x, y, entries, ops, cmds);
-            if !d.done {
-                return operator_at(code, i + 1, k, encrypted, v, place(st, n, x, y, entries));
-            }
-            n = 0;
-            x = d.x;
-            y = d.y;
-            entries += 1;
-            i += 1;
-            key = k;
         } else {
             let w = number_at(code, i + 1, k, encrypted, v);
             if w.cut {
-                return found(place(st, n, x, y, entries), i + 1, k, 5, 0);
+                return found(place(st, n, x, y, entries, opened), i + 1, short(k), 5, 0);
             }
             if n == 256 {
-                return found(place(st, n, x, y, entries), i + 1, k, 15, 0);
+                return found(place(st, n, x, y, entries, opened), i + 1, short(k), 15, 0);
             }
             ops[n] = w.x;
             n += 1;
@@ -543,7 +568,7 @@ fn token(
             key = w.key;
         }
     }
-    found(place(st, n, x, y, entries), i, key, 1, 0)
+    found(place(st, n, x, y, entries, opened), i, short(key), 1, 0)
 }
 
 // ---- answers

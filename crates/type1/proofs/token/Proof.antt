@@ -4,222 +4,233 @@ use borrow.Author.Tests.{not-true, not-false}
 use borrow.Author.Needs.{needs}
 use Prim.Native.Nat.{_-_}
 use lib.ListN.{length}
-use Rattle.type1.proofs.Bytes.{Going, begins, quick-is, at-operator, listed, at-cut, at-full, pushed, at-end}
+use Rattle.type1.proofs.Bytes.{Going, begins, quick-is, at-operator, listed, closed, at-cut, at-full, pushed, at-end, tok-short}
 use Rattle.type1.proofs.token.Statement.{statement}
 use Rattle.type1.proofs.token.Tie as tie
 
 abbrev Inv-loop : tie.InvT-loop
-Inv-loop code from start encrypted st ops₀ cmds₀ quick i₀ key₀ n₀ x₀ y₀ entries₀ ops cmds i key n x y entries =
-    Going code from start encrypted st ops₀ cmds₀ ops cmds i key n x y entries
+Inv-loop code from start encrypted st ops₀ cmds₀ i₀ key₀ n₀ x₀ y₀ entries₀ opened₀ ops cmds i key n x y entries opened =
+    Going code from start encrypted st ops₀ cmds₀ ops cmds i key n x y entries opened
 
 abbrev μ-loop : tie.MeasureT-loop
-μ-loop code from start encrypted st ops₀ cmds₀ quick i₀ key₀ n₀ x₀ y₀ entries₀ ops cmds i key n x y entries =
+μ-loop code from start encrypted st ops₀ cmds₀ i₀ key₀ n₀ x₀ y₀ entries₀ opened₀ ops cmds i key n x y entries opened =
     length code - i
 
--- src/lib.rt:512:9
-is-quick-requires : tie.Need-is-quick-requires Inv-loop μ-loop
-is-quick-requires c κs =
-    search needs
-
--- src/lib.rt:519:5
+-- src/lib.rt:518:5
 loop-holds : tie.Need-loop-holds Inv-loop μ-loop
 loop-holds c =
-    begins _ _ _ _ _ _ _ (c .before .before .before .pre .0) (c .before .before .before .pre .1 .0) (c .before .before .before .pre .1 .1)
+    begins _ _ _ _ _ _ _ (omega arith) (c .before .before .pre .0) (c .before .before .pre .1 .0) (c .before .before .pre .1 .1)
 
--- src/lib.rt:520:17
+-- src/lib.rt:519:17
 shared-slice-read-c : tie.Need-shared-slice-read-c Inv-loop μ-loop
-shared-slice-read-c c =
-    search needs
+shared-slice-read-c c = search needs
+
+-- src/lib.rt:520:13
+plain-of-requires : tie.Need-plain-of-requires Inv-loop μ-loop
+plain-of-requires c κs = search needs
 
 -- src/lib.rt:521:13
-plain-of-requires : tie.Need-plain-of-requires Inv-loop μ-loop
-plain-of-requires c κs =
-    search needs
-
--- src/lib.rt:522:13
 key-after-requires : tie.Need-key-after-requires Inv-loop μ-loop
-key-after-requires c κs =
-    search needs
+key-after-requires c κs = search needs
 
--- src/lib.rt:525:42
-add-operator-at : tie.Need-add-operator-at Inv-loop μ-loop
-add-operator-at c =
-    omega arith
-
--- src/lib.rt:525:66
-place-requires : tie.Need-place-requires Inv-loop μ-loop
-place-requires c κs =
-    search needs
-
--- src/lib.rt:525:17
-operator-at-requires : tie.Need-operator-at-requires Inv-loop μ-loop
-operator-at-requires c κs =
-    (c .before .before .if1 .taken, omega arith)
-
--- src/lib.rt:525:17
-same-length : tie.Need-same-length Inv-loop μ-loop
-same-length c =
-    search needs
-
--- src/lib.rt:525:17
-returns : tie.Need-returns Inv-loop μ-loop
-returns c =
-    at-operator _ _ _ _ _ _ _ _ _ _ _ _ _ _ _ (c .before .before .before .before .before .before .before .before .loop .inv) _ _ _ (search needs) refl (c .before .before .before .before .before .plain-of .ensures) (c .before .before .before .before .key-after .ensures) _ _ _ refl (c .before .place .ensures) (c .operator-at .ensures)
-
--- src/lib.rt:527:17
-draw-requires : tie.Need-draw-requires Inv-loop μ-loop
-draw-requires c κs =
-    (c .before .before .before .before .before .before .before .before .loop .inv .few, c .before .before .before .before .before .before .before .before .loop .inv .space)
-
--- src/lib.rt:529:42
-add-operator-at-2 : tie.Need-add-operator-at-2 Inv-loop μ-loop
-add-operator-at-2 c =
-    omega arith
-
--- src/lib.rt:529:66
-place-requires-2 : tie.Need-place-requires-2 Inv-loop μ-loop
-place-requires-2 c κs =
-    search needs
-
--- src/lib.rt:529:17
-operator-at-requires-2 : tie.Need-operator-at-requires-2 Inv-loop μ-loop
-operator-at-requires-2 c κs =
-    (c .before .before .before .before .before .before .before .before .before .if1 .taken, omega arith)
-
--- src/lib.rt:529:17
-same-length-2 : tie.Need-same-length-2 Inv-loop μ-loop
-same-length-2 c =
-    c .before .before .before .before .before .before .draw .ensures .same ∙ c .before .before .before .before .before .before .before .before .before .before .before .before .before .before .before .loop .inv .whole
-
--- src/lib.rt:529:17
-returns-2 : tie.Need-returns-2 Inv-loop μ-loop
-returns-2 c =
-    at-operator _ _ _ _ _ _ _ _ _ _ _ _ _ _ _ (c .before .before .before .before .before .before .before .before .before .before .before .before .before .before .before .loop .inv) _ _ _ (search needs) refl (c .before .before .before .before .before .before .before .before .before .before .before .before .plain-of .ensures) (c .before .before .before .before .before .before .before .before .before .before .before .key-after .ensures) _ _ _ (c .before .before .before .before .before .before .draw .ensures .none (not-true _ (c .before .before .if3 .taken))) (c .before .place2 .ensures) (c .operator-at2 .ensures)
-
--- src/lib.rt:534:13
-add-entries : tie.Need-add-entries Inv-loop μ-loop
-add-entries c =
-    omega (arith, c .before .before .before .before .draw .ensures .space (not-false _ (c .if3 .left)))
-
--- src/lib.rt:535:13
+-- src/lib.rt:526:17
 add-i : tie.Need-add-i Inv-loop μ-loop
 add-i c =
     omega arith
 
--- src/lib.rt:519:5
+-- src/lib.rt:518:5
 loop-less : tie.Need-loop-less Inv-loop μ-loop
 loop-less c =
     omega arith
 
--- src/lib.rt:519:5
+-- src/lib.rt:518:5
 loop-again : tie.Need-loop-again Inv-loop μ-loop
 loop-again c =
-    listed _ _ _ _ _ _ _ _ _ _ _ _ _ _ _ (c .before .before .before .before .before .before .before .before .before .before .before .before .before .loop .inv) _ _ _ (search needs) refl (c .before .before .before .before .before .before .before .before .before .before .plain-of .ensures) (c .before .before .before .before .before .before .before .before .before .key-after .ensures) _ _ (quick-is (c .before .before .before .before .before .before .before .before .before .before .before .before .before .before .before .before .before .args .st) _ (c .before .before .before .before .before .before .before .before .before .before .before .before .before .before .is-quick .ensures) (not-false _ (c .before .before .before .before .before .before .before .if2 .left)) .0) (quick-is (c .before .before .before .before .before .before .before .before .before .before .before .before .before .before .before .before .before .args .st) _ (c .before .before .before .before .before .before .before .before .before .before .before .before .before .before .is-quick .ensures) (not-false _ (c .before .before .before .before .before .before .before .if2 .left)) .1) (c .before .before .before .before .before .before .before .before .if1 .taken) (c .before .before .before .before .draw .ensures) (not-false _ (c .if3 .left))
+    closed _ _ _ _ _ _ _ _ _ _ _ _ _ _ _ _ (c .before .before .before .before .before .before .loop .inv) _ _ _ (search needs) refl (c .before .before .before .plain-of .ensures) (c .before .before .key-after .ensures) (c .if2 .taken)
 
--- src/lib.rt:538:37
+-- src/lib.rt:529:21
+is-quick-requires : tie.Need-is-quick-requires Inv-loop μ-loop
+is-quick-requires c κs = search needs
+
+-- src/lib.rt:530:46
+add-operator-at : tie.Need-add-operator-at Inv-loop μ-loop
+add-operator-at c =
+    omega arith
+
+-- src/lib.rt:530:70
+place-requires : tie.Need-place-requires Inv-loop μ-loop
+place-requires c κs = search needs
+
+-- src/lib.rt:530:21
+operator-at-requires : tie.Need-operator-at-requires Inv-loop μ-loop
+operator-at-requires c κs =
+    (c .before .before .before .before .if1 .taken, omega arith)
+
+-- src/lib.rt:530:21
+same-length : tie.Need-same-length Inv-loop μ-loop
+same-length c = search needs
+
+-- src/lib.rt:530:21
+returns : tie.Need-returns Inv-loop μ-loop
+returns c =
+    at-operator _ _ _ _ _ _ _ _ _ _ _ _ _ _ _ _ (c .before .before .before .before .before .before .before .before .before .before .loop .inv) _ _ _ (search needs) refl (c .before .before .before .before .before .before .before .plain-of .ensures) (c .before .before .before .before .before .before .key-after .ensures) _ _ _ refl (c .before .place .ensures) (c .operator-at .ensures)
+
+-- src/lib.rt:532:21
+draw-requires : tie.Need-draw-requires Inv-loop μ-loop
+draw-requires c κs =
+    (c .before .before .before .before .before .before .before .before .before .before .loop .inv .few, c .before .before .before .before .before .before .before .before .before .before .loop .inv .space)
+
+-- src/lib.rt:534:46
+add-operator-at-2 : tie.Need-add-operator-at-2 Inv-loop μ-loop
+add-operator-at-2 c =
+    omega arith
+
+-- src/lib.rt:534:70
+place-requires-2 : tie.Need-place-requires-2 Inv-loop μ-loop
+place-requires-2 c κs = search needs
+
+-- src/lib.rt:534:21
+operator-at-requires-2 : tie.Need-operator-at-requires-2 Inv-loop μ-loop
+operator-at-requires-2 c κs =
+    (c .before .before .before .before .before .before .before .before .before .before .before .if1 .taken, omega arith)
+
+-- src/lib.rt:534:21
+same-length-2 : tie.Need-same-length-2 Inv-loop μ-loop
+same-length-2 c =
+    c .before .before .before .before .before .before .draw .ensures .same ∙ c .before .before .before .before .before .before .before .before .before .before .before .before .before .before .before .before .before .loop .inv .whole
+
+-- src/lib.rt:534:21
+returns-2 : tie.Need-returns-2 Inv-loop μ-loop
+returns-2 c =
+    at-operator _ _ _ _ _ _ _ _ _ _ _ _ _ _ _ _ (c .before .before .before .before .before .before .before .before .before .before .before .before .before .before .before .before .before .loop .inv) _ _ _ (search needs) refl (c .before .before .before .before .before .before .before .before .before .before .before .before .before .before .plain-of .ensures) (c .before .before .before .before .before .before .before .before .before .before .before .before .before .key-after .ensures) _ _ _ (c .before .before .before .before .before .before .draw .ensures .none (not-true _ (c .before .before .if4 .taken))) (c .before .place2 .ensures) (c .operator-at2 .ensures)
+
+-- src/lib.rt:539:17
+add-entries : tie.Need-add-entries Inv-loop μ-loop
+add-entries c =
+    omega (arith, c .before .before .before .before .draw .ensures .space (not-false _ (c .if4 .left)))
+
+-- src/lib.rt:540:17
+add-i-2 : tie.Need-add-i-2 Inv-loop μ-loop
+add-i-2 c =
+    omega arith
+
+-- src/lib.rt:518:5
+loop-less-2 : tie.Need-loop-less-2 Inv-loop μ-loop
+loop-less-2 c =
+    omega arith
+
+-- src/lib.rt:518:5
+loop-again-2 : tie.Need-loop-again-2 Inv-loop μ-loop
+loop-again-2 c =
+    listed _ _ _ _ _ _ _ _ _ _ _ _ _ _ _ _ (c .before .before .before .before .before .before .before .before .before .before .before .before .before .before .before .loop .inv) _ _ _ (search needs) refl (c .before .before .before .before .before .before .before .before .before .before .before .before .plain-of .ensures) (c .before .before .before .before .before .before .before .before .before .before .before .key-after .ensures) _ _ (quick-is (c .before .before .before .before .before .before .before .before .before .before .before .before .before .before .before .before .before .before .args .st .changed) _ _ (c .before .before .before .before .before .before .before .before .is-quick .ensures) (not-false _ (c .before .before .before .before .before .before .before .if3 .left)) .0) (quick-is (c .before .before .before .before .before .before .before .before .before .before .before .before .before .before .before .before .before .before .args .st .changed) _ _ (c .before .before .before .before .before .before .before .before .is-quick .ensures) (not-false _ (c .before .before .before .before .before .before .before .if3 .left)) .1) (c .before .before .before .before .before .before .before .before .before .before .if1 .taken) (c .before .before .before .before .draw .ensures) (not-false _ (c .if4 .left))
+
+-- src/lib.rt:544:37
 add-number-at : tie.Need-add-number-at Inv-loop μ-loop
 add-number-at c =
     omega arith
 
--- src/lib.rt:538:17
+-- src/lib.rt:544:17
 number-at-requires : tie.Need-number-at-requires Inv-loop μ-loop
 number-at-requires c κs =
     (c .if1 .left, omega arith)
 
--- src/lib.rt:540:30
+-- src/lib.rt:546:30
 place-requires-3 : tie.Need-place-requires-3 Inv-loop μ-loop
-place-requires-3 c κs =
-    search needs
+place-requires-3 c κs = search needs
 
--- src/lib.rt:540:59
+-- src/lib.rt:546:67
 add-found : tie.Need-add-found Inv-loop μ-loop
 add-found c =
     omega arith
 
--- src/lib.rt:540:17
-found-requires : tie.Need-found-requires Inv-loop μ-loop
-found-requires c κs =
-    search needs
+-- src/lib.rt:546:74
+short-requires : tie.Need-short-requires Inv-loop μ-loop
+short-requires c κs = search needs
 
--- src/lib.rt:540:17
+-- src/lib.rt:546:17
+found-requires : tie.Need-found-requires Inv-loop μ-loop
+found-requires c κs = search needs
+
+-- src/lib.rt:546:17
 same-length-3 : tie.Need-same-length-3 Inv-loop μ-loop
 same-length-3 c =
-    c .before .before .before .before .before .before .before .before .before .loop .inv .whole
+    c .before .before .before .before .before .before .before .before .before .before .loop .inv .whole
 
--- src/lib.rt:540:17
+-- src/lib.rt:546:17
 returns-3 : tie.Need-returns-3 Inv-loop μ-loop
 returns-3 c =
-    at-cut _ _ _ _ _ _ _ _ _ _ _ _ _ _ _ (c .before .before .before .before .before .before .before .before .before .loop .inv) _ _ _ (search needs) refl (c .before .before .before .before .before .before .plain-of .ensures) (c .before .before .before .before .before .key-after .ensures) _ (c .before .before .before .number-at .ensures) _ _ (c .before .before .if4 .taken) (c .before .place3 .ensures) (c .found .ensures)
+    at-cut _ _ _ _ _ _ _ _ _ _ _ _ _ _ _ _ (c .before .before .before .before .before .before .before .before .before .before .loop .inv) _ _ _ (search needs) refl (c .before .before .before .before .before .before .before .plain-of .ensures) (c .before .before .before .before .before .before .key-after .ensures) _ (c .before .before .before .before .number-at .ensures) _ _ (c .before .before .before .if5 .taken) (c .before .before .place3 .ensures) (tok-short (c .found .ensures) (c .before .short .ensures))
 
--- src/lib.rt:543:30
+-- src/lib.rt:549:30
 place-requires-4 : tie.Need-place-requires-4 Inv-loop μ-loop
-place-requires-4 c κs =
-    search needs
+place-requires-4 c κs = search needs
 
--- src/lib.rt:543:59
+-- src/lib.rt:549:67
 add-found-2 : tie.Need-add-found-2 Inv-loop μ-loop
 add-found-2 c =
     omega arith
 
--- src/lib.rt:543:17
-found-requires-2 : tie.Need-found-requires-2 Inv-loop μ-loop
-found-requires-2 c κs =
-    search needs
+-- src/lib.rt:549:74
+short-requires-2 : tie.Need-short-requires-2 Inv-loop μ-loop
+short-requires-2 c κs = search needs
 
--- src/lib.rt:543:17
+-- src/lib.rt:549:17
+found-requires-2 : tie.Need-found-requires-2 Inv-loop μ-loop
+found-requires-2 c κs = search needs
+
+-- src/lib.rt:549:17
 same-length-4 : tie.Need-same-length-4 Inv-loop μ-loop
 same-length-4 c =
-    c .before .before .before .before .before .before .before .before .before .before .loop .inv .whole
+    c .before .before .before .before .before .before .before .before .before .before .before .loop .inv .whole
 
--- src/lib.rt:543:17
+-- src/lib.rt:549:17
 returns-4 : tie.Need-returns-4 Inv-loop μ-loop
 returns-4 c =
-    at-full _ _ _ _ _ _ _ _ _ _ _ _ _ _ _ (c .before .before .before .before .before .before .before .before .before .before .loop .inv) _ _ _ (search needs) refl (c .before .before .before .before .before .before .before .plain-of .ensures) (c .before .before .before .before .before .before .key-after .ensures) _ (c .before .before .before .before .number-at .ensures) _ _ (c .before .before .before .if4 .left) (c .before .before .if5 .taken) (c .before .place4 .ensures) (c .found2 .ensures)
+    at-full _ _ _ _ _ _ _ _ _ _ _ _ _ _ _ _ (c .before .before .before .before .before .before .before .before .before .before .before .loop .inv) _ _ _ (search needs) refl (c .before .before .before .before .before .before .before .before .plain-of .ensures) (c .before .before .before .before .before .before .before .key-after .ensures) _ (c .before .before .before .before .before .number-at .ensures) _ _ (c .before .before .before .before .if5 .left) (c .before .before .before .if6 .taken) (c .before .before .place4 .ensures) (tok-short (c .found2 .ensures) (c .before .short2 .ensures))
 
--- src/lib.rt:545:13
+-- src/lib.rt:551:13
 mul-ops : tie.Need-mul-ops Inv-loop μ-loop
-mul-ops c =
-    search needs
+mul-ops c = search needs
 
--- src/lib.rt:545:13
+-- src/lib.rt:551:13
 element-write-ops : tie.Need-element-write-ops Inv-loop μ-loop
-element-write-ops c =
-    search needs
+element-write-ops c = search needs
 
--- src/lib.rt:546:13
+-- src/lib.rt:552:13
 add-n : tie.Need-add-n Inv-loop μ-loop
 add-n c =
     omega (arith, c .before .before .before .before .before .before .before .before .loop .inv .few)
 
--- src/lib.rt:519:5
-loop-less-2 : tie.Need-loop-less-2 Inv-loop μ-loop
-loop-less-2 c =
+-- src/lib.rt:518:5
+loop-less-3 : tie.Need-loop-less-3 Inv-loop μ-loop
+loop-less-3 c =
     omega (arith, c .before .before .number-at .ensures .on .0, c .before .before .number-at .ensures .on .1)
 
--- src/lib.rt:519:5
-loop-again-2 : tie.Need-loop-again-2 Inv-loop μ-loop
-loop-again-2 c =
-    pushed _ _ _ _ _ _ _ _ _ _ _ _ _ _ _ (c .before .before .before .before .before .before .before .before .loop .inv) _ _ _ (search needs) refl (c .before .before .before .before .before .plain-of .ensures) (c .before .before .before .before .key-after .ensures) _ (c .before .before .number-at .ensures) (c .before .if4 .left) (c .if5 .left)
+-- src/lib.rt:518:5
+loop-again-3 : tie.Need-loop-again-3 Inv-loop μ-loop
+loop-again-3 c =
+    pushed _ _ _ _ _ _ _ _ _ _ _ _ _ _ _ _ (c .before .before .before .before .before .before .before .before .loop .inv) _ _ _ (search needs) refl (c .before .before .before .before .before .plain-of .ensures) (c .before .before .before .before .key-after .ensures) _ (c .before .before .number-at .ensures) (c .before .if5 .left) (c .if6 .left)
 
--- src/lib.rt:551:11
+-- src/lib.rt:557:11
 place-requires-5 : tie.Need-place-requires-5 Inv-loop μ-loop
-place-requires-5 c κs =
-    search needs
+place-requires-5 c κs = search needs
 
--- src/lib.rt:551:5
+-- src/lib.rt:557:51
+short-requires-3 : tie.Need-short-requires-3 Inv-loop μ-loop
+short-requires-3 c κs = search needs
+
+-- src/lib.rt:557:5
 found-requires-3 : tie.Need-found-requires-3 Inv-loop μ-loop
-found-requires-3 c κs =
-    search needs
+found-requires-3 c κs = search needs
 
--- src/lib.rt:500:1
+-- src/lib.rt:499:1
 same-length-5 : tie.Need-same-length-5 Inv-loop μ-loop
-same-length-5 c =
-    search needs
+same-length-5 c = search needs
 
--- src/lib.rt:500:1
+-- src/lib.rt:499:1
 returns-5 : tie.Need-returns-5 Inv-loop μ-loop
 returns-5 c =
-    at-end _ _ _ _ _ _ _ _ _ _ _ _ _ _ _ (c .before .before .before .loop .inv) _ _ (search needs) (c .before .before .before .before .before .before .before .pre .0) (c .before .place5 .ensures) (c .found3 .ensures)
+    at-end _ _ _ _ _ _ _ _ _ _ _ _ _ _ _ _ (c .before .before .before .before .loop .inv) _ _ (search needs) (c .before .before .before .before .before .before .before .pre .0) (c .before .before .place5 .ensures) (tok-short (c .found3 .ensures) (c .before .short3 .ensures))
 
 pub token-spec : {M : Type 1} → statement M
 token-spec =
@@ -227,11 +238,14 @@ token-spec =
     (tie.spec
     Inv-loop
     μ-loop
-    is-quick-requires
     loop-holds
     shared-slice-read-c
     plain-of-requires
     key-after-requires
+    add-i
+    loop-less
+    loop-again
+    is-quick-requires
     add-operator-at
     place-requires
     operator-at-requires
@@ -244,27 +258,30 @@ token-spec =
     same-length-2
     returns-2
     add-entries
-    add-i
-    loop-less
-    loop-again
+    add-i-2
+    loop-less-2
+    loop-again-2
     add-number-at
     number-at-requires
     place-requires-3
     add-found
+    short-requires
     found-requires
     same-length-3
     returns-3
     place-requires-4
     add-found-2
+    short-requires-2
     found-requires-2
     same-length-4
     returns-4
     mul-ops
     element-write-ops
     add-n
-    loop-less-2
-    loop-again-2
+    loop-less-3
+    loop-again-3
     place-requires-5
+    short-requires-3
     found-requires-3
     same-length-5
     returns-5)

@@ -222,7 +222,7 @@ module _ {M : Type 1} (𝓤 : URA M) (H : Heap 𝓤) (A : Atoms 𝓤) (W : Given
         assigns ! (addr ! (from ! (fld ! refl (hop ! (look-in ! 64 (sub ! 0 refl (whole !))) (stop !))))) (from ! (stop !)) (init ! 20 refl (tt, tt)) $
         assigns ! (agg ! (and-then ! (load ! (from ! (stop !)) (look ! 20 refl)) (and-then ! (load ! (from ! (fld ! refl (stop !))) (look-in ! 64 (sub ! 1 refl (whole !)))) (no-more !)))) (from ! (stop !)) (init ! 18 refl (tt, (tt, (record { fits = fitstems .0 }, tt)))) $
         -- `op`
-        move ! (6 ∷ []) $ use1 W (‵ (ShrSlice (named 0) κbank u8 .own xbank (sliceVal (xbank .ptr) (length (xbank .now)) ∷ [])) ⊛ ‵ (ShrSlice (named 0) κbank u8 .own xbank (sliceVal (xbank .ptr) (length (xbank .now)) ∷ []))) (shr-slice-copy 𝓤 H A W (named 0) κbank u8 .twice xbank (sliceVal (xbank .ptr) (length (xbank .now)) ∷ [])) $ split ! $ move ! (8 ∷ 1 ∷ []) $ join ! $ move ! (4 ∷ 5 ∷ []) $ lend-ref ! tt (Array f64 256) bops oops (zs1 .1 .1 .1 .1 .1 .0) (λ νops2 δops2. move ! (8 ∷ 9 ∷ []) $ lend-ref ! tt (Array f64 256) bps ops qs (λ νps2 δps2. move ! (10 ∷ 11 ∷ []) $ lend-ref ! tt (Array f64 19) bcells ocells cs (λ νcells2 δcells2. move ! (12 ∷ 13 ∷ []) $ lend-ref ! tt (Array f64 512) bedges oedges es (λ νedges2 δedges2. move ! (14 ∷ 15 ∷ []) $ lend-ref ! tt (Array bool 256) bacross oacross ks (λ νacross2 δacross2. move ! (12 ∷ 13 ∷ []) $ lend ! tt u64 mcmds bcmds ocmds (zs1 .1 .1 .1 .1 .1 .1 .0) (lcmds1 ∙ held .1 .1 .1 .0) (λ νcmds2 δcmds2. move ! (16 ∷ 17 ∷ []) $ lend ! tt T.the-row mstems bstems ostems zs (held .1 .1 .1 .1 .0) (λ νstems2 δstems2. move ! (2 ∷ 0 ∷ []) $ join ! $ move ! (3 ∷ 0 ∷ []) $ join ! $ move ! (4 ∷ 0 ∷ []) $ join ! $ move ! (5 ∷ 0 ∷ []) $ join ! $ move ! (6 ∷ 0 ∷ []) $ join ! $ move ! (7 ∷ 0 ∷ []) $ join ! $ move ! (8 ∷ 0 ∷ []) $ join ! $ asks-all ! fm N.the-row (Is N.the-row) (shows 𝓤 H A N.the-row) (Unit {0} × (Unit {0} × (Unit {0} × (Unit {0} × (Unit {0} × (List Float × (List Float × (List Float × (List Float × (List Bool × (List ℕ × (List Stem × Unit {0})))))))))))) (λ (r : N.the-row .Denot) (lasts : (Unit {0} × (Unit {0} × (Unit {0} × (Unit {0} × (Unit {0} × (List Float × (List Float × (List Float × (List Float × (List Bool × (List ℕ × (List Stem × Unit {0}))))))))))))). Meets r (memOf (lasts .1 .1 .1 .1 .1 .0) (lasts .1 .1 .1 .1 .1 .1 .0) (lasts .1 .1 .1 .1 .1 .1 .1 .0) (lasts .1 .1 .1 .1 .1 .1 .1 .1 .0) (lasts .1 .1 .1 .1 .1 .1 .1 .1 .1 .0) (lasts .1 .1 .1 .1 .1 .1 .1 .1 .1 .1 .0) (lasts .1 .1 .1 .1 .1 .1 .1 .1 .1 .1 .1 .0)) (opD (xbank .now) iv levels (r1 .op) (r1 .st) (memOf (zs1 .1 .1 .1 .1 .1 .0) qs cs es ks (zs1 .1 .1 .1 .1 .1 .1 .0) zs))) (λ (lasts : (Unit {0} × (Unit {0} × (Unit {0} × (Unit {0} × (Unit {0} × (List Float × (List Float × (List Float × (List Float × (List Bool × (List ℕ × (List Stem × Unit {0}))))))))))))). (fsep ftrue (fsep ftrue (fsep ftrue (fsep ftrue (fsep ftrue (fsep (fres δops2 ((Array f64 256) .coded .code (lasts .1 .1 .1 .1 .1 .0))) (fsep (fres δps2 ((Array f64 256) .coded .code (lasts .1 .1 .1 .1 .1 .1 .0))) (fsep (fres δcells2 ((Array f64 19) .coded .code (lasts .1 .1 .1 .1 .1 .1 .1 .0))) (fsep (fres δedges2 ((Array f64 512) .coded .code (lasts .1 .1 .1 .1 .1 .1 .1 .1 .0))) (fsep (fres δacross2 ((Array bool 256) .coded .code (lasts .1 .1 .1 .1 .1 .1 .1 .1 .1 .0))) (fsep (fsep (finally u64 δcmds2 (lasts .1 .1 .1 .1 .1 .1 .1 .1 .1 .1 .0)) (feq ℕ (length (lasts .1 .1 .1 .1 .1 .1 .1 .1 .1 .1 .0)) (length (zs1 .1 .1 .1 .1 .1 .1 .0)))) (fsep (fsep (finally T.the-row δstems2 (lasts .1 .1 .1 .1 .1 .1 .1 .1 .1 .1 .1 .0)) (feq ℕ (length (lasts .1 .1 .1 .1 .1 .1 .1 .1 .1 .1 .1 .0)) (length zs))) ftrue))))))))))))) (‵ (flft κbank qbank) ⊛ (‵ (flft (νops2 ∷ []) fullShare) ⊛ (‵ (flft (νps2 ∷ []) fullShare) ⊛ (‵ (flft (νcells2 ∷ []) fullShare) ⊛ (‵ (flft (νedges2 ∷ []) fullShare) ⊛ (‵ (flft (νacross2 ∷ []) fullShare) ⊛ (‵ (flft (νcmds2 ∷ []) fullShare) ⊛ (‵ (flft (νstems2 ∷ []) fullShare) ⊛ ‵ ftrue)))))))) ((‵ (flft κbank qbank) ⊛ ‵ (ShrSlice (named 0) κbank u8 .own xbank (sliceVal (xbank .ptr) (length (xbank .now)) ∷ []))) ⊛ ((‵ (flft (νops2 ∷ []) fullShare) ⊛ ‵ (OwnR (Array f64 256) bops oops (νops2 ∷ []) δops2 (zs1 .1 .1 .1 .1 .1 .0))) ⊛ ((‵ (flft (νps2 ∷ []) fullShare) ⊛ ‵ (OwnR (Array f64 256) bps ops (νps2 ∷ []) δps2 qs)) ⊛ ((‵ (flft (νcells2 ∷ []) fullShare) ⊛ ‵ (OwnR (Array f64 19) bcells ocells (νcells2 ∷ []) δcells2 cs)) ⊛ ((‵ (flft (νedges2 ∷ []) fullShare) ⊛ ‵ (OwnR (Array f64 512) bedges oedges (νedges2 ∷ []) δedges2 es)) ⊛ ((‵ (flft (νacross2 ∷ []) fullShare) ⊛ ‵ (OwnR (Array bool 256) bacross oacross (νacross2 ∷ []) δacross2 ks)) ⊛ ((‵ (flft (νcmds2 ∷ []) fullShare) ⊛ ‵ (Own u64 mcmds bcmds ocmds (νcmds2 ∷ []) δcmds2 (zs1 .1 .1 .1 .1 .1 .1 .0))) ⊛ (‵ (flft (νstems2 ∷ []) fullShare) ⊛ ‵ (Own T.the-row mstems bstems ostems (νstems2 ∷ []) δstems2 zs))))))))) (vint w16 (r1 .op) ∷ sliceVal (xbank .ptr) (length (xbank .now)) ∷ vint w64 iv ∷ vint w64 levels ∷ machS (r1 .st) ∷ vptr bops oops ∷ vptr bps ops ∷ vptr bcells ocells ∷ vptr bedges oedges ∷ vptr bacross oacross ∷ sliceVal (bcmds, ocmds) mcmds ∷ sliceVal (bstems, ostems) mstems ∷ []) (op-as 𝓤 H A mem run′ W C t below κbank qbank xbank (νops2 ∷ []) fullShare bops oops δops2 (zs1 .1 .1 .1 .1 .1 .0) (νps2 ∷ []) fullShare bps ops δps2 qs (νcells2 ∷ []) fullShare bcells ocells δcells2 cs (νedges2 ∷ []) fullShare bedges oedges δedges2 es (νacross2 ∷ []) fullShare bacross oacross δacross2 ks (νcmds2 ∷ []) fullShare mcmds bcmds ocmds δcmds2 (zs1 .1 .1 .1 .1 .1 .1 .0) (νstems2 ∷ []) fullShare mstems bstems ostems δstems2 zs ((r1 .op)) (iv) (levels) ((r1 .st)) ((LL.owed K.the-type K′.the-laws r1 (w1 ∷ []) is1) .1 .1 .1 .1 .0 .1) (iv-fits) (levels-fits) ((LL.owed K.the-type K′.the-laws r1 (w1 ∷ []) is1) .0) (need .0, (need .1 .0, (ready-token (xbank .now) iv levels (xcode .now) enc st (memOf ysops ysps yscells ysedges ysacross yscmds ysstems) i key h (memOf os qs cs es ks ms zs) (held .1 .1 .1 .1 .1 .1) (held .1 .1 .1 .1 .0) (held .1 .1 .1 .0) r1 (zs1 .1 .1 .1 .1 .1 .0) (zs1 .1 .1 .1 .1 .1 .1 .0) e1 (held .1 .1 .1 .1 .1 .0 .1) (held .1 .1 .1 .1 .1 .0 .0) (held .1 .0) go-on))) (omega (arith, measure))) (and-then ! (load ! (from ! (fld ! refl (stop !))) (look-in ! 45 (sub ! 4 refl (whole !)))) (and-then ! (load ! (from ! (stop !)) (look ! 77 refl)) (and-then ! (load ! (from ! (stop !)) (look ! 75 refl)) (and-then ! (load ! (from ! (stop !)) (look ! 73 refl)) (and-then ! (load ! (from ! (stop !)) (look ! 47 refl)) (and-then ! (load ! (from ! (stop !)) (look ! 27 refl)) (and-then ! (load ! (from ! (stop !)) (look ! 25 refl)) (and-then ! (load ! (from ! (stop !)) (look ! 23 refl)) (and-then ! (load ! (from ! (stop !)) (look ! 21 refl)) (and-then ! (load ! (from ! (stop !)) (look ! 19 refl)) (and-then ! (load ! (from ! (stop !)) (look ! 15 refl)) (and-then ! (load ! (from ! (stop !)) (look ! 11 refl)) (no-more !))))))))))))) (λ w2 r2 zs2 e2 is2. land ! (from ! (stop !)) (init ! 43 refl (typedN 𝓤 H A W r2 _ is2)) $ rewrite ! 43 (λ (u : Val). ‵ (fat fullShare tNt l₂₀ 0 u)) (ap only (LL.tells N.the-type N′.the-laws r2 (w2 ∷ []) is2)) refl $ drop ! $ split ! $ move ! (1 ∷ []) $ split ! $ move ! (1 ∷ []) $ split ! $ move ! (1 ∷ []) $ split ! $ move ! (1 ∷ []) $ split ! $ move ! (1 ∷ []) $ split ! $ move ! (1 ∷ []) $ split ! $ move ! (1 ∷ []) $ split ! $ move ! (1 ∷ []) $ drop ! $ move ! (8 ∷ []) $ fsplit ! $ drop ! $ fsplit ! $ drop ! $ fsplit ! $ drop ! $ fsplit ! $ drop ! $ fsplit ! $ drop ! $ fsplit ! $ move ! (1 ∷ []) $ fsplit ! $ move ! (1 ∷ []) $ fsplit ! $ move ! (1 ∷ []) $ fsplit ! $ move ! (1 ∷ []) $ fsplit ! $ move ! (1 ∷ []) $ fsplit ! $ fsplit ! $ move ! (1 ∷ []) $ feqL ! (λ lcmds2. move ! (1 ∷ []) $ fsplit ! $ fsplit ! $ move ! (1 ∷ []) $ feqL ! (λ lstems2. move ! (1 ∷ []) $ drop ! $
+        move ! (6 ∷ []) $ use1 W (‵ (ShrSlice (named 0) κbank u8 .own xbank (sliceVal (xbank .ptr) (length (xbank .now)) ∷ [])) ⊛ ‵ (ShrSlice (named 0) κbank u8 .own xbank (sliceVal (xbank .ptr) (length (xbank .now)) ∷ []))) (shr-slice-copy 𝓤 H A W (named 0) κbank u8 .twice xbank (sliceVal (xbank .ptr) (length (xbank .now)) ∷ [])) $ split ! $ move ! (8 ∷ 1 ∷ []) $ join ! $ move ! (4 ∷ 5 ∷ []) $ lend-ref ! tt (Array f64 256) bops oops (zs1 .1 .1 .1 .1 .1 .0) (λ νops2 δops2. move ! (8 ∷ 9 ∷ []) $ lend-ref ! tt (Array f64 256) bps ops qs (λ νps2 δps2. move ! (10 ∷ 11 ∷ []) $ lend-ref ! tt (Array f64 19) bcells ocells cs (λ νcells2 δcells2. move ! (12 ∷ 13 ∷ []) $ lend-ref ! tt (Array f64 512) bedges oedges es (λ νedges2 δedges2. move ! (14 ∷ 15 ∷ []) $ lend-ref ! tt (Array bool 256) bacross oacross ks (λ νacross2 δacross2. move ! (12 ∷ 13 ∷ []) $ lend ! tt u64 mcmds bcmds ocmds (zs1 .1 .1 .1 .1 .1 .1 .0) (lcmds1 ∙ held .1 .1 .1 .0) (λ νcmds2 δcmds2. move ! (16 ∷ 17 ∷ []) $ lend ! tt T.the-row mstems bstems ostems zs (held .1 .1 .1 .1 .0) (λ νstems2 δstems2. move ! (2 ∷ 0 ∷ []) $ join ! $ move ! (3 ∷ 0 ∷ []) $ join ! $ move ! (4 ∷ 0 ∷ []) $ join ! $ move ! (5 ∷ 0 ∷ []) $ join ! $ move ! (6 ∷ 0 ∷ []) $ join ! $ move ! (7 ∷ 0 ∷ []) $ join ! $ move ! (8 ∷ 0 ∷ []) $ join ! $ asks-all ! fm N.the-row (Is N.the-row) (shows 𝓤 H A N.the-row) (Unit {0} × (Unit {0} × (Unit {0} × (Unit {0} × (Unit {0} × (List Float × (List Float × (List Float × (List Float × (List Bool × (List ℕ × (List Stem × Unit {0})))))))))))) (λ (r : N.the-row .Denot) (lasts : (Unit {0} × (Unit {0} × (Unit {0} × (Unit {0} × (Unit {0} × (List Float × (List Float × (List Float × (List Float × (List Bool × (List ℕ × (List Stem × Unit {0}))))))))))))). Meets r (memOf (lasts .1 .1 .1 .1 .1 .0) (lasts .1 .1 .1 .1 .1 .1 .0) (lasts .1 .1 .1 .1 .1 .1 .1 .0) (lasts .1 .1 .1 .1 .1 .1 .1 .1 .0) (lasts .1 .1 .1 .1 .1 .1 .1 .1 .1 .0) (lasts .1 .1 .1 .1 .1 .1 .1 .1 .1 .1 .0) (lasts .1 .1 .1 .1 .1 .1 .1 .1 .1 .1 .1 .0)) (opD (xbank .now) iv levels (r1 .op) (r1 .st) (memOf (zs1 .1 .1 .1 .1 .1 .0) qs cs es ks (zs1 .1 .1 .1 .1 .1 .1 .0) zs))) (λ (lasts : (Unit {0} × (Unit {0} × (Unit {0} × (Unit {0} × (Unit {0} × (List Float × (List Float × (List Float × (List Float × (List Bool × (List ℕ × (List Stem × Unit {0}))))))))))))). (fsep ftrue (fsep ftrue (fsep ftrue (fsep ftrue (fsep ftrue (fsep (fres δops2 ((Array f64 256) .coded .code (lasts .1 .1 .1 .1 .1 .0))) (fsep (fres δps2 ((Array f64 256) .coded .code (lasts .1 .1 .1 .1 .1 .1 .0))) (fsep (fres δcells2 ((Array f64 19) .coded .code (lasts .1 .1 .1 .1 .1 .1 .1 .0))) (fsep (fres δedges2 ((Array f64 512) .coded .code (lasts .1 .1 .1 .1 .1 .1 .1 .1 .0))) (fsep (fres δacross2 ((Array bool 256) .coded .code (lasts .1 .1 .1 .1 .1 .1 .1 .1 .1 .0))) (fsep (fsep (finally u64 δcmds2 (lasts .1 .1 .1 .1 .1 .1 .1 .1 .1 .1 .0)) (feq ℕ (length (lasts .1 .1 .1 .1 .1 .1 .1 .1 .1 .1 .0)) (length (zs1 .1 .1 .1 .1 .1 .1 .0)))) (fsep (fsep (finally T.the-row δstems2 (lasts .1 .1 .1 .1 .1 .1 .1 .1 .1 .1 .1 .0)) (feq ℕ (length (lasts .1 .1 .1 .1 .1 .1 .1 .1 .1 .1 .1 .0)) (length zs))) ftrue))))))))))))) (‵ (flft κbank qbank) ⊛ (‵ (flft (νops2 ∷ []) fullShare) ⊛ (‵ (flft (νps2 ∷ []) fullShare) ⊛ (‵ (flft (νcells2 ∷ []) fullShare) ⊛ (‵ (flft (νedges2 ∷ []) fullShare) ⊛ (‵ (flft (νacross2 ∷ []) fullShare) ⊛ (‵ (flft (νcmds2 ∷ []) fullShare) ⊛ (‵ (flft (νstems2 ∷ []) fullShare) ⊛ ‵ ftrue)))))))) ((‵ (flft κbank qbank) ⊛ ‵ (ShrSlice (named 0) κbank u8 .own xbank (sliceVal (xbank .ptr) (length (xbank .now)) ∷ []))) ⊛ ((‵ (flft (νops2 ∷ []) fullShare) ⊛ ‵ (OwnR (Array f64 256) bops oops (νops2 ∷ []) δops2 (zs1 .1 .1 .1 .1 .1 .0))) ⊛ ((‵ (flft (νps2 ∷ []) fullShare) ⊛ ‵ (OwnR (Array f64 256) bps ops (νps2 ∷ []) δps2 qs)) ⊛ ((‵ (flft (νcells2 ∷ []) fullShare) ⊛ ‵ (OwnR (Array f64 19) bcells ocells (νcells2 ∷ []) δcells2 cs)) ⊛ ((‵ (flft (νedges2 ∷ []) fullShare) ⊛ ‵ (OwnR (Array f64 512) bedges oedges (νedges2 ∷ []) δedges2 es)) ⊛ ((‵ (flft (νacross2 ∷ []) fullShare) ⊛ ‵ (OwnR (Array bool 256) bacross oacross (νacross2 ∷ []) δacross2 ks)) ⊛ ((‵ (flft (νcmds2 ∷ []) fullShare) ⊛ ‵ (Own u64 mcmds bcmds ocmds (νcmds2 ∷ []) δcmds2 (zs1 .1 .1 .1 .1 .1 .1 .0))) ⊛ (‵ (flft (νstems2 ∷ []) fullShare) ⊛ ‵ (Own T.the-row mstems bstems ostems (νstems2 ∷ []) δstems2 zs))))))))) (vint w16 (r1 .op) ∷ sliceVal (xbank .ptr) (length (xbank .now)) ∷ vint w64 iv ∷ vint w64 levels ∷ machS (r1 .st) ∷ vptr bops oops ∷ vptr bps ops ∷ vptr bcells ocells ∷ vptr bedges oedges ∷ vptr bacross oacross ∷ sliceVal (bcmds, ocmds) mcmds ∷ sliceVal (bstems, ostems) mstems ∷ []) (op-as 𝓤 H A mem run′ W C t below κbank qbank xbank (νops2 ∷ []) fullShare bops oops δops2 (zs1 .1 .1 .1 .1 .1 .0) (νps2 ∷ []) fullShare bps ops δps2 qs (νcells2 ∷ []) fullShare bcells ocells δcells2 cs (νedges2 ∷ []) fullShare bedges oedges δedges2 es (νacross2 ∷ []) fullShare bacross oacross δacross2 ks (νcmds2 ∷ []) fullShare mcmds bcmds ocmds δcmds2 (zs1 .1 .1 .1 .1 .1 .1 .0) (νstems2 ∷ []) fullShare mstems bstems ostems δstems2 zs ((r1 .op)) (iv) (levels) ((r1 .st)) ((LL.owed K.the-type K′.the-laws r1 (w1 ∷ []) is1) .1 .1 .1 .1 .0 .1) (iv-fits) (levels-fits) ((LL.owed K.the-type K′.the-laws r1 (w1 ∷ []) is1) .0) (need .0, (need .1 .0, (ready-token (xbank .now) iv levels (xcode .now) enc st (memOf ysops ysps yscells ysedges ysacross yscmds ysstems) i key h (memOf os qs cs es ks ms zs) (held .1 .1 .1 .1 .1 .1) (held .1 .1 .1 .1 .0) (held .1 .1 .1 .0) r1 (zs1 .1 .1 .1 .1 .1 .0) (zs1 .1 .1 .1 .1 .1 .1 .0) e1 (held .1 .1 .1 .1 .1 .0 .0)))) (omega (arith, measure))) (and-then ! (load ! (from ! (fld ! refl (stop !))) (look-in ! 45 (sub ! 4 refl (whole !)))) (and-then ! (load ! (from ! (stop !)) (look ! 77 refl)) (and-then ! (load ! (from ! (stop !)) (look ! 75 refl)) (and-then ! (load ! (from ! (stop !)) (look ! 73 refl)) (and-then ! (load ! (from ! (stop !)) (look ! 47 refl)) (and-then ! (load ! (from ! (stop !)) (look ! 27 refl)) (and-then ! (load ! (from ! (stop !)) (look ! 25 refl)) (and-then ! (load ! (from ! (stop !)) (look ! 23 refl)) (and-then ! (load ! (from ! (stop !)) (look ! 21 refl)) (and-then ! (load ! (from ! (stop !)) (look ! 19 refl)) (and-then ! (load ! (from ! (stop !)) (look ! 15 refl)) (and-then ! (load ! (from ! (stop !)) (look ! 11 refl)) (no-more !))))))))))))) (λ w2 r2 zs2 e2 is2. land ! (from ! (stop !)) (init ! 43 refl (typedN 𝓤 H A W r2 _ is2)) $ rewrite ! 43 (λ (u : Val). ‵ (fat fullShare tNt l₂₀ 0 u)) (ap only (LL.tells N.the-type N′.the-laws r2 (w2 ∷ []) is2)) refl $ drop ! $ split ! $ move ! (1 ∷ []) $ split ! $ move ! (1 ∷ []) $ split ! $ move ! (1 ∷ []) $ split ! $ move ! (1 ∷ []) $ split ! $ move ! (1 ∷ []) $ split ! $ move ! (1 ∷ []) $ split ! $ move ! (1 ∷ []) $ split ! $ move ! (1 ∷ []) $ drop ! $ move ! (8 ∷ []) $ fsplit ! $ drop ! $ fsplit ! $ drop ! $ fsplit ! $ drop ! $ fsplit ! $ drop ! $ fsplit ! $ drop ! $ fsplit ! $ move ! (1 ∷ []) $ fsplit ! $ move ! (1 ∷ []) $ fsplit ! $ move ! (1 ∷ []) $ fsplit ! $ move ! (1 ∷ []) $ fsplit ! $ move ! (1 ∷ []) $ fsplit ! $ fsplit ! $ move ! (1 ∷ []) $ feqL ! (λ lcmds2. move ! (1 ∷ []) $ fsplit ! $ fsplit ! $ move ! (1 ∷ []) $ feqL ! (λ lstems2. move ! (1 ∷ []) $ drop ! $
         move ! (13 ∷ 21 ∷ 6 ∷ []) $ returned-ref ! tt (Array f64 256) bops oops νops2 δops2 (zs1 .1 .1 .1 .1 .1 .0) (zs2 .1 .1 .1 .1 .1 .0) (move ! (13 ∷ 20 ∷ 7 ∷ []) $ returned-ref ! tt (Array f64 256) bps ops νps2 δps2 qs (zs2 .1 .1 .1 .1 .1 .1 .0) (move ! (13 ∷ 19 ∷ 8 ∷ []) $ returned-ref ! tt (Array f64 19) bcells ocells νcells2 δcells2 cs (zs2 .1 .1 .1 .1 .1 .1 .1 .0) (move ! (13 ∷ 18 ∷ 9 ∷ []) $ returned-ref ! tt (Array f64 512) bedges oedges νedges2 δedges2 es (zs2 .1 .1 .1 .1 .1 .1 .1 .1 .0) (move ! (13 ∷ 17 ∷ 10 ∷ []) $ returned-ref ! tt (Array bool 256) bacross oacross νacross2 δacross2 ks (zs2 .1 .1 .1 .1 .1 .1 .1 .1 .1 .0) (move ! (13 ∷ 16 ∷ 11 ∷ []) $ returned ! tt u64 mcmds bcmds ocmds νcmds2 δcmds2 (zs1 .1 .1 .1 .1 .1 .1 .0) (zs2 .1 .1 .1 .1 .1 .1 .1 .1 .1 .1 .0) (lcmds1 ∙ held .1 .1 .1 .0) lcmds2 fitcmds (move ! (13 ∷ 15 ∷ 12 ∷ []) $ returned ! tt T.the-row mstems bstems ostems νstems2 δstems2 zs (zs2 .1 .1 .1 .1 .1 .1 .1 .1 .1 .1 .1 .0) (held .1 .1 .1 .1 .0) lstems2 fitstems (
         assigns ! (of-opd ! (load ! (from ! (fld ! refl (stop !))) (look-in ! 48 (sub ! 0 refl (whole !))))) (from ! (stop !)) (store ! 54 refl (typedS 𝓤 H A W (r2 .st) _ ((LL.owed N.the-type N′.the-laws r2 (w2 ∷ []) is2) .0))) $
         assigns ! (of-opd ! (load ! (from ! (fld ! refl (stop !))) (look-in ! 48 (sub ! 1 refl (whole !))))) (from ! (stop !)) (init ! 46 refl (tt, record { fits = (LL.owed N.the-type N′.the-laws r2 (w2 ∷ []) is2) .1 .0 .1 })) $
@@ -233,7 +233,7 @@ module _ {M : Type 1} (𝓤 : URA M) (H : Heap 𝓤) (A : Atoms 𝓤) (W : Given
         nothing ! $ asks-all ! fm N.the-row (Is N.the-row) (shows 𝓤 H A N.the-row) (Unit {0} × (Unit {0} × Unit {0})) (λ (r : N.the-row .Denot) (lasts : (Unit {0} × (Unit {0} × Unit {0}))). r ≡ ranOf (r2 .st) (pick (eqb (r2 .flow) 1) 0 (r2 .flow))) (λ (lasts : (Unit {0} × (Unit {0} × Unit {0}))). (fsep ftrue (fsep ftrue ftrue))) (‵ ftrue) (‵ ftrue) (machS (r2 .st) ∷ vint w8 (r2 .flow) ∷ []) (stopped-as 𝓤 H A mem run′ W C known-stopped ((r2 .st)) ((r2 .flow)) ((LL.owed N.the-type N′.the-laws r2 (w2 ∷ []) is2) .0) ((LL.owed N.the-type N′.the-laws r2 (w2 ∷ []) is2) .1 .0 .1)) (and-then ! (load ! (from ! (stop !)) (look ! 55 refl)) (and-then ! (load ! (from ! (stop !)) (look ! 47 refl)) (no-more !))) (λ w3 r3 zs3 e3 is3. land ! (from ! (stop !)) (init ! 91 refl (typedN 𝓤 H A W r3 _ is3)) $ rewrite ! 91 (λ (u : Val). ‵ (fat fullShare tNt l₀ 0 u)) (ap only (LL.tells N.the-type N′.the-laws r3 (w3 ∷ []) is3)) refl $ drop ! $ drop ! $ fsplit ! $ drop ! $ fsplit ! $ drop ! $ drop ! $
         owned ! N.the-row (Is N.the-row) (LL.makes N.the-type N′.the-plain 𝓤 H A) r3 _ (mineN r3 w3 is3) $
         returns-within ! (Post) refl (look ! 89 refl) $ move ! (0 ∷ 18 ∷ 17 ∷ 16 ∷ 15 ∷ 13 ∷ 14 ∷ 11 ∷ 12 ∷ 9 ∷ 10 ∷ 7 ∷ 8 ∷ 5 ∷ 6 ∷ 3 ∷ 4 ∷ 1 ∷ 2 ∷ 19 ∷ 20 ∷ 21 ∷ 22 ∷ 23 ∷ 24 ∷ 25 ∷ 26 ∷ 27 ∷ 28 ∷ 29 ∷ 30 ∷ 31 ∷ 32 ∷ 33 ∷ 34 ∷ 35 ∷ 36 ∷ 37 ∷ 38 ∷ 39 ∷ 40 ∷ 41 ∷ 42 ∷ 43 ∷ 44 ∷ 45 ∷ 46 ∷ 47 ∷ 48 ∷ 49 ∷ 50 ∷ 51 ∷ 52 ∷ 53 ∷ 54 ∷ 55 ∷ 56 ∷ 57 ∷ 58 ∷ 59 ∷ 60 ∷ 61 ∷ 62 ∷ 63 ∷ 64 ∷ 65 ∷ 66 ∷ 67 ∷ 68 ∷ 69 ∷ 70 ∷ 71 ∷ 72 ∷ 73 ∷ 74 ∷ 75 ∷ 76 ∷ 77 ∷ 78 ∷ 79 ∷ 80 ∷ 81 ∷ 82 ∷ 83 ∷ 84 ∷ 85 ∷ 86 ∷ 87 ∷ 88 ∷ 89 ∷ 90 ∷ []) $ leave ! (_ ∷ _ ∷ _ ∷ _ ∷ _ ∷ _ ∷ _ ∷ _ ∷ _ ∷ _ ∷ _ ∷ _ ∷ _ ∷ _ ∷ _ ∷ _ ∷ _ ∷ _ ∷ _ ∷ []) (filled _ _ _ ∷ filled _ _ _ ∷ filled _ _ _ ∷ filled _ _ _ ∷ filled _ _ _ ∷ filled _ _ _ ∷ filled _ _ _ ∷ filled _ _ _ ∷ filled _ _ _ ∷ filled _ _ _ ∷ filled _ _ _ ∷ filled _ _ _ ∷ filled _ _ _ ∷ bare _ _ ∷ filled _ _ _ ∷ filled _ _ _ ∷ filled _ _ _ ∷ filled _ _ _ ∷ filled _ _ _ ∷ filled _ _ _ ∷ filled _ _ _ ∷ filled _ _ _ ∷ filled _ _ _ ∷ filled _ _ _ ∷ filled _ _ _ ∷ filled _ _ _ ∷ filled _ _ _ ∷ filled _ _ _ ∷ filled _ _ _ ∷ filled _ _ _ ∷ filled _ _ _ ∷ filled _ _ _ ∷ filled _ _ _ ∷ filled _ _ _ ∷ filled _ _ _ ∷ filled _ _ _ ∷ []) $ keep ! (0 ∷ 1 ∷ 2 ∷ 3 ∷ 4 ∷ 5 ∷ 6 ∷ 7 ∷ 8 ∷ 9 ∷ 10 ∷ 11 ∷ 12 ∷ 13 ∷ 14 ∷ 15 ∷ 16 ∷ 17 ∷ 18 ∷ []) $ by ! (exits r3 (machN r3) (zs2 .1 .1 .1 .1 .1 .0) (zs2 .1 .1 .1 .1 .1 .1 .0) (zs2 .1 .1 .1 .1 .1 .1 .1 .0) (zs2 .1 .1 .1 .1 .1 .1 .1 .1 .0) (zs2 .1 .1 .1 .1 .1 .1 .1 .1 .1 .0) (zs2 .1 .1 .1 .1 .1 .1 .1 .1 .1 .1 .0) (zs2 .1 .1 .1 .1 .1 .1 .1 .1 .1 .1 .1 .0) (op-stopped (xbank .now) iv levels (xcode .now) enc st (memOf ysops ysps yscells ysedges ysacross yscmds ysstems) i key h (memOf os qs cs es ks ms zs) (held .1 .1 .1 .1 .1 .1) (held .1 .1 .1 .1 .0) (held .1 .1 .1 .0) r1 (zs1 .1 .1 .1 .1 .1 .0) (zs1 .1 .1 .1 .1 .1 .1 .0) e1 go-on r2 r3 (memOf (zs2 .1 .1 .1 .1 .1 .0) (zs2 .1 .1 .1 .1 .1 .1 .0) (zs2 .1 .1 .1 .1 .1 .1 .1 .0) (zs2 .1 .1 .1 .1 .1 .1 .1 .1 .0) (zs2 .1 .1 .1 .1 .1 .1 .1 .1 .1 .0) (zs2 .1 .1 .1 .1 .1 .1 .1 .1 .1 .1 .0) (zs2 .1 .1 .1 .1 .1 .1 .1 .1 .1 .1 .1 .0)) e2 off e3) (lcmds2 ∙ lcmds1 ∙ held .1 .1 .1 .0) (lstems2 ∙ held .1 .1 .1 .1 .0))))
-        (λ went. skips ! $ forget ! 52 refl $ forget ! 50 refl $ forget ! 48 refl $ forget ! 46 refl $ forget ! 44 refl $ forget ! 42 refl $ forget ! 40 refl $ forget ! 38 refl $ forget ! 36 refl $ forget ! 34 refl $ forget ! 32 refl $ forget ! 30 refl $ forget ! 28 refl $ forget ! 26 refl $ forget ! 24 refl $ forget ! 22 refl $ forget ! 20 refl $ forget ! 18 refl $ keep ! (17 ∷ 16 ∷ 15 ∷ 14 ∷ 12 ∷ 13 ∷ 10 ∷ 11 ∷ 8 ∷ 9 ∷ 6 ∷ 7 ∷ 4 ∷ 5 ∷ 2 ∷ 3 ∷ 0 ∷ 1 ∷ 18 ∷ 19 ∷ 20 ∷ 21 ∷ 22 ∷ 23 ∷ 24 ∷ 25 ∷ 26 ∷ 27 ∷ 28 ∷ 29 ∷ 30 ∷ 31 ∷ 32 ∷ 33 ∷ 34 ∷ 35 ∷ 36 ∷ 37 ∷ 38 ∷ 39 ∷ 40 ∷ 41 ∷ 42 ∷ 43 ∷ 44 ∷ 45 ∷ 46 ∷ 47 ∷ 48 ∷ 49 ∷ 50 ∷ 51 ∷ 52 ∷ 53 ∷ 54 ∷ 55 ∷ 56 ∷ 57 ∷ 58 ∷ 59 ∷ 60 ∷ 61 ∷ 62 ∷ 63 ∷ 64 ∷ 65 ∷ 66 ∷ 67 ∷ 68 ∷ 69 ∷ 70 ∷ 71 ∷ 72 ∷ 73 ∷ 74 ∷ 75 ∷ 76 ∷ 77 ∷ 78 ∷ 79 ∷ 80 ∷ 81 ∷ 82 ∷ 83 ∷ 84 ∷ 85 ∷ 86 ∷ 87 ∷ 88 ∷ 89 ∷ []) $ by ! (go (r1 .next) (r1 .key) enc (r2 .st) (zs2 .1 .1 .1 .1 .1 .0) (zs2 .1 .1 .1 .1 .1 .1 .0) (zs2 .1 .1 .1 .1 .1 .1 .1 .0) (zs2 .1 .1 .1 .1 .1 .1 .1 .1 .0) (zs2 .1 .1 .1 .1 .1 .1 .1 .1 .1 .0) (zs2 .1 .1 .1 .1 .1 .1 .1 .1 .1 .1 .0) (zs2 .1 .1 .1 .1 .1 .1 .1 .1 .1 .1 .1 .0) (e1 .on) ((LL.owed K.the-type K′.the-laws r1 (w1 ∷ []) is1) .1 .0 .1, ((LL.owed K.the-type K′.the-laws r1 (w1 ∷ []) is1) .1 .1 .0 .1, ((LL.owed N.the-type N′.the-laws r2 (w2 ∷ []) is2) .0, (lcmds2 ∙ lcmds1 ∙ held .1 .1 .1 .0, (lstems2 ∙ held .1 .1 .1 .1 .0, (held .1 .1 .1 .1 .1 .0, op-went (xbank .now) iv levels (xcode .now) enc st (memOf ysops ysps yscells ysedges ysacross yscmds ysstems) i key h (memOf os qs cs es ks ms zs) (held .1 .1 .1 .1 .1 .1) (held .1 .1 .1 .1 .0) (held .1 .1 .1 .0) r1 (zs1 .1 .1 .1 .1 .1 .0) (zs1 .1 .1 .1 .1 .1 .1 .0) e1 go-on (held .1 .1 .1 .1 .1 .0 .1) (ready-token (xbank .now) iv levels (xcode .now) enc st (memOf ysops ysps yscells ysedges ysacross yscmds ysstems) i key h (memOf os qs cs es ks ms zs) (held .1 .1 .1 .1 .1 .1) (held .1 .1 .1 .1 .0) (held .1 .1 .1 .0) r1 (zs1 .1 .1 .1 .1 .1 .0) (zs1 .1 .1 .1 .1 .1 .1 .0) e1 (held .1 .1 .1 .1 .1 .0 .1) (held .1 .1 .1 .1 .1 .0 .0) (held .1 .0) go-on) r2 (memOf (zs2 .1 .1 .1 .1 .1 .0) (zs2 .1 .1 .1 .1 .1 .1 .0) (zs2 .1 .1 .1 .1 .1 .1 .1 .0) (zs2 .1 .1 .1 .1 .1 .1 .1 .1 .0) (zs2 .1 .1 .1 .1 .1 .1 .1 .1 .1 .0) (zs2 .1 .1 .1 .1 .1 .1 .1 .1 .1 .1 .0) (zs2 .1 .1 .1 .1 .1 .1 .1 .1 .1 .1 .1 .0)) e2 went))))))))))))))))))))))))))))))))
+        (λ went. skips ! $ forget ! 52 refl $ forget ! 50 refl $ forget ! 48 refl $ forget ! 46 refl $ forget ! 44 refl $ forget ! 42 refl $ forget ! 40 refl $ forget ! 38 refl $ forget ! 36 refl $ forget ! 34 refl $ forget ! 32 refl $ forget ! 30 refl $ forget ! 28 refl $ forget ! 26 refl $ forget ! 24 refl $ forget ! 22 refl $ forget ! 20 refl $ forget ! 18 refl $ keep ! (17 ∷ 16 ∷ 15 ∷ 14 ∷ 12 ∷ 13 ∷ 10 ∷ 11 ∷ 8 ∷ 9 ∷ 6 ∷ 7 ∷ 4 ∷ 5 ∷ 2 ∷ 3 ∷ 0 ∷ 1 ∷ 18 ∷ 19 ∷ 20 ∷ 21 ∷ 22 ∷ 23 ∷ 24 ∷ 25 ∷ 26 ∷ 27 ∷ 28 ∷ 29 ∷ 30 ∷ 31 ∷ 32 ∷ 33 ∷ 34 ∷ 35 ∷ 36 ∷ 37 ∷ 38 ∷ 39 ∷ 40 ∷ 41 ∷ 42 ∷ 43 ∷ 44 ∷ 45 ∷ 46 ∷ 47 ∷ 48 ∷ 49 ∷ 50 ∷ 51 ∷ 52 ∷ 53 ∷ 54 ∷ 55 ∷ 56 ∷ 57 ∷ 58 ∷ 59 ∷ 60 ∷ 61 ∷ 62 ∷ 63 ∷ 64 ∷ 65 ∷ 66 ∷ 67 ∷ 68 ∷ 69 ∷ 70 ∷ 71 ∷ 72 ∷ 73 ∷ 74 ∷ 75 ∷ 76 ∷ 77 ∷ 78 ∷ 79 ∷ 80 ∷ 81 ∷ 82 ∷ 83 ∷ 84 ∷ 85 ∷ 86 ∷ 87 ∷ 88 ∷ 89 ∷ []) $ by ! (go (r1 .next) (r1 .key) enc (r2 .st) (zs2 .1 .1 .1 .1 .1 .0) (zs2 .1 .1 .1 .1 .1 .1 .0) (zs2 .1 .1 .1 .1 .1 .1 .1 .0) (zs2 .1 .1 .1 .1 .1 .1 .1 .1 .0) (zs2 .1 .1 .1 .1 .1 .1 .1 .1 .1 .0) (zs2 .1 .1 .1 .1 .1 .1 .1 .1 .1 .1 .0) (zs2 .1 .1 .1 .1 .1 .1 .1 .1 .1 .1 .1 .0) (e1 .on) ((LL.owed K.the-type K′.the-laws r1 (w1 ∷ []) is1) .1 .0 .1, ((LL.owed K.the-type K′.the-laws r1 (w1 ∷ []) is1) .1 .1 .0 .1, ((LL.owed N.the-type N′.the-laws r2 (w2 ∷ []) is2) .0, (lcmds2 ∙ lcmds1 ∙ held .1 .1 .1 .0, (lstems2 ∙ held .1 .1 .1 .1 .0, (held .1 .1 .1 .1 .1 .0, op-went (xbank .now) iv levels (xcode .now) enc st (memOf ysops ysps yscells ysedges ysacross yscmds ysstems) i key h (memOf os qs cs es ks ms zs) (held .1 .1 .1 .1 .1 .1) (held .1 .1 .1 .1 .0) (held .1 .1 .1 .0) r1 (zs1 .1 .1 .1 .1 .1 .0) (zs1 .1 .1 .1 .1 .1 .1 .0) e1 go-on (held .1 .1 .1 .1 .1 .0 .1) (ready-token (xbank .now) iv levels (xcode .now) enc st (memOf ysops ysps yscells ysedges ysacross yscmds ysstems) i key h (memOf os qs cs es ks ms zs) (held .1 .1 .1 .1 .1 .1) (held .1 .1 .1 .1 .0) (held .1 .1 .1 .0) r1 (zs1 .1 .1 .1 .1 .1 .0) (zs1 .1 .1 .1 .1 .1 .1 .0) e1 (held .1 .1 .1 .1 .1 .0 .0)) r2 (memOf (zs2 .1 .1 .1 .1 .1 .0) (zs2 .1 .1 .1 .1 .1 .1 .0) (zs2 .1 .1 .1 .1 .1 .1 .1 .0) (zs2 .1 .1 .1 .1 .1 .1 .1 .1 .0) (zs2 .1 .1 .1 .1 .1 .1 .1 .1 .1 .0) (zs2 .1 .1 .1 .1 .1 .1 .1 .1 .1 .1 .0) (zs2 .1 .1 .1 .1 .1 .1 .1 .1 .1 .1 .1 .0)) e2 went))))))))))))))))))))))))))))))))
 
     ends : (X : SProp 𝓤) (i : ℕ) (key : ℕ) (enc : Bool) (h : St) (os : List Float) (qs : List Float) (cs : List Float) (es : List Float) (ks : List Bool) (ms : List ℕ) (zs : List Stem) → ltb i (length (xcode .now)) ≡ false → (held : Held i key enc h os qs cs es ks ms zs) (l₀ l₁ l₂ l₃ l₄ l₅ l₆ l₇ l₈ l₉ l₁₀ l₁₁ l₁₂ l₁₃ l₁₄ l₁₅ l₁₆ l₁₇ l₁₈ l₁₉ l₂₀ l₂₁ l₂₂ l₂₃ l₂₄ l₂₅ l₂₆ l₂₇ l₂₈ l₂₉ l₃₀ l₃₁ l₃₂ l₃₃ l₃₄ l₃₅ : ℕ)
         → ent 𝓤 (⋆ 𝓤 H A (At i key enc h os qs cs es ks ms zs l₀ l₁ l₂ l₃ l₄ l₅ l₆ l₇ l₈ l₉ l₁₀ l₁₁ l₁₂ l₁₃ l₁₄ l₁₅ l₁₆ l₁₇ l₁₈ l₁₉ l₂₀ l₂₁ l₂₂ l₂₃ l₂₄ l₂₅ l₂₆ l₂₇ l₂₈ l₂₉ l₃₀ l₃₁ l₃₂ l₃₃ l₃₄ l₃₅)) (Wp 𝓤 H C Λ (En l₀ l₁ l₂ l₃ l₄ l₅ l₆ l₇ l₈ l₉ l₁₀ l₁₁ l₁₂ l₁₃ l₁₄ l₁₅ l₁₆ l₁₇ l₁₈ l₁₉ l₂₀ l₂₁ l₂₂ l₂₃ l₂₄ l₂₅ l₂₆ l₂₇ l₂₈ l₂₉ l₃₀ l₃₁ l₃₂ l₃₃ l₃₄ l₃₅) text.turn-1 (afterTurn 𝓤 H X (Left l₀ l₁ l₂ l₃ l₄ l₅ l₆ l₇ l₈ l₉ l₁₀ l₁₁ l₁₂ l₁₃ l₁₄ l₁₅ l₁₆ l₁₇ l₁₈ l₁₉ l₂₀ l₂₁ l₂₂ l₂₃ l₂₄ l₂₅ l₂₆ l₂₇ l₂₈ l₂₉ l₃₀ l₃₁ l₃₂ l₃₃ l₃₄ l₃₅)))
