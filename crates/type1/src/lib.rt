@@ -2,20 +2,19 @@
 // entry of 14 words for each path command and for each group's start, the stem store a record for
 // each stem of each group.
 ghost use mathlib.Core.Path.{_≡_};
-ghost use mathlib.Core.Bool.{Bool, true, false, not, cond, _&&_};
-ghost use mathlib.Core.List.{List, [], _∷_, _++_};
+ghost use mathlib.Core.Bool.{true, false, not, cond, _&&_};
+ghost use mathlib.Core.List.{List};
 ghost use Prim.Native.Nat.{ℕ, _+_, _-_, _*_, _%_, _≤_, _<_};
 ghost use lib.ListN.{length, getD, take, drop, set, replicate};
 ghost use lib.Seq.{paste};
-ghost use lib.Dec.{T, eqb, ltb, leb};
-ghost use lib.Ieee.{Float, nan, fin};
+ghost use lib.Dec.{T, eqb, ltb};
+ghost use lib.Ieee.{Float, nan};
 ghost use lib.Ieee.Scale.{finite};
 ghost use Rattle.charstring.specs.Cipher.{step, maxCharstringBytes};
 ghost use Rattle.charstring.specs.Cursor.{start};
 ghost use Rattle.bank.specs.Bank.{Valid};
 ghost use Rattle.type1.specs.Number as Number;
 ghost use Rattle.type1.specs.State as State;
-ghost use Rattle.type1.specs.State.{plusZero};
 ghost use Rattle.type1.specs.Operator as Op;
 ghost use Rattle.type1.specs.Run as Run;
 ghost use Rattle.type1.specs.Run.{pick, within, stemOf, pointAt, isFinite, operate};
