@@ -21,6 +21,7 @@ mod font;
 mod generate;
 #[allow(dead_code)]
 mod geometry;
+mod lists;
 #[allow(dead_code)]
 mod random;
 #[allow(dead_code)]
@@ -492,6 +493,29 @@ fn ours_widths(list: &[f64], scratch: &mut [f64]) -> (u64, [f64; 2]) {
     (number, pair)
 }
 
+/// Medians of both sides for a list, in nanoseconds. The answers must agree.
+fn time_widths(list: &[f64], rounds: usize) -> (f64, f64) {
+    let mut scratch = vec![0.0; list.len()];
+    let expected = choose_widths(list);
+    let (number, pair) = ours_widths(list, &mut scratch);
+    assert!(number == 0 && (pair[0], pair[1]) == expected, "the widths differ");
+    let times = (200_000 / list.len()).max(1);
+    let (mut theirs, mut ours) = (Vec::new(), Vec::new());
+    for _ in 0..rounds {
+        let start = now();
+        for _ in 0..times {
+            black_box(choose_widths(black_box(list)));
+        }
+        theirs.push((now() - start) / times as f64);
+        let start = now();
+        for _ in 0..times {
+            black_box(ours_widths(black_box(list), &mut scratch));
+        }
+        ours.push((now() - start) / times as f64);
+    }
+    (median(theirs), median(ours))
+}
+
 fn widths(rounds: usize) {
     growth_head("choose_widths", "widths");
     let mut r = Random::new(0x317);
@@ -506,26 +530,12 @@ fn widths(rounds: usize) {
                     }
                 })
                 .collect();
-            let mut scratch = vec![0.0; n];
-            let expected = choose_widths(&list);
-            let (number, pair) = ours_widths(&list, &mut scratch);
-            assert!(number == 0 && (pair[0], pair[1]) == expected, "the widths differ");
-            let times = (200_000 / n).max(1);
-            let (mut theirs, mut ours) = (Vec::new(), Vec::new());
-            for _ in 0..rounds {
-                let start = now();
-                for _ in 0..times {
-                    black_box(choose_widths(black_box(&list)));
-                }
-                theirs.push((now() - start) / times as f64);
-                let start = now();
-                for _ in 0..times {
-                    black_box(ours_widths(black_box(&list), &mut scratch));
-                }
-                ours.push((now() - start) / times as f64);
-            }
-            growth_row(label, n as u64, (median(theirs), median(ours)));
+            growth_row(label, n as u64, time_widths(&list, rounds));
         }
+    }
+    growth_head("choose_widths, lists by their order", "widths");
+    for (label, list) in lists::all(&mut Random::new(0x11575)) {
+        growth_row(label, list.len() as u64, time_widths(&list, rounds));
     }
 }
 
