@@ -72,7 +72,7 @@ fn sixteen_rise(bank: &[u8], at: usize, before: usize) -> bool
 }
 
 // The bank has the layout of a bank. The offsets are compared sixteen at a time, which is faster.
-pub fn is_valid(bank: &[u8]) -> bool
+fn is_valid(bank: &[u8]) -> bool
     ensures { λ r. ⌜ r ≡ valid (now (bank .entry)) ⌝ }
 {
     if bank.len() < 6 {
