@@ -25,6 +25,7 @@ use Rattle.type1.specs.declared.Drawn.{Drawn}
 use Rattle.type1.specs.Operator.{Operator, closepath, ofByte, ofEscape}
 use Rattle.type1.specs.Number.{Token, cut, number, operator, token, tokenTwo, tokenFive, tokenEscape, oneByte, twoBytes, twoBytesBelow, fourBytes, double}
 use Rattle.type1.specs.State.{State, withOperands}
+use Rattle.type1.specs.Outcomes.{limit-check}
 use Rattle.type1.specs.Run.{pick, Limits, within, Outcome, going, returning, ending, refused, andThen, check, push, consume, operate, runBytes}
 use Rattle.type1.specs.Memory.{Mem, abs, Fit, Meets, operatorOf}
 use Rattle.type1.specs.Small.{ranOf, withOpened}
@@ -348,7 +349,7 @@ module _ (code : List ℕ) (from start : ℕ) (e : Bool) (st : St) (ops₀ : Lis
       push-is : (m : Mem) (z : ℤ) → length ops ≡ 256 → (b : Bool) → leb (n + 1) 256 ≡ b → r .x ≡ double z → push (limits m) (double z) (state m) ≡ check b 15 (going (withOperands (take n ops ++ (r .x ∷ [])) (state m)))
       unfolding push abs
       push-is m z w b is eq =
-          ap (λ (a : Bool). check a 15 (going (withOperands (take n ops ++ (double z ∷ [])) (state m)))) (ap (λ (a : ℕ). leb (a + 1) 256) (taken w) ∙ is)
+          limit-check (leb (length (take n ops) + 1) 256) 15 _ refl ∙ ap (λ (a : Bool). check a 15 (going (withOperands (take n ops ++ (double z ∷ [])) (state m)))) (ap (λ (a : ℕ). leb (a + 1) 256) (taken w) ∙ is)
           ∙ ap (λ (a : Float). check b 15 (going (withOperands (take n ops ++ (a ∷ [])) (state m)))) (sym eq)
 
       pushing : (m : Mem) (f : Operator → State → Outcome) (j : ℕ) (z : ℤ) → length ops ≡ 256 → (b : Bool) → leb (n + 1) 256 ≡ b → r .x ≡ double z

@@ -19,6 +19,7 @@ use Rattle.bank.specs.declared.Found.{Found}
 use Rattle.bank.specs.declared.Found.the-variants.{At, Nothing}
 use Rattle.bank.specs.declared.Callee.{Callee}
 use Rattle.type1.specs.declared.St.{St}
+use Rattle.type1.specs.declared.Reading.{Reading}
 use Rattle.type1.specs.State.{State, plusZero, withRan}
 use Rattle.type1.specs.Run.{pick, Outcome, going, refused, check, andThen, returned, top, without, Font, charge, named, callBody, callSubr}
 use Rattle.type1.specs.Memory.{Mem, abs, Holds}
@@ -36,18 +37,18 @@ ranTo n t = small (t .operands - 1) (t .postscript) (t .x) (t .y) (t .opened) (t
 abbrev calling : ℕ → St → St
 calling n t = ranTo (t .ran + n) t
 
-module _ (bank : List ℕ) (lenIV : ℕ) (t : St) (m : Mem) (s : State) (H : Holds t m s) where
+module _ (bank : List ℕ) (reading : Reading) (t : St) (m : Mem) (s : State) (H : Holds t m s) where
   abbrev font : Font
-  font = record { bank = bank; lenIV = lenIV }
+  font = record { bank = bank; reading = reading }
 
-  stops : (n : ℕ) → 3 ≤ n → ((deep : Deep) → callSubr font deep s ≡ refused n) → Calls bank lenIV m s (record { st = t; flow = n; index = 0 })
+  stops : (n : ℕ) → 3 ≤ n → ((deep : Deep) → callSubr font deep s ≡ refused n) → Calls bank reading m s (record { st = t; flow = n; index = 0 })
   stops n h e = record { called = λ z. absurd (let y : ⊥ = omega arith in y); stopped = λ z. (h, e) }
 
   few : t .operands ≡ 0 → (deep : Deep) → callSubr font deep s ≡ refused 7
   unfolding callSubr
   few z deep = ap (λ (b : Bool). check b 7 (callBody deep (named font (top 1 s)) (without 1 s))) (lt-leb 1 (length (s .operands)) (let n = operand-count t m s H in omega arith))
 
-  pub call-none : t .operands ≡ 0 → Calls bank lenIV m s (record { st = t; flow = 7; index = 0 })
+  pub call-none : t .operands ≡ 0 → Calls bank reading m s (record { st = t; flow = 7; index = 0 })
   call-none z = stops 7 (lit≤ tt) (few z)
 
   module _ (ne : t .operands ≡ 0 → ⊥) where
@@ -69,7 +70,7 @@ module _ (bank : List ℕ) (lenIV : ℕ) (t : St) (m : Mem) (s : State) (H : Hol
     unfolding named
     below e = ap (λ (b : Bool). pick b (body (toUnsigned 64 v) bank) none) e
 
-    call-below : le plusZero v ≡ false → Calls bank lenIV m s (record { st = t; flow = 8; index = 0 })
+    call-below : le plusZero v ≡ false → Calls bank reading m s (record { st = t; flow = 8; index = 0 })
     call-below e = stops 8 (lit≤ tt) (nobody (below e))
 
     module _ (ge : le plusZero v ≡ true) (ok : Valid bank) (i : ℕ) (is : i ≡ toUnsigned 64 v) where
@@ -77,7 +78,7 @@ module _ (bank : List ℕ) (lenIV : ℕ) (t : St) (m : Mem) (s : State) (H : Hol
       unfolding named
       named-is f e = ap (λ (b : Bool). pick b (body (toUnsigned 64 v) bank) none) ge ∙ ap (λ (n : ℕ). body n bank) (sym is) ∙ sym (found-body bank i ok) ∙ ap (λ (g : Found). bodyAt g bank) e
 
-      call-nothing : found i bank ≡ Nothing → Calls bank lenIV m s (record { st = t; flow = 8; index = 0 })
+      call-nothing : found i bank ≡ Nothing → Calls bank reading m s (record { st = t; flow = 8; index = 0 })
       call-nothing e = stops 8 (lit≤ tt) (nobody (named-is Nothing e))
 
       module _ (start end : ℕ) (e : found i bank ≡ At start end) where
@@ -99,7 +100,7 @@ module _ (bank : List ℕ) (lenIV : ℕ) (t : St) (m : Mem) (s : State) (H : Hol
         unfolding charge
         charge-is b q = ap (λ (k : Bool). check k 3 (going (withRan (s .ran + length l) (without 1 s)))) (ap₂ (λ (x y : ℕ). leb (x + y) maxCharstringBytes) ran-is part-length ∙ q)
 
-        call-large : t .ran ≤ maxCharstringBytes → maxCharstringBytes - t .ran < end - start → Calls bank lenIV m s (record { st = t; flow = 3; index = 0 })
+        call-large : t .ran ≤ maxCharstringBytes → maxCharstringBytes - t .ran < end - start → Calls bank reading m s (record { st = t; flow = 3; index = 0 })
         call-large a b = stops 3 (lit≤ tt) (λ deep. somebody deep ∙ ap (λ (o : Outcome). andThen o (λ (u : State). returned (deep l u))) (charge-is false (lt-leb (t .ran + (end - start)) maxCharstringBytes (omega arith))))
 
         charged : t .ran + (end - start) ≤ maxCharstringBytes → Holds (calling (end - start) t) m (withRan (s .ran + length l) (without 1 s))
@@ -112,7 +113,7 @@ module _ (bank : List ℕ) (lenIV : ℕ) (t : St) (m : Mem) (s : State) (H : Hol
               fit = small-fit (withCount (t .operands - 1) t) m F _ _ _ _ _ _ _ _ _ _ _ _ _ _ (F .bounds .operands) (F .bounds .postscript) (F .bounds .points) (F .bounds .hints) h (F .ops) (F .ps) (F .cells);
             }
 
-        call-made : t .ran ≤ maxCharstringBytes → end - start ≤ maxCharstringBytes - t .ran → Calls bank lenIV m s (record { st = calling (end - start) t; flow = 0; index = i })
+        call-made : t .ran ≤ maxCharstringBytes → end - start ≤ maxCharstringBytes - t .ran → Calls bank reading m s (record { st = calling (end - start) t; flow = 0; index = i })
         call-made a b = record {
           called = λ z. (withRan (s .ran + length l) (without 1 s), charged (omega arith), λ deep. somebody deep ∙ ap (λ (o : Outcome). andThen o (λ (u : State). returned (deep l u))) (charge-is true (le-leb (t .ran + (end - start)) maxCharstringBytes (omega arith))) ∙ ap (λ (f : Found). returned (deep (bytesAt f bank) (withRan (s .ran + length l) (without 1 s)))) (sym e));
           stopped = λ z. absurd (z refl);
@@ -121,7 +122,7 @@ module _ (bank : List ℕ) (lenIV : ℕ) (t : St) (m : Mem) (s : State) (H : Hol
     -- ---- as `bank::call` answers
     module _ (ok : Valid bank) (a : t .ran ≤ maxCharstringBytes) (k : Callee) (is : k ≡ called bank v (t .ran)) where
       abbrev Answer : Callee → Type 0
-      Answer j = ((j .number ≡ 0 → ⊥) → Calls bank lenIV m s (record { st = t; flow = j .number; index = 0 })) × (j .number ≡ 0 → Calls bank lenIV m s (record { st = ranTo (j .ran) t; flow = 0; index = j .index }))
+      Answer j = ((j .number ≡ 0 → ⊥) → Calls bank reading m s (record { st = t; flow = j .number; index = 0 })) × (j .number ≡ 0 → Calls bank reading m s (record { st = ranTo (j .ran) t; flow = 0; index = j .index }))
 
       answers : Answer (called bank v (t .ran))
       answers = by-sign (le plusZero v) refl
@@ -138,8 +139,8 @@ module _ (bank : List ℕ) (lenIV : ℕ) (t : St) (m : Mem) (s : State) (H : Hol
           by-sign true q = subst Answer (sym (called-is bank v (t .ran) q (toUnsigned 64 v) refl _ refl)) (by-place (found (toUnsigned 64 v) bank) refl q)
           by-sign false q = subst Answer (sym (called-below bank v (t .ran) q)) (λ n. call-below q, λ z. absurd (let y : ⊥ = omega arith in y))
 
-      pub call-refused : (k .number ≡ 0 → ⊥) → Calls bank lenIV m s (record { st = t; flow = k .number; index = 0 })
+      pub call-refused : (k .number ≡ 0 → ⊥) → Calls bank reading m s (record { st = t; flow = k .number; index = 0 })
       call-refused = subst Answer (sym is) answers .0
 
-      pub call-goes : k .number ≡ 0 → Calls bank lenIV m s (record { st = ranTo (k .ran) t; flow = 0; index = k .index })
+      pub call-goes : k .number ≡ 0 → Calls bank reading m s (record { st = ranTo (k .ran) t; flow = 0; index = k .index })
       call-goes = subst Answer (sym is) answers .1

@@ -18,6 +18,7 @@ use Rattle.bank.specs.Bank.{bytesAt, found}
 use Rattle.geometry.specs.declared.Point.{Point}
 use Rattle.type1.specs.declared.Stem.{Stem}
 use Rattle.type1.specs.declared.St.{St}
+use Rattle.type1.specs.declared.Reading.{Reading}
 use Rattle.type1.specs.declared.Ran.{Ran}
 use Rattle.type1.specs.declared.Tok.{Tok}
 use Rattle.type1.specs.declared.Called.{Called}
@@ -269,9 +270,9 @@ stops (returning s) k r m e f = (back (r .flow) (e .0), e .1)
 stops (ending s) k r m e f = (stays (r .flow) (λ y. apart (r .flow) 1 2 y (e .0) (lit< tt)) ∙ e .0, e .1)
 stops (refused n) k r m e f = (stays (r .flow) (above (r .flow) n (e .0) (e .1)) ∙ e .0, e .1)
 
-module _ (bank : List ℕ) (lenIV levels : ℕ) where
+module _ (bank : List ℕ) (reading : Reading) (levels : ℕ) where
   abbrev font : Font
-  font = fontOf bank lenIV
+  font = fontOf bank reading
 
   abbrev deepOf : Limits → List ℕ → State → Outcome
   deepOf lim = runBody lim font levels
@@ -281,7 +282,7 @@ module _ (bank : List ℕ) (lenIV levels : ℕ) where
 
   module _ (o : ℕ) (t : St) (m : Mem) where
     abbrev All′ : Outcome
-    All′ = opD bank lenIV levels o t m
+    All′ = opD bank reading levels o t m
 
     opD-call : T (eqb o 10) → All′ ≡ callSubr font (deepOf (limitsOf m)) (abs t m)
     unfolding opD execute operate
@@ -293,7 +294,7 @@ module _ (bank : List ℕ) (lenIV levels : ℕ) where
     plained h room er r m′ e =
         subst (Meets r m′) (ap (λ (n : ℕ). operate (within n (length (m .cmds))) (refused 6) (operatorOf o) (abs t m)) er ∙ other-call (limitsOf m) (refused 6) (callSubr font (deepOf (limitsOf m)) (abs t m)) (operatorOf o) (abs t m) (either-op o h (ltb o 256) refl)) e
 
-    module _ (c : Called) (calls : Calls bank lenIV m (abs t m) c) (h : T (eqb o 10)) where
+    module _ (c : Called) (calls : Calls bank reading m (abs t m) c) (h : T (eqb o 10)) where
       -- a call that is refused
       pub call-refused : (r : Ran) → r ≡ ranOf (c .st) (c .flow) → T (not (eqb (c .flow) 0)) → Meets r m All′
       call-refused r e n = let off : (3 ≤ c .flow) × ((deep : List ℕ → State → Outcome) → callSubr font deep (abs t m) ≡ refused (c .flow)) = calls .stopped (not-eq (c .flow) 0 n) in
@@ -321,7 +322,7 @@ module _ (bank : List ℕ) (lenIV levels : ℕ) where
         }
 
         -- what the body did
-        pub called : (body : List ℕ) → body ≡ bytesAt (found (c .index) bank) bank → T (not (eqb levels 0)) → (r : Ran) (m′ : Mem) → Meets r m′ (runD bank lenIV (levels - 1) body (c .st) m) → Meets r m′ All′
+        pub called : (body : List ℕ) → body ≡ bytesAt (found (c .index) bank) bank → T (not (eqb levels 0)) → (r : Ran) (m′ : Mem) → Meets r m′ (runD bank reading (levels - 1) body (c .st) m) → Meets r m′ All′
         unfolding runD
         called body eb l r m′ e =
             subst (Meets r m′) (ap (λ (k : ℕ). returned (runBody (limitsOf m) font k body (abs (c .st) m))) (one-more levels l) ∙ ap (λ (b : List ℕ). returned (deepOf (limitsOf m) b (abs (c .st) m))) eb ∙ sym opD-made) e
@@ -332,10 +333,10 @@ module _ (bank : List ℕ) (lenIV levels : ℕ) where
     lim = limitsOf m₀
 
     abbrev whole : Outcome
-    whole = runBytes lim (stepOf lim) (plain lenIV code) 0 (abs t₀ m₀)
+    whole = runBytes lim (stepOf lim) (plain (reading .«len_iv») code) 0 (abs t₀ m₀)
 
     abbrev fin : Outcome
-    fin = runD bank lenIV levels code t₀ m₀
+    fin = runD bank reading levels code t₀ m₀
 
     -- what is left of the bytes is what the whole comes to
     pub record Onward (i key : ℕ) (h : St) (m : Mem) : Type 0 where
@@ -346,10 +347,10 @@ module _ (bank : List ℕ) (lenIV levels : ℕ) where
     unfolding runD runBody
     fin-is = refl
 
-    pub starts : (i key : ℕ) → cursorOf i key enc ≡ start lenIV code → Ready t₀ m₀ → Onward i key t₀ m₀
+    pub starts : (i key : ℕ) → cursorOf i key enc ≡ start (reading .«len_iv») code → Ready t₀ m₀ → Onward i key t₀ m₀
     starts i key e r = record {
       ready = r;
-      left = ap (λ (k : Cursor). runBytes lim (stepOf lim) (rest k code) 0 (abs t₀ m₀)) e ∙ ap (λ (l : List ℕ). runBytes lim (stepOf lim) l 0 (abs t₀ m₀)) (rest-start lenIV code);
+      left = ap (λ (k : Cursor). runBytes lim (stepOf lim) (rest k code) 0 (abs t₀ m₀)) e ∙ ap (λ (l : List ℕ). runBytes lim (stepOf lim) l 0 (abs t₀ m₀)) (rest-start (reading .«len_iv») code);
     }
 
     module _ (i key : ℕ) (h : St) (m : Mem) (on : Onward i key h m) where
@@ -395,7 +396,7 @@ module _ (bank : List ℕ) (lenIV levels : ℕ) where
 
         module _ (z : T (not (not (eqb (t .flow) 0)))) where
           abbrev did : Outcome
-          did = opD bank lenIV levels (t .op) (t .st) m₁
+          did = opD bank reading levels (t .op) (t .st) m₁
 
           abbrev then : State → Outcome
           then = runBytes lim (stepOf lim) (rest (cursorOf (t .next) (t .key) enc) code) 0

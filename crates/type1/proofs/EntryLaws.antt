@@ -14,6 +14,7 @@ use Rattle.bank.specs.Call.{refusedBefore}
 use Rattle.bank.specs.Laws.{valid-is}
 use Rattle.type1.specs.declared.Stem.{Stem}
 use Rattle.type1.specs.declared.St.{St}
+use Rattle.type1.specs.declared.Reading.{Reading}
 use Rattle.type1.specs.declared.Ran.{Ran}
 use Rattle.type1.specs.declared.Interpreted.{Interpreted}
 use Rattle.type1.specs.State.{State, plusZero, start, withRan, stemCount}
@@ -25,7 +26,7 @@ use Rattle.type1.specs.SoundLaws.{start-sound, sound-stable}
 use Rattle.type1.specs.Invariants.{run-outermost, run-finite}
 use Rattle.type1.specs.Cycle.{memOf, Ready, limitsOf, fontOf, runD}
 use Rattle.type1.specs.Entry.{zeroSt, startFlow, numberOf, answerOf, Cleared}
-use Rattle.type1.specs.Interpret.{outcome, Left, refusedWith, Leaves}
+use Rattle.type1.specs.Interpret.{sourceOf, outcome, Left, refusedWith, Leaves}
 
 -- ---- the state before the first byte
 held-start : (n : ℕ) (m : Mem) → m .cells ≡ replicate 19 plusZero → abs (zeroSt n) m ≡ withRan n start
@@ -52,46 +53,46 @@ module _ (charstring bank : List ℕ) where
   unfolding startFlow
   flow-is r z f e ez ef = e ∙ ap (λ (t : St). ranOf t f) ez ∙ ap (ranOf (zeroSt (length charstring))) ef
 
-  module _ (lenIV : ℕ) where
-    stays-out : (b c : Bool) (records words : ℕ) → valid bank ≡ b → leb (length charstring) maxCharstringBytes ≡ c → (_≡_ {A = ℕ} (cond b (cond c 0 3) 2) 0 → ⊥) → outcome charstring bank lenIV records words ≡ refused (cond b (cond c 0 3) 2)
+  module _ (reading : Reading) where
+    stays-out : (b c : Bool) (records words : ℕ) → valid bank ≡ b → leb (length charstring) maxCharstringBytes ≡ c → (_≡_ {A = ℕ} (cond b (cond c 0 3) 2) 0 → ⊥) → outcome (sourceOf charstring bank) reading records words ≡ refused (cond b (cond c 0 3) 2)
     unfolding outcome run charge
     stays-out true true records words e f h = absurd (h refl)
     stays-out true false records words e f h =
-        ap (λ (b : Bool). check b 2 (run (within records words) (fontOf bank lenIV) charstring start)) e
-        ∙ ap (λ (b : Bool). andThen (check b 3 (going (withRan (0 + length charstring) start))) (λ t. returned (runBody (within records words) (fontOf bank lenIV) 11 charstring t))) (ap (λ (n : ℕ). leb n maxCharstringBytes) (zero-add (length charstring)) ∙ f)
-    stays-out false c records words e f h = ap (λ (b : Bool). check b 2 (run (within records words) (fontOf bank lenIV) charstring start)) e
+        ap (λ (b : Bool). check b 2 (run (within records words) (fontOf bank reading) charstring start)) e
+        ∙ ap (λ (b : Bool). andThen (check b 3 (going (withRan (0 + length charstring) start))) (λ t. returned (runBody (within records words) (fontOf bank reading) 11 charstring t))) (ap (λ (n : ℕ). leb n maxCharstringBytes) (zero-add (length charstring)) ∙ f)
+    stays-out false c records words e f h = ap (λ (b : Bool). check b 2 (run (within records words) (fontOf bank reading) charstring start)) e
 
     -- a run that does not begin is refused
-    pub not-begun : (b : Ran) (records words : ℕ) → b ≡ ranOf (zeroSt (length charstring)) (startFlow charstring bank) → T (not (eqb (b .flow) 0)) → outcome charstring bank lenIV records words ≡ refused (b .flow)
+    pub not-begun : (b : Ran) (records words : ℕ) → b ≡ ranOf (zeroSt (length charstring)) (startFlow charstring bank) → T (not (eqb (b .flow) 0)) → outcome (sourceOf charstring bank) reading records words ≡ refused (b .flow)
     unfolding startFlow refusedBefore
     not-begun b records words e h =
         let is : b .flow ≡ startFlow charstring bank = ap (λ (r : Ran). r .flow) e in
         stays-out (valid bank) (leb (length charstring) maxCharstringBytes) records words refl refl (λ z. not-zero (b .flow) h (is ∙ z)) ∙ ap refused (sym is)
 
     -- a run that begins is the byte runner's, ten levels deep
-    pub begun : (m : Mem) → m .cells ≡ replicate 19 plusZero → startFlow charstring bank ≡ 0 → outcome charstring bank lenIV (length (m .stems)) (length (m .cmds)) ≡ runD bank lenIV 10 charstring (zeroSt (length charstring)) m
+    pub begun : (m : Mem) → m .cells ≡ replicate 19 plusZero → startFlow charstring bank ≡ 0 → outcome (sourceOf charstring bank) reading (length (m .stems)) (length (m .cmds)) ≡ runD bank reading 10 charstring (zeroSt (length charstring)) m
     unfolding outcome run charge runD
     begun m z e =
-        ap (λ (b : Bool). check b 2 (run (limitsOf m) (fontOf bank lenIV) charstring start)) (begins e .0)
-        ∙ ap (λ (b : Bool). andThen (check b 3 (going (withRan (0 + length charstring) start))) (λ t. returned (runBody (limitsOf m) (fontOf bank lenIV) 11 charstring t))) (ap (λ (n : ℕ). leb n maxCharstringBytes) (zero-add (length charstring)) ∙ begins e .1)
-        ∙ ap (λ (n : ℕ). returned (runBody (limitsOf m) (fontOf bank lenIV) 11 charstring (withRan n start))) (zero-add (length charstring))
-        ∙ ap (λ (s : State). returned (runBody (limitsOf m) (fontOf bank lenIV) 11 charstring s)) (sym (held-start (length charstring) m z))
+        ap (λ (b : Bool). check b 2 (run (limitsOf m) (fontOf bank reading) charstring start)) (begins e .0)
+        ∙ ap (λ (b : Bool). andThen (check b 3 (going (withRan (0 + length charstring) start))) (λ t. returned (runBody (limitsOf m) (fontOf bank reading) 11 charstring t))) (ap (λ (n : ℕ). leb n maxCharstringBytes) (zero-add (length charstring)) ∙ begins e .1)
+        ∙ ap (λ (n : ℕ). returned (runBody (limitsOf m) (fontOf bank reading) 11 charstring (withRan n start))) (zero-add (length charstring))
+        ∙ ap (λ (s : State). returned (runBody (limitsOf m) (fontOf bank reading) 11 charstring s)) (sym (held-start (length charstring) m z))
 
     -- what is so of every outcome
-    outermost : (records words : ℕ) → Outermost (outcome charstring bank lenIV records words)
+    outermost : (records words : ℕ) → Outermost (outcome (sourceOf charstring bank) reading records words)
     unfolding outcome
     outermost records words = go (valid bank)
       where
-        go : (b : Bool) → Outermost (check b 2 (run (within records words) (fontOf bank lenIV) charstring start))
-        go true = run-outermost (within records words) (fontOf bank lenIV) charstring start
+        go : (b : Bool) → Outermost (check b 2 (run (within records words) (fontOf bank reading) charstring start))
+        go true = run-outermost (within records words) (fontOf bank reading) charstring start
         go false = tt
 
-    finite-ends : Bytes charstring → Bytes bank → (records words : ℕ) → Ends Sound (outcome charstring bank lenIV records words)
+    finite-ends : Bytes charstring → Bytes bank → (records words : ℕ) → Ends Sound (outcome (sourceOf charstring bank) reading records words)
     unfolding outcome
     finite-ends h k records words = go (valid bank)
       where
-        go : (b : Bool) → Ends Sound (check b 2 (run (within records words) (fontOf bank lenIV) charstring start))
-        go true = run-finite (within records words) (fontOf bank lenIV) charstring k h
+        go : (b : Bool) → Ends Sound (check b 2 (run (within records words) (fontOf bank reading) charstring start))
+        go true = run-finite (within records words) (fontOf bank reading) charstring k h
         go false = tt
 
 -- ---- after the run
@@ -166,13 +167,13 @@ zero-fit n m h o p c e a = record {
   last = λ l. absurd (let z : ⊥ = omega (arith, l) in z);
 }
 
-module _ (charstring bank : List ℕ) (lenIV : ℕ) (b : Ran) (e : b ≡ ranOf (zeroSt (length charstring)) (startFlow charstring bank)) (commands : List ℕ) (stems : List Stem) where
+module _ (charstring bank : List ℕ) (reading : Reading) (b : Ran) (e : b ≡ ranOf (zeroSt (length charstring)) (startFlow charstring bank)) (commands : List ℕ) (stems : List Stem) where
   abbrev all : Outcome
-  all = outcome charstring bank lenIV (length stems) (length commands)
+  all = outcome (sourceOf charstring bank) reading (length stems) (length commands)
 
   -- a run that does not begin
   pub refused-first : T (not (eqb (b .flow) 0)) → (r : Interpreted) (commands′ : List ℕ) (stems′ : List Stem) → r ≡ refusedWith (b .flow) → commands′ ≡ replicate (length commands) 0 → stems′ ≡ replicate (length stems) zeroStem → Leaves r commands′ stems′ commands stems all
-  refused-first h r commands′ stems′ er ec ez = refused-leaves all (b .flow) r commands′ stems′ commands stems h (not-begun charstring bank lenIV b (length stems) (length commands) e h) er ec ez
+  refused-first h r commands′ stems′ er ec ez = refused-leaves all (b .flow) r commands′ stems′ commands stems h (not-begun charstring bank reading b (length stems) (length commands) e h) er ec ez
 
   module _ (o p c d : List Float) (a : List Bool) (zero : Cleared o p c d a) (on : T (not (not (eqb (b .flow) 0)))) where
     flow-zero : startFlow charstring bank ≡ 0
@@ -194,13 +195,13 @@ module _ (charstring bank : List ℕ) (lenIV : ℕ) (b : Ran) (e : b ≡ ranOf (
       sound = subst Sound (sym (held-start (length charstring) (memOf o p c d a commands stems) (zero .cells))) (sound-stable (within 0 0) .charged (length charstring) start few start-sound);
     })
 
-    module _ (r : Ran) (m : Mem) (h : Meets r m (runD bank lenIV 10 charstring (b .st) (memOf o p c d a commands stems))) (g : ℕ) (eg : g ≡ numberOf (r .flow)) where
+    module _ (r : Ran) (m : Mem) (h : Meets r m (runD bank reading 10 charstring (b .st) (memOf o p c d a commands stems))) (g : ℕ) (eg : g ≡ numberOf (r .flow)) where
       met : Meets r m all
-      met = subst (Meets r m) (ap (λ (t : St). runD bank lenIV 10 charstring t (memOf o p c d a commands stems)) state-is ∙ sym (begun charstring bank lenIV (memOf o p c d a commands stems) (zero .cells) flow-zero)) h
+      met = subst (Meets r m) (ap (λ (t : St). runD bank reading 10 charstring t (memOf o p c d a commands stems)) state-is ∙ sym (begun charstring bank reading (memOf o p c d a commands stems) (zero .cells) flow-zero)) h
 
       pub refused-later : T (not (eqb g 0)) → (q : Interpreted) (commands′ : List ℕ) (stems′ : List Stem) → q ≡ refusedWith g → commands′ ≡ replicate (length commands) 0 → stems′ ≡ replicate (length stems) zeroStem → Leaves q commands′ stems′ commands stems all
-      refused-later k q commands′ stems′ er ec ez = refused-leaves all g q commands′ stems′ commands stems k (turned-away r m commands stems all (outermost charstring bank lenIV (length stems) (length commands)) met g eg k) er ec ez
+      refused-later k q commands′ stems′ er ec ez = refused-leaves all g q commands′ stems′ commands stems k (turned-away r m commands stems all (outermost charstring bank reading (length stems) (length commands)) met g eg k) er ec ez
 
       pub ran-through : Bytes charstring → Bytes bank → T (not (not (eqb g 0))) → (q : Interpreted) → q ≡ answerOf (r .st) (m .cells) → Leaves q (m .cmds) (m .stems) commands stems all
       ran-through bc bb k q er = subst (λ (u : Interpreted). Leaves u (m .cmds) (m .stems) commands stems all) (sym er)
-          (answered r m commands stems all (outermost charstring bank lenIV (length stems) (length commands)) (finite-ends charstring bank lenIV bc bb (length stems) (length commands)) met (subst (λ (n : ℕ). T (not (not (eqb n 0)))) eg k))
+          (answered r m commands stems all (outermost charstring bank reading (length stems) (length commands)) (finite-ends charstring bank reading bc bb (length stems) (length commands)) met (subst (λ (n : ℕ). T (not (not (eqb n 0)))) eg k))

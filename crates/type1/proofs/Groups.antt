@@ -17,7 +17,7 @@ use Rattle.type1.specs.declared.Stem.{Stem}
 use Rattle.type1.specs.declared.St.{St}
 use Rattle.type1.specs.declared.Ran.{Ran}
 use Rattle.type1.specs.State.{Command, Group, State, settled, stemCount, lastIs, sameStems}
-use Rattle.type1.specs.Run.{pick, Limits, within, Outcome, going, check, newGroup, commit}
+use Rattle.type1.specs.Run.{pick, Limits, within, Outcome, going, check, allowed, entries, newGroup, commit}
 use Rattle.type1.specs.Memory.{Mem, word, commandIn, drawnIn, groupIn, groupsIn, stemsAt, abs, Bounds, Fit, Holds, Meets, kept, after, withCmds, withStems, Told, Path}
 use Rattle.type1.specs.Small.{ranOf, Grown, Space}
 use Rattle.type1.proofs.Store.{Wrote, drawn-same, groups-same, entries-is}
@@ -176,6 +176,12 @@ module _ (t : St) (m : Mem) (s : State) (H : Holds t m s) where
   abbrev next : State
   next = settled (s .groups ++ (record { stems = s .hints; before = length (s .drawn) } ∷ [])) s
 
+  limits-check : (a b d : Bool) (o : Outcome) → allowed (pick a 0 16) (allowed (pick b 0 16) (allowed (pick d 0 17) o)) ≡ check (a && b) 16 (check d 17 o)
+  limits-check true true true o = refl
+  limits-check true true false o = refl
+  limits-check true false d o = refl
+  limits-check false b d o = refl
+
   unfolded : (room words : ℕ) (b d : Bool) → (leb (t .groups + 1) 256 && leb (t .stems + t .hints) room) ≡ b → leb (14 * (t .entries + 1)) words ≡ d → newGroup (within room words) s ≡ check b 16 (check d 17 (going next))
   unfolding newGroup
   unfolded room words b d p q =
@@ -183,7 +189,8 @@ module _ (t : St) (m : Mem) (s : State) (H : Holds t m s) where
       let u = stems-count in
       let h = hints-count in
       let n = entries-is t m s H in
-      ap₂ (λ (x y : Bool). check x 16 (check y 17 (going next))) (ap₂ (λ (i j : ℕ). leb (i + 1) 256 && leb j room) g (ap₂ _+_ u h) ∙ p) (ap (λ (i : ℕ). leb (14 * (i + 1)) words) n ∙ q)
+      limits-check (leb (length (s .groups) + 1) 256) (leb (stemCount (s .groups) + length (s .hints)) room) (leb (14 * (entries s + 1)) words) (going next)
+      ∙ ap₂ (λ (x y : Bool). check x 16 (check y 17 (going next))) (ap₂ (λ (i j : ℕ). leb (i + 1) 256 && leb j room) g (ap₂ _+_ u h) ∙ p) (ap (λ (i : ℕ). leb (14 * (i + 1)) words) n ∙ q)
 
   -- what `hints::new_group` answers
   abbrev number : ℕ → ℕ → ℕ

@@ -19,7 +19,8 @@ use Rattle.type1.specs.declared.Stem.{Stem}
 use Rattle.type1.specs.declared.St.{St}
 use Rattle.type1.specs.declared.Ran.{Ran}
 use Rattle.type1.specs.State.{State, withHints, sameStem, isIn, sameStems}
-use Rattle.type1.specs.Run.{pick, within, going, check, stemOf, stem}
+use Rattle.type1.specs.Outcomes.{limit-check}
+use Rattle.type1.specs.Run.{pick, within, atMost, going, check, allowed, stemOf, stem}
 use Rattle.type1.specs.Memory.{Mem, stemAt, stemsAt, abs, Holds, Meets}
 use Rattle.type1.specs.Memory as Memory
 use Rattle.type1.specs.Small.{ranOf, zeroStem}
@@ -87,7 +88,7 @@ stem-here n h p w e a l k =
 module _ (t : St) (m : Mem) (s : State) (H : Holds t m s) (room words : ℕ) (h : Bool) (p w : Float) where
   pub add-infinite : (r : Ran) → r ≡ ranOf t 14 → finite p ≡ false → Meets r m (stem (within room words) h p w s)
   unfolding stem
-  add-infinite r e f = subst (λ (b : Bool). Meets r m (check b 14 (pick (isIn (s .hints) (stemOf h p w)) (going s) (check (leb (length (s .hints) + 1) 256) 16 (going (withHints (s .hints ++ (stemOf h p w ∷ [])) s)))))) (sym f) (ap (λ (q : Ran). q .flow) e, lit≤ tt)
+  add-infinite r e f = subst (λ (b : Bool). Meets r m (check b 14 (pick (isIn (s .hints) (stemOf h p w)) (going s) (allowed (atMost 256 16 (length (s .hints) + 1)) (going (withHints (s .hints ++ (stemOf h p w ∷ [])) s)))))) (sym f) (ap (λ (q : Ran). q .flow) e, lit≤ tt)
 
   hints-are : s .hints ≡ stemsAt 0 (t .hints) (m .edges) (m .across)
   unfolding abs
@@ -96,7 +97,9 @@ module _ (t : St) (m : Mem) (s : State) (H : Holds t m s) (room words : ℕ) (h 
   module _ (f : finite p ≡ true) where
     past : stem (within room words) h p w s ≡ pick (isIn (s .hints) (stemOf h p w)) (going s) (check (leb (length (s .hints) + 1) 256) 16 (going (withHints (s .hints ++ (stemOf h p w ∷ [])) s)))
     unfolding stem
-    past = ap (λ (b : Bool). check b 14 (pick (isIn (s .hints) (stemOf h p w)) (going s) (check (leb (length (s .hints) + 1) 256) 16 (going (withHints (s .hints ++ (stemOf h p w ∷ [])) s))))) f
+    past =
+        ap (λ (b : Bool). check b 14 (pick (isIn (s .hints) (stemOf h p w)) (going s) (allowed (atMost 256 16 (length (s .hints) + 1)) (going (withHints (s .hints ++ (stemOf h p w ∷ [])) s))))) f
+        ∙ ap (pick (isIn (s .hints) (stemOf h p w)) (going s)) (limit-check (leb (length (s .hints) + 1) 256) 16 _ refl)
 
     pub add-same : (r : Ran) → r ≡ ranOf t 0 → isIn (stemsAt 0 (t .hints) (m .edges) (m .across)) (stemOf h p w) ≡ true → Meets r m (stem (within room words) h p w s)
     add-same r e i =

@@ -10,6 +10,7 @@ use denote.Memory.{pointee}
 use denote.Struct.Laws as LL
 use Rattle.type1.specs.declared.Stem.{Stem}
 use Rattle.type1.specs.declared.St.{St}
+use Rattle.type1.specs.declared.Reading.{Reading}
 use Rattle.type1.specs.declared.Tok.{Tok}
 use Rattle.type1.specs.declared.Ran.{Ran}
 use Rattle.type1.specs.declared.Called.{Called}
@@ -19,6 +20,8 @@ use Rattle.type1.proofs.Stem as T
 use Rattle.type1.proofs.Stem.Laws as T′
 use Rattle.type1.proofs.St as S
 use Rattle.type1.proofs.St.Laws as S′
+use Rattle.type1.proofs.Reading as R
+use Rattle.type1.proofs.Reading.Laws as R′
 use Rattle.type1.proofs.Tok as K
 use Rattle.type1.proofs.Tok.Laws as K′
 use Rattle.type1.proofs.Ran as N
@@ -69,6 +72,9 @@ machT h = LL.tuple-val T.the-type T′.the-laws (T.the-type .to h)
 
 abbrev pub machS : St → Val
 machS h = LL.tuple-val S.the-type S′.the-laws (S.the-type .to h)
+
+abbrev pub machR : Reading → Val
+machR h = LL.tuple-val R.the-type R′.the-laws (R.the-type .to h)
 
 abbrev pub machK : Tok → Val
 machK h = LL.tuple-val K.the-type K′.the-laws (K.the-type .to h)

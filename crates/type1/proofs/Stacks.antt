@@ -21,7 +21,8 @@ use Rattle.othersubrs.specs.Laws.{handed-all}
 use Rattle.type1.specs.declared.St.{St}
 use Rattle.type1.specs.declared.Ran.{Ran}
 use Rattle.type1.specs.State.{State, plusZero, withOperands, withPostscript, withPoint, withBearing, withDivided, withFlex}
-use Rattle.type1.specs.Run.{pick, within, Outcome, going, refused, check, top, cleared, without, needs, push, popD, divD, backwards, handBack, collected, otherSubr2, pointAt}
+use Rattle.type1.specs.Outcomes.{limit-check}
+use Rattle.type1.specs.Run.{pick, within, atMost, Outcome, going, refused, check, allowed, top, cleared, without, needs, push, popD, divD, backwards, handBack, collected, otherSubr2, pointAt}
 use Rattle.type1.specs.Memory.{Mem, pointsAt, flexIn, abs, Bounds, Fit, Holds, Meets, withOps, withPs, withCells}
 use Rattle.type1.specs.Reading.{withCount}
 use Rattle.type1.specs.Small.{ranOf, withXY}
@@ -211,12 +212,18 @@ module _ (t : St) (m : Mem) (s : State) (H : Holds t m s) where
   postscript-count = ap length postscript-are ∙ length-take-le (t .postscript) (m .ps) (let a = H .fit .ps in let b = H .fit .bounds .postscript in omega arith)
 
   module _ (room words : ℕ) where
+    abbrev next : Float → List Float → Outcome
+    next v l = going (withOperands (s .operands ++ (v ∷ [])) (withPostscript l s))
+
+    abbrev pushed : Float → List Float → Outcome
+    pushed v l = allowed (atMost 256 15 (length (s .operands) + 1)) (next v l)
+
     abbrev pushes : Float → List Float → Outcome
-    pushes v l = check (leb (length (s .operands) + 1) 256) 15 (going (withOperands (s .operands ++ (v ∷ [])) (withPostscript l s)))
+    pushes v l = check (leb (length (s .operands) + 1) 256) 15 (next v l)
 
     pub pop-none : (r : Ran) → r ≡ ranOf t 11 → t .postscript ≡ 0 → Meets r m (popD (within room words) s)
     unfolding popD push
-    pop-none r e z = subst (λ (k : Bool). Meets r m (check k 11 (pushes (getD (s .postscript) (length (s .postscript) - 1) nan) (take (length (s .postscript) - 1) (s .postscript))))) (sym (le-ltb 0 (length (s .postscript)) (let n = postscript-count in omega arith))) (ap (λ (q : Ran). q .flow) e, lit≤ tt)
+    pop-none r e z = subst (λ (k : Bool). Meets r m (check k 11 (pushed (getD (s .postscript) (length (s .postscript) - 1) nan) (take (length (s .postscript) - 1) (s .postscript))))) (sym (le-ltb 0 (length (s .postscript)) (let n = postscript-count in omega arith))) (ap (λ (q : Ran). q .flow) e, lit≤ tt)
 
     module _ (ne : t .postscript ≡ 0 → ⊥) where
       abbrev v : Float
@@ -229,7 +236,8 @@ module _ (t : St) (m : Mem) (s : State) (H : Holds t m s) where
       unfolding popD push
       pop-is =
           let h = pos-of-ne-zero ne in
-          ap (λ (k : Bool). check k 11 (pushes (getD (s .postscript) (length (s .postscript) - 1) nan) (take (length (s .postscript) - 1) (s .postscript)))) (lt-ltb 0 (length (s .postscript)) (let n = postscript-count in omega arith))
+          ap (λ (k : Bool). check k 11 (pushed (getD (s .postscript) (length (s .postscript) - 1) nan) (take (length (s .postscript) - 1) (s .postscript)))) (lt-ltb 0 (length (s .postscript)) (let n = postscript-count in omega arith))
+          ∙ limit-check (leb (length (s .operands) + 1) 256) 15 _ refl
           ∙ ap₂ (λ (l : List Float) (n : ℕ). pushes (getD l (n - 1) nan) (take (n - 1) l)) postscript-are postscript-count
           ∙ ap₂ pushes (getD-take (t .postscript) (m .ps) (t .postscript - 1) nan (omega arith)) (take-take (t .postscript - 1) (t .postscript) (m .ps) (omega arith))
 
@@ -338,7 +346,7 @@ withPostscripts p t = small (t .operands) p (t .x) (t .y) (t .opened) (t .flexin
 module _ (t : St) (m : Mem) (s : State) (H : Holds t m s) (room words : ℕ) (v : List Float) where
   back-is : (b : Bool) → leb (t .postscript + length v) 256 ≡ b → handBack (within room words) v s ≡ check b 15 (going (withPostscript (s .postscript ++ v) s))
   unfolding handBack
-  back-is b e = ap (λ (k : Bool). check k 15 (going (withPostscript (s .postscript ++ v) s))) (ap (λ (n : ℕ). leb (n + length v) 256) (postscript-count t m s H) ∙ e)
+  back-is b e = limit-check (leb (length (s .postscript) + length v) 256) 15 _ refl ∙ ap (λ (k : Bool). check k 15 (going (withPostscript (s .postscript ++ v) s))) (ap (λ (n : ℕ). leb (n + length v) 256) (postscript-count t m s H) ∙ e)
 
   pub back-full : (r : Ran) → r .flow ≡ 15 → 256 < t .postscript + length v → Meets r m (handBack (within room words) v s)
   back-full r e h = subst (Meets r m) (sym (back-is false (lt-leb (t .postscript + length v) 256 h))) (e, lit≤ tt)

@@ -18,7 +18,7 @@ use Rattle.type1.specs.declared.Stem.{Stem}
 use Rattle.type1.specs.declared.St.{St}
 use Rattle.type1.specs.declared.Ran.{Ran}
 use Rattle.type1.specs.State.{Command, move, line, curve, flex, Group, State, withDrawn, stemCount, lastIs}
-use Rattle.type1.specs.Run.{pick, Limits, within, Outcome, going, refused, check, enter, pointAt}
+use Rattle.type1.specs.Run.{pick, Limits, within, Outcome, going, refused, allowed, enter, pointAt}
 use Rattle.type1.specs.Memory.{Mem, word, pointIn, coordinate, commandIn, drawnIn, groupIn, groupsIn, abs, Bounds, Fit, Holds, Meets, Good, withCmds, pointCommand, Plain}
 use Rattle.type1.specs.Small.{ranOf, flexOf, Entered}
 
@@ -246,14 +246,14 @@ module _ (t : St) (m : Mem) (s : State) (H : Holds t m s) (room : ℕ) (x : Comm
   enter-full r e h =
       let n = entries-is t m s H in
       let l = H .fit .bounds .entries in
-      subst (λ (b : Bool). Meets r m (check b 17 (going (withDrawn (s .drawn ++ (x ∷ [])) s)))) (sym (lt-leb (14 * (length (s .drawn) + length (s .groups) + 1)) (length (m .cmds)) (omega arith))) (ap (λ (q : Ran). q .flow) e, lit≤ tt)
+      subst (λ (b : Bool). Meets r m (allowed (pick b 0 17) (going (withDrawn (s .drawn ++ (x ∷ [])) s)))) (sym (lt-leb (14 * (length (s .drawn) + length (s .groups) + 1)) (length (m .cmds)) (omega arith))) (ap (λ (q : Ran). q .flow) e, lit≤ tt)
 
   pub enter-more : (r : Ran) (d : List ℕ) → r ≡ ranOf (withEntries (t .entries + 1) t) 0 → 14 ≤ length (m .cmds) - 14 * t .entries → length d ≡ length (m .cmds) → Alike (14 * t .entries) d (m .cmds) → commandIn d (t .entries) ≡ x ∷ [] → (word d (t .entries) 0 ≡ 5 → ⊥) → Meets r (withCmds d m) (enter (within room (length (m .cmds))) x s)
   unfolding enter
   enter-more r d e h len low is other =
       let n = entries-is t m s H in
       let l = H .fit .bounds .entries in
-      subst (λ (b : Bool). Meets r (withCmds d m) (check b 17 (going (withDrawn (s .drawn ++ (x ∷ [])) s)))) (sym (le-leb (14 * (length (s .drawn) + length (s .groups) + 1)) (length (m .cmds)) (omega arith)))
+      subst (λ (b : Bool). Meets r (withCmds d m) (allowed (pick b 0 17) (going (withDrawn (s .drawn ++ (x ∷ [])) s)))) (sym (le-leb (14 * (length (s .drawn) + length (s .groups) + 1)) (length (m .cmds)) (omega arith)))
       (ap (λ (q : Ran). q .flow) e, subst (λ (q : Ran). Holds (q .st) (withCmds d m) (withDrawn (s .drawn ++ (x ∷ [])) s)) (sym e) (entered t m s H d x len (omega arith) low is other))
 
 pub plain-same : (t : St) (r : Ran) (n : ℕ) → r ≡ ranOf t n → Plain t (r .st)

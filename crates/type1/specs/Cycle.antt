@@ -6,6 +6,7 @@ use lib.ListN.{length}
 use lib.Ieee.{Float}
 use Rattle.type1.specs.declared.Stem.{Stem}
 use Rattle.type1.specs.declared.St.{St}
+use Rattle.type1.specs.declared.Reading.{Reading}
 use Rattle.type1.specs.Run.{Limits, within, Outcome, Font, returned, execute, runBody}
 use Rattle.type1.specs.Memory.{Mem, abs, Fit, operatorOf}
 use Rattle.type1.specs.Sound.{Sound}
@@ -22,13 +23,13 @@ pub record Ready (t : St) (m : Mem) : Type 0 where
 abbrev pub limitsOf : Mem → Limits
 limitsOf m = within (length (m .stems)) (length (m .cmds))
 
-abbrev pub fontOf : List ℕ → ℕ → Font
-fontOf bank lenIV = record { bank = bank; lenIV = lenIV }
+abbrev pub fontOf : List ℕ → Reading → Font
+fontOf bank reading = record { bank = bank; reading = reading }
 
 -- one operator, with so many levels left for bodies
-unfoldable pub opD : List ℕ → ℕ → ℕ → ℕ → St → Mem → Outcome
-opD bank lenIV levels op t m = execute (limitsOf m) (fontOf bank lenIV) (runBody (limitsOf m) (fontOf bank lenIV) levels) (operatorOf op) (abs t m)
+unfoldable pub opD : List ℕ → Reading → ℕ → ℕ → St → Mem → Outcome
+opD bank reading levels op t m = execute (limitsOf m) (fontOf bank reading) (runBody (limitsOf m) (fontOf bank reading) levels) (operatorOf op) (abs t m)
 
 -- a body's bytes, with so many levels left below it; one that returns goes on after the call
-unfoldable pub runD : List ℕ → ℕ → ℕ → List ℕ → St → Mem → Outcome
-runD bank lenIV levels code t m = returned (runBody (limitsOf m) (fontOf bank lenIV) (suc levels) code (abs t m))
+unfoldable pub runD : List ℕ → Reading → ℕ → List ℕ → St → Mem → Outcome
+runD bank reading levels code t m = returned (runBody (limitsOf m) (fontOf bank reading) (suc levels) code (abs t m))

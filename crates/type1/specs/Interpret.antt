@@ -6,16 +6,29 @@ use mathlib.Core.List.{List}
 use lib.ListN.{length, replicate}
 use Rattle.bank.specs.Bank.{valid}
 use Rattle.type1.specs.declared.Stem.{Stem}
+use Rattle.type1.specs.declared.Reading.{Reading}
 use Rattle.type1.specs.declared.Interpreted.{Interpreted}
 use Rattle.type1.specs.State.{State, plusZero, start, stemCount}
-use Rattle.type1.specs.Run.{Outcome, going, returning, ending, refused, check, within, run}
+use Rattle.type1.specs.Run.{Limits, Outcome, going, returning, ending, refused, check, within, run}
 use Rattle.type1.specs.Memory.{word, drawnIn, groupsIn}
 use Rattle.type1.specs.Small.{zeroStem}
 use Rattle.type1.specs.Sound.{Sound}
 
--- the run of a charstring with a bank, from the first byte, in stores of so many records and words: 2 where the bank breaks its layout (document 01, "Numbers the board logs"), else as the run ends
-unfoldable pub outcome : List ℕ → List ℕ → ℕ → ℕ → ℕ → Outcome
-outcome charstring bank lenIV records words = check (valid bank) 2 (run (within records words) (record { bank = bank; lenIV = lenIV }) charstring start)
+-- what is read: a charstring, and the bank of its subroutines
+pub record Source : Type 0 where
+  pub charstring : List ℕ
+  pub bank : List ℕ
+
+abbrev pub sourceOf : List ℕ → List ℕ → Source
+sourceOf charstring bank = record { charstring = charstring; bank = bank }
+
+-- the run of a source, from the first byte
+abbrev pub runOf : Limits → Source → Reading → Outcome
+runOf lim x reading = run lim (record { bank = x .bank; reading = reading }) (x .charstring) start
+
+-- in stores of so many records and words: 2 where the bank breaks its layout (document 01, "Numbers the board logs"), else as the run ends
+unfoldable pub outcome : Source → Reading → ℕ → ℕ → Outcome
+outcome x reading records words = check (valid (x .bank)) 2 (runOf (within records words) x reading)
 
 -- a run that is not refused: number 0, the width, the bytes run ("Bytes run": encrypted bytes, each body at each call), and the drawn list and the groups, which stand in the stores
 pub record Left (r : Interpreted) (commands : List ℕ) (stems : List Stem) (s : State) : Type 0 where

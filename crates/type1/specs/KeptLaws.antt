@@ -19,7 +19,7 @@ use Rattle.type1.specs.Number.{number, operator, double}
 use Rattle.type1.specs.State.{Command, move, line, curve, flex, Group, State, plusZero, origin, withOperands, withPostscript, withPoint, withBearing, withOpen, withFlex, withHints, settled, withDrawn, withDivided, withRan, isIn, lastIs, stemCount}
 use Rattle.type1.specs.Run.{Limits, Outcome, going, refused, andThen, pick, top, cleared, without, needs, push, stemOf, stem, entries, newGroup, commit, enter, list, shifted, isFinite, noFlex, moveBy, openSubpath, lineTo, lineBy, curveTo, curveBy, samePoint, setPoint, backwards, handBack, endFlex, heightOf, otherSubr0, collected, otherSubr2, is, otherSubr, callOtherSubr, popD, divD, stems3, pointAt, operate}
 use Rattle.type1.specs.Sound.{All, OfPoint, OfStem, OfCommand, OfFlex, OfGroup, Numbers, Ends, Sums, Kept, Holding, Held, Stable}
-use Rattle.type1.specs.Outcomes.{check-ends, pick-ends, needs-ends, then-ends, weaken-ends, all-append, all-snoc, all-take, all-drop, all-getD, all-getD-default, all-map}
+use Rattle.type1.specs.Outcomes.{check-ends, allowed-ends, pick-ends, needs-ends, then-ends, weaken-ends, all-append, all-snoc, all-take, all-drop, all-getD, all-getD-default, all-map}
 
 -- ---- a weaker property
 module _ (P R : Float → Type 0) (f : (x : Float) → P x → R x) where
@@ -123,7 +123,7 @@ module _ (d : Bool) (P : Float → Type 0) (K : Sums P) where
   unfolding push
   push-kept lim v s q p =
       let l = s .operands ++ (v ∷ []) in
-      check-ends (Held d P) (lim .operands (length (s .operands) + 1)) 15 (going (withOperands l s)) (λ t. (q .0, operands-kept P s (q .1) l (all-snoc P (s .operands) v (q .1 .operands) p)))
+      allowed-ends (Held d P) (lim .operands (length (s .operands) + 1)) (going (withOperands l s)) ((q .0, operands-kept P s (q .1) l (all-snoc P (s .operands) v (q .1 .operands) p)))
 
   pub stem-kept : (lim : Limits) (h : Bool) (p w : Float) (s : State) → Held d P s → (T (finite p) → P p) → P w → Ends (Held d P) (stem lim h p w s)
   unfolding stem
@@ -131,15 +131,16 @@ module _ (d : Bool) (P : Float → Type 0) (K : Sums P) where
       check-ends (Held d P) (finite p) 14 _ (λ t.
       pick-ends (Held d P) (isIn (s .hints) (stemOf h p w)) (going s) _ (λ u. q) (λ u.
       let l = s .hints ++ (stemOf h p w ∷ []) in
-      check-ends (Held d P) (lim .hints (length (s .hints) + 1)) 16 (going (withHints l s)) (λ v. (q .0, hints-kept P s (q .1) l (all-snoc (OfStem P) (s .hints) (stemOf h p w) (q .1 .hints) (a t, b))))))
+      allowed-ends (Held d P) (lim .hints (length (s .hints) + 1)) (going (withHints l s)) ((q .0, hints-kept P s (q .1) l (all-snoc (OfStem P) (s .hints) (stemOf h p w) (q .1 .hints) (a t, b))))))
 
   pub newGroup-kept : (lim : Limits) (s : State) → Held d P s → Ends (Held d P) (newGroup lim s)
   unfolding newGroup
   newGroup-kept lim s q =
       let g : Group = record { stems = s .hints; before = length (s .drawn) } in
       let l = s .groups ++ (g ∷ []) in
-      check-ends (Held d P) (lim .groups (length (s .groups) + 1) && lim .stems (stemCount (s .groups) + length (s .hints))) 16 _ (λ t.
-      check-ends (Held d P) (lim .commands (entries s + 1)) 17 (going (settled l s)) (λ u. (q .0, settled-kept P s (q .1) l (all-snoc (OfGroup P) (s .groups) g (q .1 .groups) (q .1 .hints)))))
+      allowed-ends (Held d P) (lim .groups (length (s .groups) + 1)) _ (
+      allowed-ends (Held d P) (lim .stems (stemCount (s .groups) + length (s .hints))) _ (
+      allowed-ends (Held d P) (lim .commands (entries s + 1)) (going (settled l s)) ((q .0, settled-kept P s (q .1) l (all-snoc (OfGroup P) (s .groups) g (q .1 .groups) (q .1 .hints))))))
 
   pub commit-kept : (lim : Limits) (s : State) → Held d P s → Ends (Held d P) (commit lim s)
   unfolding commit
@@ -152,7 +153,7 @@ module _ (d : Bool) (P : Float → Type 0) (K : Sums P) where
   unfolding enter
   enter-kept lim c s p q =
       let l = s .drawn ++ (c ∷ []) in
-      check-ends (Held d P) (lim .commands (entries s + 1)) 17 (going (withDrawn l s)) (λ t. (q .0, drawn-kept P s (q .1) l (all-snoc (OfCommand P) (s .drawn) c (q .1 .drawn) p)))
+      allowed-ends (Held d P) (lim .commands (entries s + 1)) (going (withDrawn l s)) ((q .0, drawn-kept P s (q .1) l (all-snoc (OfCommand P) (s .drawn) c (q .1 .drawn) p)))
 
   then-kept : (o : Outcome) (k : State → Outcome) → Ends (Held d P) o → ((s : State) → Held d P s → Ends (Held d P) (k s)) → Ends (Held d P) (andThen o k)
   then-kept o k p h = then-ends (Held d P) (Held d P) o k p (λ s q. q) h
@@ -224,7 +225,7 @@ module _ (d : Bool) (P : Float → Type 0) (K : Sums P) where
   unfolding handBack
   handBack-kept lim l s h q =
       let m = s .postscript ++ l in
-      check-ends (Held d P) (lim .postscript (length (s .postscript) + length l)) 15 (going (withPostscript m s)) (λ t. (q .0, postscript-kept P s (q .1) m (all-append P (s .postscript) l (q .1 .postscript) h)))
+      allowed-ends (Held d P) (lim .postscript (length (s .postscript) + length l)) (going (withPostscript m s)) ((q .0, postscript-kept P s (q .1) m (all-append P (s .postscript) l (q .1 .postscript) h)))
 
   pub endFlex-kept : (lim : Limits) (h : Float) (l : List Point) (s : State) → P h → All (OfPoint P) l → Held d P s → Ends (Held d P) (endFlex lim h l s)
   unfolding endFlex All

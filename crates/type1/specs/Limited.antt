@@ -1,8 +1,8 @@
 -- Laws: a run with limits is refused by a limit, with 15, 16 or 17, or is the unlimited run. Document 01, numbers 15 to 17.
-use Prim.Native.Nat.{ℕ, zero, suc, _+_, _-_}
+use Prim.Native.Nat.{ℕ, zero, suc, _+_, _-_, _*_}
 use mathlib.Core.Path.{_≡_, refl, sym, ap, _∙_, subst}
 use mathlib.Core.Logic.{inl, inr}
-use mathlib.Core.Bool.{Bool, true, false, _&&_}
+use mathlib.Core.Bool.{Bool, true, false, _&&_, _||_}
 use mathlib.Core.List.{List, [], _∷_}
 use mathlib.Core.Option.{Option, none, some}
 use lib.Dec.{T, leb, ltb, eqb}
@@ -16,8 +16,8 @@ use Rattle.type1.specs.Operator as op
 use Rattle.type1.specs.Operator.{Operator}
 use Rattle.type1.specs.Number.{Token, cut, number, operator, token, double}
 use Rattle.type1.specs.State.{Command, move, line, curve, flex, State, plusZero, origin, withPoint, withPostscript, withFlex, withHints, withOpen, isIn, lastIs, stemCount}
-use Rattle.type1.specs.Run.{Limits, unlimited, Outcome, going, returning, ending, refused, andThen, pick, check, top, cleared, without, needs, push, stemOf, stem, entries, newGroup, commit, enter, list, shifted, isFinite, noFlex, moveBy, openSubpath, lineTo, lineBy, curveTo, curveBy, samePoint, setPoint, backwards, handBack, endFlex, heightOf, otherSubr0, is, otherSubr, callOtherSubr, popD, stems3, pointAt, operate, Font, charge, named, returned, callBody, callSubr, execute, consume, runBytes, runBody, run}
-use Rattle.type1.specs.Sound.{LimitOr}
+use Rattle.type1.specs.Run.{Limits, within, unlimited, Outcome, going, returning, ending, refused, andThen, pick, check, allowed, top, cleared, without, needs, push, stemOf, stem, entries, newGroup, commit, enter, list, shifted, isFinite, noFlex, moveBy, openSubpath, lineTo, lineBy, curveTo, curveBy, samePoint, setPoint, backwards, handBack, endFlex, heightOf, otherSubr0, is, otherSubr, callOtherSubr, popD, stems3, pointAt, operate, Font, charge, named, returned, callBody, callSubr, execute, consume, runBytes, runBody, run}
+use Rattle.type1.specs.Sound.{isLimit, Limiting, LimitOr}
 
 -- ---- through the ways steps are put together
 pub same : (o : Outcome) → LimitOr o o
@@ -28,9 +28,12 @@ check-limited true n o p h = h
 check-limited false n o p h = inr refl
 
 -- a limit's test, which the unlimited run always passes
-limit : (b : Bool) (n : ℕ) (o p : Outcome) → T (leb 15 n && leb n 17) → LimitOr o p → LimitOr (check b n o) p
-limit true n o p t h = h
-limit false n o p t h = inl (n, refl, t)
+limit : (n : ℕ) (o p : Outcome) → T (eqb n 0 || isLimit n) → LimitOr o p → LimitOr (allowed n o) p
+limit n o p t h = go (eqb n 0) t
+  where
+    go : (b : Bool) → T (b || isLimit n) → LimitOr (check b n o) p
+    go true _ = h
+    go false l = inl (n, refl, l)
 
 pick-limited : (b : Bool) (o p x y : Outcome) → LimitOr o x → LimitOr p y → LimitOr (pick b o p) (pick b x y)
 pick-limited true o p x y h k = h
@@ -50,20 +53,39 @@ pub returned-limited : (o p : Outcome) → LimitOr o p → LimitOr (returned o) 
 returned-limited o p (inl r) = inl (r .0, ap returned (r .1), r .2)
 returned-limited o p (inr e) = inr (ap returned e)
 
+-- the stores' limits
+at-most : (b : Bool) (n : ℕ) → T (isLimit n) → T (eqb (pick b 0 n) 0 || isLimit (pick b 0 n))
+at-most true n t = tt
+at-most false n t = go (eqb n 0)
+  where
+    go : (b : Bool) → T (b || isLimit n)
+    go true = tt
+    go false = t
+
+pub within-limiting : (records words : ℕ) → Limiting (within records words)
+within-limiting records words = record {
+  operands = λ n. at-most (leb n 256) 15 tt;
+  postscript = λ n. at-most (leb n 256) 15 tt;
+  hints = λ n. at-most (leb n 256) 16 tt;
+  groups = λ n. at-most (leb n 256) 16 tt;
+  stems = λ n. at-most (leb n records) 16 tt;
+  commands = λ n. at-most (leb (14 * n) words) 17 tt;
+}
+
 -- ---- steps
-module _ (lim : Limits) where
+module _ (lim : Limits) (L : Limiting lim) where
   push-limited : (v : Float) (s : State) → LimitOr (push lim v s) (push unlimited v s)
   unfolding push
-  push-limited v s = limit (lim .operands (length (s .operands) + 1)) 15 _ _ tt (inr refl)
+  push-limited v s = limit (lim .operands (length (s .operands) + 1)) _ _ (L .operands (length (s .operands) + 1)) (inr refl)
 
   stem-limited : (h : Bool) (p w : Float) (s : State) → LimitOr (stem lim h p w s) (stem unlimited h p w s)
   unfolding stem
   stem-limited h p w s =
-      check-limited (finite p) 14 _ _ (pick-limited (isIn (s .hints) (stemOf h p w)) (going s) _ (going s) _ (inr refl) (limit (lim .hints (length (s .hints) + 1)) 16 _ _ tt (inr refl)))
+      check-limited (finite p) 14 _ _ (pick-limited (isIn (s .hints) (stemOf h p w)) (going s) _ (going s) _ (inr refl) (limit (lim .hints (length (s .hints) + 1)) _ _ (L .hints (length (s .hints) + 1)) (inr refl)))
 
   newGroup-limited : (s : State) → LimitOr (newGroup lim s) (newGroup unlimited s)
   unfolding newGroup
-  newGroup-limited s = limit (lim .groups (length (s .groups) + 1) && lim .stems (stemCount (s .groups) + length (s .hints))) 16 _ _ tt (limit (lim .commands (entries s + 1)) 17 _ _ tt (inr refl))
+  newGroup-limited s = limit (lim .groups (length (s .groups) + 1)) _ _ (L .groups (length (s .groups) + 1)) (limit (lim .stems (stemCount (s .groups) + length (s .hints))) _ _ (L .stems (stemCount (s .groups) + length (s .hints))) (limit (lim .commands (entries s + 1)) _ _ (L .commands (entries s + 1)) (inr refl)))
 
   commit-limited : (s : State) → LimitOr (commit lim s) (commit unlimited s)
   unfolding commit
@@ -71,7 +93,7 @@ module _ (lim : Limits) where
 
   enter-limited : (c : Command) (s : State) → LimitOr (enter lim c s) (enter unlimited c s)
   unfolding enter
-  enter-limited c s = limit (lim .commands (entries s + 1)) 17 _ _ tt (inr refl)
+  enter-limited c s = limit (lim .commands (entries s + 1)) _ _ (L .commands (entries s + 1)) (inr refl)
 
   list-limited : (c : Command) (s : State) → LimitOr (list lim c s) (list unlimited c s)
   unfolding list
@@ -119,7 +141,7 @@ module _ (lim : Limits) where
 
   handBack-limited : (l : List Float) (s : State) → LimitOr (handBack lim l s) (handBack unlimited l s)
   unfolding handBack
-  handBack-limited l s = limit (lim .postscript (length (s .postscript) + length l)) 15 _ _ tt (inr refl)
+  handBack-limited l s = limit (lim .postscript (length (s .postscript) + length l)) _ _ (L .postscript (length (s .postscript) + length l)) (inr refl)
 
   endFlex-limited : (h : Float) (l : List Point) (s : State) → LimitOr (endFlex lim h l s) (endFlex unlimited h l s)
   unfolding endFlex
@@ -235,7 +257,7 @@ module _ (lim : Limits) where
   unfolding runBody
   runBody-limited f zero l s = inr refl
   runBody-limited f (suc n) l s =
-      runBytes-limited (execute lim f (runBody lim f n)) (execute unlimited f (runBody unlimited f n)) (execute-limited f (runBody lim f n) (runBody unlimited f n) (runBody-limited f n)) (plain (f .lenIV) l) 0 s
+      runBytes-limited (execute lim f (runBody lim f n)) (execute unlimited f (runBody unlimited f n)) (execute-limited f (runBody lim f n) (runBody unlimited f n) (runBody-limited f n)) (plain (f .reading .«len_iv») l) 0 s
 
   pub run-limited : (f : Font) (l : List ℕ) (s : State) → LimitOr (run lim f l s) (run unlimited f l s)
   unfolding run

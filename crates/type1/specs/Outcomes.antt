@@ -2,20 +2,28 @@
 use Prim.Native.Nat.{ℕ, zero, suc, _≤_, _<_}
 use native.Mathlib.Nat.{le-of-suc-le-suc}
 use native.Mathlib.Omega.{arith}
-use mathlib.Core.Path.{_≡_, subst}
+use mathlib.Core.Path.{_≡_, refl, ap, subst}
 use mathlib.Core.Bool.{Bool, true, false, not}
 use mathlib.Core.List.{List, [], _∷_, _++_}
-use lib.Dec.{T, leb, leb→le}
+use lib.Dec.{T, eqb, leb, leb→le}
 use lib.ListN.{length, take, drop, getD}
 use Rattle.type1.specs.State.{State}
-use Rattle.type1.specs.Run.{Outcome, going, returning, ending, refused, andThen, pick, check, needs, returned}
+use Rattle.type1.specs.Run.{Outcome, going, returning, ending, refused, andThen, pick, check, allowed, needs, returned}
 use Rattle.type1.specs.Sound.{All, Ends, Goes}
+
+-- ---- a limit by its test
+pub limit-check : (b : Bool) (n : ℕ) (o : Outcome) → eqb n 0 ≡ false → allowed (pick b 0 n) o ≡ check b n o
+limit-check true n o h = refl
+limit-check false n o h = ap (λ (c : Bool). check c n o) h
 
 -- ---- steps
 module _ (Q : State → Type 0) where
   pub check-ends : (b : Bool) (n : ℕ) (o : Outcome) → (T b → Ends Q o) → Ends Q (check b n o)
   check-ends true n o h = h tt
   check-ends false n o h = tt
+
+  pub allowed-ends : (n : ℕ) (o : Outcome) → Ends Q o → Ends Q (allowed n o)
+  allowed-ends n o h = check-ends (eqb n 0) n o (λ t. h)
 
   pub pick-ends : (b : Bool) (x y : Outcome) → (T b → Ends Q x) → (T (not b) → Ends Q y) → Ends Q (pick b x y)
   pick-ends true x y h k = h tt
@@ -55,6 +63,9 @@ module _ (Q : State → Type 0) where
   pub check-goes : (b : Bool) (n : ℕ) (o : Outcome) → (T b → Goes Q o) → Goes Q (check b n o)
   check-goes true n o h = h tt
   check-goes false n o h = tt
+
+  pub allowed-goes : (n : ℕ) (o : Outcome) → Goes Q o → Goes Q (allowed n o)
+  allowed-goes n o h = check-goes (eqb n 0) n o (λ t. h)
 
   pub pick-goes : (b : Bool) (x y : Outcome) → (T b → Goes Q x) → (T (not b) → Goes Q y) → Goes Q (pick b x y)
   pick-goes true x y h k = h tt

@@ -12,6 +12,7 @@ use Rattle.charstring.specs.Cipher.{Bytes, plainByte}
 use Rattle.charstring.specs.Cursor.{rest}
 use Rattle.bank.specs.Bank.{bytesAt, found}
 use Rattle.type1.specs.declared.St.{St}
+use Rattle.type1.specs.declared.Reading.{Reading}
 use Rattle.type1.specs.declared.Tok.{Tok}
 use Rattle.type1.specs.declared.Num.{Num}
 use Rattle.type1.specs.declared.Drawn.{Drawn}
@@ -147,6 +148,6 @@ pub record Reads (code : List ℕ) (from key : ℕ) (encrypted : Bool) (st : St)
   pub number : (t .flow ≡ 0 → ⊥) → (t .flow ≡ 1 → ⊥) → 3 ≤ t .flow
 
 -- a call is about to be made, or is refused
-pub record Calls (bank : List ℕ) (lenIV : ℕ) (m : Mem) (s : State) (r : Called) : Type 0 where
-  pub called : r .flow ≡ 0 → (u : State) × Holds (r .st) m u × ((deep : List ℕ → State → Outcome) → callSubr (record { bank = bank; lenIV = lenIV }) deep s ≡ returned (deep (bytesAt (found (r .index) bank) bank) u))
-  pub stopped : (r .flow ≡ 0 → ⊥) → (3 ≤ r .flow) × ((deep : List ℕ → State → Outcome) → callSubr (record { bank = bank; lenIV = lenIV }) deep s ≡ refused (r .flow))
+pub record Calls (bank : List ℕ) (reading : Reading) (m : Mem) (s : State) (r : Called) : Type 0 where
+  pub called : r .flow ≡ 0 → (u : State) × Holds (r .st) m u × ((deep : List ℕ → State → Outcome) → callSubr (record { bank = bank; reading = reading }) deep s ≡ returned (deep (bytesAt (found (r .index) bank) bank) u))
+  pub stopped : (r .flow ≡ 0 → ⊥) → (3 ≤ r .flow) × ((deep : List ℕ → State → Outcome) → callSubr (record { bank = bank; reading = reading }) deep s ≡ refused (r .flow))

@@ -13,28 +13,38 @@ use Rattle.charstring.specs.Cipher.{plain, maxCharstringBytes}
 use Rattle.bank.specs.Bank.{body}
 use Rattle.geometry.specs.declared.Point.{Point}
 use Rattle.type1.specs.declared.Stem.{Stem}
+use Rattle.type1.specs.declared.Reading.{Reading}
 use Rattle.type1.specs.Operator as op
 use Rattle.type1.specs.Operator.{Operator}
 use Rattle.type1.specs.Number.{Token, cut, number, operator, token, double}
 use Rattle.type1.specs.State.{Command, move, line, curve, flex, Group, State, plusZero, origin, withOperands, withPostscript, withPoint, withBearing, withOpen, withFlex, withHints, settled, withDrawn, withDivided, withRan, isIn, lastIs, stemCount}
 
--- ---- limits: whether so many have room
+-- a choice by a test
+abbrev pub pick : {A : Type 0} → Bool → A → A → A
+pick true a b = a
+pick false a b = b
+
+-- ---- limits: 0 where so many have room, else the number that is refused with
 
 pub record Limits : Type 0 where
-  pub operands : ℕ → Bool
-  pub postscript : ℕ → Bool
-  pub hints : ℕ → Bool
-  pub groups : ℕ → Bool
-  pub stems : ℕ → Bool
-  pub commands : ℕ → Bool
+  pub operands : ℕ → ℕ
+  pub postscript : ℕ → ℕ
+  pub hints : ℕ → ℕ
+  pub groups : ℕ → ℕ
+  pub stems : ℕ → ℕ
+  pub commands : ℕ → ℕ
+
+-- so many at the most; more are refused with the number
+abbrev pub atMost : ℕ → ℕ → ℕ → ℕ
+atMost most k n = pick (leb n most) 0 k
 
 -- document 01's numbers 15 to 17: 256 operands, 256 on the PostScript stack, 256 stems in force, 256 groups, and the lent stores, of so many records and words, 14 words to an entry
 abbrev pub within : ℕ → ℕ → Limits
-within records words = record { operands = λ n. leb n 256; postscript = λ n. leb n 256; hints = λ n. leb n 256; groups = λ n. leb n 256; stems = λ n. leb n records; commands = λ n. leb (14 * n) words }
+within records words = record { operands = atMost 256 15; postscript = atMost 256 15; hints = atMost 256 16; groups = atMost 256 16; stems = atMost records 16; commands = λ n. atMost words 17 (14 * n) }
 
 -- the run that is fed nothing of the converter's stores
 abbrev pub unlimited : Limits
-unlimited = record { operands = λ n. true; postscript = λ n. true; hints = λ n. true; groups = λ n. true; stems = λ n. true; commands = λ n. true }
+unlimited = record { operands = λ n. 0; postscript = λ n. 0; hints = λ n. 0; groups = λ n. 0; stems = λ n. 0; commands = λ n. 0 }
 
 -- ---- what a step does: the run goes on, a body returns, the glyph ends, or the step is refused with a number
 pub data Outcome : Type 0 where
@@ -47,14 +57,14 @@ andThen (returning s) k = returning s
 andThen (ending s) k = ending s
 andThen (refused n) k = refused n
 
-abbrev pub pick : {A : Type 0} → Bool → A → A → A
-pick true a b = a
-pick false a b = b
-
 -- refused with a number unless a test passes
 abbrev pub check : Bool → ℕ → Outcome → Outcome
 check true n o = o
 check false n o = refused n
+
+-- what a limit answers: 0, or the number that is refused with
+abbrev pub allowed : ℕ → Outcome → Outcome
+allowed n o = check (eqb n 0) n o
 
 -- ---- operands
 
@@ -75,7 +85,7 @@ needs n s o = check (leb n (length (s .operands))) 7 o
 
 -- one operand more; a 257th is refused with 15
 unfoldable pub push : Limits → Float → State → Outcome
-push lim v s = check (lim .operands (length (s .operands) + 1)) 15 (going (withOperands (s .operands ++ (v ∷ [])) s))
+push lim v s = allowed (lim .operands (length (s .operands) + 1)) (going (withOperands (s .operands ++ (v ∷ [])) s))
 
 -- ---- hints
 
@@ -87,7 +97,7 @@ unfoldable pub stem : Limits → Bool → Float → Float → State → Outcome
 stem lim h p w s =
     check (finite p) 14
     (pick (isIn (s .hints) (stemOf h p w)) (going s)
-    (check (lim .hints (length (s .hints) + 1)) 16 (going (withHints (s .hints ++ (stemOf h p w ∷ [])) s))))
+    (allowed (lim .hints (length (s .hints) + 1)) (going (withHints (s .hints ++ (stemOf h p w ∷ [])) s))))
 
 -- how many entries the command store has: one a command, a group's start included
 abbrev pub entries : State → ℕ
@@ -96,9 +106,10 @@ entries s = length (s .drawn) + length (s .groups)
 -- the stems in force become a new group: 16 before 17
 unfoldable pub newGroup : Limits → State → Outcome
 newGroup lim s =
-    check (lim .groups (length (s .groups) + 1) && lim .stems (stemCount (s .groups) + length (s .hints))) 16
-    (check (lim .commands (entries s + 1)) 17
-    (going (settled (s .groups ++ (record { stems = s .hints; before = length (s .drawn) } ∷ [])) s)))
+    allowed (lim .groups (length (s .groups) + 1))
+    (allowed (lim .stems (stemCount (s .groups) + length (s .hints)))
+    (allowed (lim .commands (entries s + 1))
+    (going (settled (s .groups ++ (record { stems = s .hints; before = length (s .drawn) } ∷ [])) s))))
 
 -- at a path command, changed stems become a new group unless they are the last group's in the same order
 unfoldable pub commit : Limits → State → Outcome
@@ -108,7 +119,7 @@ commit lim s = pick (s .changed) (pick (lastIs (s .groups) (s .hints)) (going (s
 
 -- an entry is listed
 unfoldable pub enter : Limits → Command → State → Outcome
-enter lim c s = check (lim .commands (entries s + 1)) 17 (going (withDrawn (s .drawn ++ (c ∷ [])) s))
+enter lim c s = allowed (lim .commands (entries s + 1)) (going (withDrawn (s .drawn ++ (c ∷ [])) s))
 
 -- a path command: first the stems in force, then its entry
 unfoldable pub list : Limits → Command → State → Outcome
@@ -172,7 +183,7 @@ backwards (a ∷ l) = backwards l ++ (a ∷ [])
 
 -- left for `pop`; a PostScript stack over 256 is refused with 15
 unfoldable pub handBack : Limits → List Float → State → Outcome
-handBack lim l s = check (lim .postscript (length (s .postscript) + length l)) 15 (going (withPostscript (s .postscript ++ l) s))
+handBack lim l s = allowed (lim .postscript (length (s .postscript) + length l)) (going (withPostscript (s .postscript ++ l) s))
 
 -- 0: just seven points, the first unused; the end point is left for `pop`, x popped first
 unfoldable pub endFlex : Limits → Float → List Point → State → Outcome
@@ -283,10 +294,14 @@ operate lim call op.unknown s = refused 6
 
 -- ---- bodies and bytes
 
--- what the run is fed: the bank and lenIV
+-- read with this lenIV (document 01, "Cipher")
+abbrev pub readingOf : ℕ → Reading
+readingOf lenIV = record { «len_iv» = lenIV }
+
+-- what the run is fed beside the charstring: the bank, and how both are read
 pub record Font : Type 0 where
   pub bank : List ℕ
-  pub lenIV : ℕ
+  pub reading : Reading
 
 -- a body's encrypted bytes are counted before it runs: 1,048,576 pass
 unfoldable pub charge : List ℕ → State → Outcome
@@ -330,7 +345,7 @@ runBytes lim f (b ∷ l) zero s = consume lim f (token b l) s (runBytes lim f l)
 -- a body, with so many levels left; at none it is refused
 unfoldable pub runBody : Limits → Font → ℕ → List ℕ → State → Outcome
 runBody lim f zero l s = refused 4
-runBody lim f (suc n) l s = runBytes lim (execute lim f (runBody lim f n)) (plain (f .lenIV) l) 0 s
+runBody lim f (suc n) l s = runBytes lim (execute lim f (runBody lim f n)) (plain (f .reading .«len_iv») l) 0 s
 
 -- the whole: the charstring at depth 0, its subroutines at depth 1 to 10
 unfoldable pub run : Limits → Font → List ℕ → State → Outcome

@@ -2,10 +2,10 @@
 use Prim.Native.Nat.{ℕ, suc, _+_, _≤_, _<_}
 use mathlib.Core.Path.{_≡_}
 use mathlib.Core.Logic.{_⊎_}
-use mathlib.Core.Bool.{Bool, true, false, _&&_}
+use mathlib.Core.Bool.{Bool, true, false, _&&_, _||_}
 use mathlib.Core.List.{List, [], _∷_}
 use mathlib.Core.Option.{Option, none, some}
-use lib.Dec.{T, leb}
+use lib.Dec.{T, eqb, leb}
 use lib.ListN.{length}
 use lib.IntN.{ℤ, pos, natAbs}
 use lib.Ieee.{Float, fin, binary64, add, div}
@@ -129,9 +129,25 @@ abbrev pub ByteBody : Option (List ℕ) → Type 0
 ByteBody none = Unit {0}
 ByteBody (some l) = Bytes l
 
--- ---- an outcome is a limit's refusal (document 01, numbers 15 to 17), or is another
+-- ---- what limits refuse with: document 01, numbers 15 to 17
+abbrev pub isLimit : ℕ → Bool
+isLimit n = leb 15 n && leb n 17
+
+-- each limit answers 0 or one of these
+abbrev pub Refusing : (ℕ → ℕ) → Type 0
+Refusing f = (n : ℕ) → T (eqb (f n) 0 || isLimit (f n))
+
+pub record Limiting (lim : Limits) : Type 0 where
+  pub operands : Refusing (lim .operands)
+  pub postscript : Refusing (lim .postscript)
+  pub hints : Refusing (lim .hints)
+  pub groups : Refusing (lim .groups)
+  pub stems : Refusing (lim .stems)
+  pub commands : Refusing (lim .commands)
+
+-- ---- an outcome is a limit's refusal, or is another
 abbrev pub LimitOr : Outcome → Outcome → Type 0
-LimitOr o p = ((n : ℕ) × (o ≡ refused n) × T (leb 15 n && leb n 17)) ⊎ (o ≡ p)
+LimitOr o p = ((n : ℕ) × (o ≡ refused n) × T (isLimit n)) ⊎ (o ≡ p)
 
 -- ---- points drawn, and what may become points: operands, the PostScript stack, the points of a flex
 abbrev pub points : Command → ℕ

@@ -22,7 +22,7 @@ use Rattle.type1.specs.Number.{Token, cut, number, operator, token, doub
 use Rattle.type1.specs.State.{Command, move, line, curve, flex, Group, State, plusZero, origin, withOperands, withPostscript, withPoint, withBearing, withOpen, withFlex, withHints, settled, withDrawn, withDivided, withRan, isIn, lastIs, stemCount}
 use Rattle.type1.specs.Run.{Limits, Outcome, going, refused, andThen, pick, top, cleared, without, needs, push, stemOf, stem, entries, newGroup, commit, enter, list, shifted, isFinite, noFlex, moveBy, openSubpath, lineTo, lineBy, curveTo, curveBy, samePoint, setPoint, backwards, handBack, endFlex, heightOf, otherSubr0, collected, otherSubr2, is, otherSubr, callOtherSubr, popD, divD, stems3, pointAt, operate, Font, charge, named, returned, callBody, callSubr, execute, consume, runBytes, runBody, run}
 use Rattle.type1.specs.Sound.{Ends, points, pointsOf, gathered, weight, Goes, Rising, Placed, Weighs, Due}
-use Rattle.type1.specs.Outcomes.{check-ends, pick-ends, needs-ends, returned-ends, then-ends, check-goes, pick-goes, then-goes}
+use Rattle.type1.specs.Outcomes.{check-ends, allowed-ends, pick-ends, needs-ends, returned-ends, then-ends, allowed-goes, pick-goes, then-goes}
 
 pub points-append : (l : List Command) (c : Command) → pointsOf (l ++ (c ∷ [])) ≡ pointsOf l + points c
 unfolding pointsOf
@@ -79,7 +79,7 @@ module _ (lim : Limits) (n : ℕ) where
   push-weighs v s w =
       let l = s .operands ++ (v ∷ []) in
       let e = length-append (s .operands) (v ∷ []) in
-      check-ends (Weighs n) (lim .operands (length (s .operands) + 1)) 15 (going (withOperands l s)) (λ t. weighs-more (1 + n) n s (withOperands l s) refl (w .placed) (omega arith) w)
+      allowed-ends (Weighs n) (lim .operands (length (s .operands) + 1)) (going (withOperands l s)) (weighs-more (1 + n) n s (withOperands l s) refl (w .placed) (omega arith) w)
 
   stem-weighs : (h : Bool) (p x : Float) (s : State) → Weighs n s → Ends (Weighs n) (stem lim h p x s)
   unfolding stem
@@ -87,7 +87,7 @@ module _ (lim : Limits) (n : ℕ) where
       let l = s .hints ++ (stemOf h p x ∷ []) in
       check-ends (Weighs n) (finite p) 14 _ (λ t.
       pick-ends (Weighs n) (isIn (s .hints) (stemOf h p x)) (going s) _ (λ u. w) (λ u.
-      check-ends (Weighs n) (lim .hints (length (s .hints) + 1)) 16 (going (withHints l s)) (λ v. weighs-more n n s (withHints l s) refl (w .placed) (omega arith) w)))
+      allowed-ends (Weighs n) (lim .hints (length (s .hints) + 1)) (going (withHints l s)) (weighs-more n n s (withHints l s) refl (w .placed) (omega arith) w)))
 
   commit-weighs : (s : State) → Weighs n s → Goes (Due n) (commit lim s)
   unfolding commit newGroup
@@ -97,8 +97,9 @@ module _ (lim : Limits) (n : ℕ) where
       let r = rising-more 0 (s .groups) (length (s .drawn)) (suc (length (s .drawn))) (omega arith) (w .placed) in
       pick-goes (Due n) (s .changed) _ (going s) (λ t.
       pick-goes (Due n) (lastIs (s .groups) (s .hints)) (going (settled (s .groups) s)) _ (λ u. record { below = w .below; ran = w .ran; placed = r }) (λ u.
-      check-goes (Due n) (lim .groups (length (s .groups) + 1) && lim .stems (stemCount (s .groups) + length (s .hints))) 16 _ (λ v.
-      check-goes (Due n) (lim .commands (entries s + 1)) 17 (going (settled l s)) (λ x. record { below = w .below; ran = w .ran; placed = rising-snoc 0 (s .groups) g (omega arith) (w .placed) }))))
+      allowed-goes (Due n) (lim .groups (length (s .groups) + 1)) _ (
+      allowed-goes (Due n) (lim .stems (stemCount (s .groups) + length (s .hints))) _ (
+      allowed-goes (Due n) (lim .commands (entries s + 1)) (going (settled l s)) (record { below = w .below; ran = w .ran; placed = rising-snoc 0 (s .groups) g (omega arith) (w .placed) })))))
       (λ t. record { below = w .below; ran = w .ran; placed = r })
 
   enter-weighs : (c : Command) (s : State) → Due (points c + n) s → Ends (Weighs n) (enter lim c s)
@@ -108,7 +109,7 @@ module _ (lim : Limits) (n : ℕ) where
       let e = points-append (s .drawn) c in
       let f = length-append (s .drawn) (c ∷ []) in
       let b = w .below in
-      check-ends (Weighs n) (lim .commands (entries s + 1)) 17 (going (withDrawn l s)) (λ t. record { below = omega arith; ran = w .ran; placed = rising-more 0 (s .groups) (suc (length (s .drawn))) (length l) (omega arith) (w .placed) })
+      allowed-ends (Weighs n) (lim .commands (entries s + 1)) (going (withDrawn l s)) (record { below = omega arith; ran = w .ran; placed = rising-more 0 (s .groups) (suc (length (s .drawn))) (length l) (omega arith) (w .placed) })
 
   -- a step after which m bytes are left to be read, then one after which there are n
   then-weighs : (m : ℕ) (o : Outcome) (k : State → Outcome) → n ≤ m → Ends (Weighs m) o → ((s : State) → Weighs m s → Ends (Weighs n) (k s)) → Ends (Weighs n) (andThen o k)
@@ -168,7 +169,7 @@ module _ (lim : Limits) (n : ℕ) where
   handBack-weighs l s w =
       let m = s .postscript ++ l in
       let e = length-append (s .postscript) l in
-      check-ends (Weighs n) (lim .postscript (length (s .postscript) + length l)) 15 (going (withPostscript m s)) (λ t. weighs-more (length l + n) n s (withPostscript m s) refl (w .placed) (omega arith) w)
+      allowed-ends (Weighs n) (lim .postscript (length (s .postscript) + length l)) (going (withPostscript m s)) (weighs-more (length l + n) n s (withPostscript m s) refl (w .placed) (omega arith) w)
 
 module _ (lim : Limits) (n : ℕ) where
   lineBy-weighs : (dx dy : Float) (s : State) → Weighs (2 + n) s → Ends (Weighs n) (lineBy lim dx dy s)
@@ -370,8 +371,8 @@ module _ (lim : Limits) where
   unfolding runBody
   runBody-weighs f zero n l s w = tt
   runBody-weighs f (suc k) n l s w =
-      let b = plain (f .lenIV) l in
-      let e = plain-length (f .lenIV) l in
+      let b = plain (f .reading .«len_iv») l in
+      let e = plain-length (f .reading .«len_iv») l in
       runBytes-weighs (execute lim f (runBody lim f k)) (λ m. execute-weighs lim m f (runBody lim f k) (runBody-weighs f k m)) n b 0 s (weighs-less (length l + n) (length b - 0 + n) (omega arith) s w)
 
   pub run-weighs : (f : Font) (n : ℕ) (l : List ℕ) (s : State) → Weighs n s → Ends (Weighs n) (run lim f l s)

@@ -13,17 +13,18 @@ ghost use lib.Ieee.Scale.{finite};
 ghost use Rattle.charstring.specs.Cipher.{step, maxCharstringBytes};
 ghost use Rattle.charstring.specs.Cursor.{start};
 ghost use Rattle.bank.specs.Bank.{Valid};
+ghost use Rattle.type1.specs.declared.Reading.{Reading};
 ghost use Rattle.type1.specs.Number as Number;
 ghost use Rattle.type1.specs.State as State;
 ghost use Rattle.type1.specs.Operator as Op;
 ghost use Rattle.type1.specs.Run as Run;
-ghost use Rattle.type1.specs.Run.{pick, within, stemOf, pointAt, isFinite, operate};
+ghost use Rattle.type1.specs.Run.{pick, readingOf, within, stemOf, pointAt, isFinite, operate};
 ghost use Rattle.type1.specs.Memory.{Mem, stemAt, stemsAt, Bounds, Good, Holds, Meets, operatorOf, withOps, withPs, withCells, withCmds, withHints, withPath, after, Told, Plain, Path, pointCommand};
 ghost use Rattle.type1.specs.Reading.{cursorOf, byteOf, withCount, placed, tokOf, Numbered, Operated, Stores, Adds, Draws, isQuick, Reads, Calls};
 ghost use Rattle.type1.specs.Small as Small;
 ghost use Rattle.type1.specs.Cycle.{memOf, Ready, opD, runD};
 ghost use Rattle.type1.specs.Entry.{zeroSt, startFlow, numberOf, answerOf, Cleared};
-ghost use Rattle.type1.specs.Interpret.{outcome, refusedWith, Leaves};
+ghost use Rattle.type1.specs.Interpret.{sourceOf, outcome, refusedWith, Leaves};
 
 // A stem hint in absolute character-space coordinates, in C's layout.
 #[repr(C)]
@@ -34,6 +35,21 @@ pub struct Stem {
     pub pos: f64,
     // Distance to its second edge; -20 and -21 mark edge (ghost) hints.
     pub width: f64,
+}
+
+// How a charstring and its subroutines are read.
+pub struct Reading {
+    // plain bytes dropped at the start of each; `charstring::NOT_ENCRYPTED`: they are not encrypted
+    pub len_iv: usize,
+}
+
+impl Reading {
+    // With this lenIV.
+    pub fn new(len_iv: usize) -> Reading
+        ensures { λ r. ⌜ r ≡ readingOf «len_iv» ⌝ }
+    {
+        Reading { len_iv }
+    }
 }
 
 // What of the state is small. The rest is in arrays: the operands and the PostScript stack, each
@@ -1658,8 +1674,8 @@ struct Called {
 // 10: the body that the top operand names, its encrypted bytes counted.
 fn callsubr(bank: &[u8], st: St, ops: &[f64; 256]) -> Called
     requires { ⌜ Valid (now bank) × ((st .operands ≤ 256) × (st .ran ≤ maxCharstringBytes)) ⌝ }
-    ensures { λ r. ⌜ ((m : Mem) (s : State.State) (lenIV : ℕ) → Holds st (withOps (now (ops .entry)) m) s →
-        Calls (now (bank .entry)) lenIV (withOps (now (ops .entry)) m) s r) ⌝ }
+    ensures { λ r. ⌜ ((m : Mem) (s : State.State) (reading : Reading) → Holds st (withOps (now (ops .entry)) m) s →
+        Calls (now (bank .entry)) reading (withOps (now (ops .entry)) m) s r) ⌝ }
 {
     let n = st.operands;
     if n == 0 {
@@ -1829,10 +1845,10 @@ struct Begun {
     encrypted: bool,
 }
 
-fn begin(code: &[u8], len_iv: usize) -> Begun
-    ensures { λ r. ⌜ cursorOf (r .at) (r .key) (r .encrypted) ≡ start «len_iv» (now (code .entry)) ⌝ }
+fn begin(code: &[u8], reading: Reading) -> Begun
+    ensures { λ r. ⌜ cursorOf (r .at) (r .key) (r .encrypted) ≡ start (reading .«len_iv») (now (code .entry)) ⌝ }
 {
-    let c = charstring::Cursor::new(code, len_iv);
+    let c = charstring::Cursor::new(code, reading.len_iv);
     Begun {
         at: c.at,
         key: c.key,
@@ -1843,7 +1859,7 @@ fn begin(code: &[u8], len_iv: usize) -> Begun
 // 10: the body that the top operand names runs, one level deeper.
 fn call_body(
     bank: &[u8],
-    len_iv: usize,
+    reading: Reading,
     levels: usize,
     st: St,
     ops: &mut [f64; 256],
@@ -1856,7 +1872,7 @@ fn call_body(
 ) -> Ran
     requires { ⌜ (levels < 100) × (Valid (now bank) × Ready st (memOf (now ops) (now ps) (now cells) (now edges) (now across) (now cmds) (now stems))) ⌝ }
     ensures { λ r. ⌜ Meets r (memOf (now (ops .exit)) (now (ps .exit)) (now (cells .exit)) (now (edges .exit)) (now (across .exit)) (now (cmds .exit)) (now (stems .exit)))
-        (opD (now (bank .entry)) «len_iv» levels 10 st (memOf (now (ops .entry)) (now (ps .entry)) (now (cells .entry)) (now (edges .entry)) (now (across .entry)) (now (cmds .entry)) (now (stems .entry)))) ⌝ }
+        (opD (now (bank .entry)) reading levels 10 st (memOf (now (ops .entry)) (now (ps .entry)) (now (cells .entry)) (now (edges .entry)) (now (across .entry)) (now (cmds .entry)) (now (stems .entry)))) ⌝ }
 {
     let c = callsubr(bank, st, ops);
     let f = c.flow;
@@ -1869,7 +1885,7 @@ fn call_body(
     run(
         bank::body(bank, c.index),
         bank,
-        len_iv,
+        reading,
         levels - 1,
         c.st,
         ops,
@@ -1886,7 +1902,7 @@ fn call_body(
 fn op(
     op: u16,
     bank: &[u8],
-    len_iv: usize,
+    reading: Reading,
     levels: usize,
     st: St,
     ops: &mut [f64; 256],
@@ -1899,12 +1915,12 @@ fn op(
 ) -> Ran
     requires { ⌜ (levels < 100) × (Valid (now bank) × Ready st (memOf (now ops) (now ps) (now cells) (now edges) (now across) (now cmds) (now stems))) ⌝ }
     ensures { λ r. ⌜ Meets r (memOf (now (ops .exit)) (now (ps .exit)) (now (cells .exit)) (now (edges .exit)) (now (across .exit)) (now (cmds .exit)) (now (stems .exit)))
-        (opD (now (bank .entry)) «len_iv» levels op st (memOf (now (ops .entry)) (now (ps .entry)) (now (cells .entry)) (now (edges .entry)) (now (across .entry)) (now (cmds .entry)) (now (stems .entry)))) ⌝ }
+        (opD (now (bank .entry)) reading levels op st (memOf (now (ops .entry)) (now (ps .entry)) (now (cells .entry)) (now (edges .entry)) (now (across .entry)) (now (cmds .entry)) (now (stems .entry)))) ⌝ }
 {
     if op == 10 {
         return call_body(
             bank,
-            len_iv,
+            reading,
             levels,
             st,
             ops,
@@ -1933,7 +1949,7 @@ fn op(
 fn run(
     code: &[u8],
     bank: &[u8],
-    len_iv: usize,
+    reading: Reading,
     levels: usize,
     st: St,
     ops: &mut [f64; 256],
@@ -1946,9 +1962,9 @@ fn run(
 ) -> Ran
     requires { ⌜ (levels < 100) × (Valid (now bank) × Ready st (memOf (now ops) (now ps) (now cells) (now edges) (now across) (now cmds) (now stems))) ⌝ }
     ensures { λ r. ⌜ Meets r (memOf (now (ops .exit)) (now (ps .exit)) (now (cells .exit)) (now (edges .exit)) (now (across .exit)) (now (cmds .exit)) (now (stems .exit)))
-        (runD (now (bank .entry)) «len_iv» levels (now (code .entry)) st (memOf (now (ops .entry)) (now (ps .entry)) (now (cells .entry)) (now (edges .entry)) (now (across .entry)) (now (cmds .entry)) (now (stems .entry)))) ⌝ }
+        (runD (now (bank .entry)) reading levels (now (code .entry)) st (memOf (now (ops .entry)) (now (ps .entry)) (now (cells .entry)) (now (edges .entry)) (now (across .entry)) (now (cmds .entry)) (now (stems .entry)))) ⌝ }
 {
-    let b = begin(code, len_iv);
+    let b = begin(code, reading);
     let e = b.encrypted;
     let mut i = b.at;
     let mut key = b.key;
@@ -1965,7 +1981,7 @@ fn run(
         let r = op(
             t.op,
             bank,
-            len_iv,
+            reading,
             levels,
             s,
             ops,
@@ -2075,7 +2091,7 @@ fn deepest() -> usize
 fn interpret(
     charstring: &[u8],
     bank: &[u8],
-    len_iv: usize,
+    reading: Reading,
     ops: &mut [f64; 256],
     ps: &mut [f64; 256],
     cells: &mut [f64; 19],
@@ -2085,7 +2101,7 @@ fn interpret(
     stems: &mut [Stem],
 ) -> Interpreted
     requires { ⌜ Cleared (now ops) (now ps) (now cells) (now edges) (now across) ⌝ }
-    ensures { λ r. ⌜ Leaves r (now (commands .exit)) (now (stems .exit)) (now (commands .entry)) (now (stems .entry)) (outcome (now (charstring .entry)) (now (bank .entry)) «len_iv» (length (now (stems .entry))) (length (now (commands .entry)))) ⌝ }
+    ensures { λ r. ⌜ Leaves r (now (commands .exit)) (now (stems .exit)) (now (commands .entry)) (now (stems .entry)) (outcome (sourceOf (now (charstring .entry)) (now (bank .entry))) reading (length (now (stems .entry))) (length (now (commands .entry)))) ⌝ }
 {
     let b = start_run(charstring, bank);
     let f = b.flow;
@@ -2097,7 +2113,7 @@ fn interpret(
     let r = run(
         charstring,
         bank,
-        len_iv,
+        reading,
         deepest(),
         b.st,
         ops,
@@ -2121,11 +2137,11 @@ fn interpret(
 pub fn run_charstring(
     charstring: &[u8],
     bank: &[u8],
-    len_iv: usize,
+    reading: Reading,
     commands: &mut [u64],
     stems: &mut [Stem],
 ) -> Interpreted
-    ensures { λ r. ⌜ Leaves r (now (commands .exit)) (now (stems .exit)) (now (commands .entry)) (now (stems .entry)) (outcome (now (charstring .entry)) (now (bank .entry)) «len_iv» (length (now (stems .entry))) (length (now (commands .entry)))) ⌝ }
+    ensures { λ r. ⌜ Leaves r (now (commands .exit)) (now (stems .exit)) (now (commands .entry)) (now (stems .entry)) (outcome (sourceOf (now (charstring .entry)) (now (bank .entry))) reading (length (now (stems .entry))) (length (now (commands .entry)))) ⌝ }
 {
     let mut ops = [0.0; 256];
     let mut ps = [0.0; 256];
@@ -2135,7 +2151,7 @@ pub fn run_charstring(
     interpret(
         charstring,
         bank,
-        len_iv,
+        reading,
         &mut ops,
         &mut ps,
         &mut cells,

@@ -8,7 +8,7 @@ use Rattle.bank.proofs.call.Reads as call-reads
 
 returns : tie.Need-returns
 returns c =
-    λ m s lenIV H. call-none _ lenIV _ _ s H (c .if1 .taken)
+    λ m s reading H. call-none _ reading _ _ s H (c .if1 .taken)
 
 sub-call : tie.Need-sub-call
 sub-call c = search needs
@@ -24,14 +24,14 @@ call-requires c κs = search needs
 
 returns-2 : tie.Need-returns-2
 returns-2 c =
-    λ m s lenIV H. call-refused _ lenIV _ _ s H (c .before .before .before .before .if1 .left) (c .before .before .before .before .before .before .pre .0) (c .before .before .before .before .before .before .pre .1 .1) _ (c .before .before .call .ensures) (c .if2 .taken)
+    λ m s reading H. call-refused _ reading _ _ s H (c .before .before .before .before .if1 .left) (c .before .before .before .before .before .before .pre .0) (c .before .before .before .before .before .before .pre .1 .1) _ (c .before .before .call .ensures) (c .if2 .taken)
 
 sub-s : tie.Need-sub-s
 sub-s c = search needs
 
 returns-3 : tie.Need-returns-3
 returns-3 c =
-    λ m s lenIV H. call-goes _ lenIV _ _ s H (c .before .before .before .before .if1 .left) (c .before .before .before .before .before .before .pre .0) (c .before .before .before .before .before .before .pre .1 .1) _ (c .before .before .call .ensures) (c .if2 .left)
+    λ m s reading H. call-goes _ reading _ _ s H (c .before .before .before .before .if1 .left) (c .before .before .before .before .before .before .pre .0) (c .before .before .before .before .before .before .pre .1 .1) _ (c .before .before .call .ensures) (c .if2 .left)
 
 pub callsubr-spec : {M : Type 1} → statement M
 callsubr-spec =
