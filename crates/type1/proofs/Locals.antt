@@ -20,8 +20,8 @@ use Rattle.type1.proofs.Stem as T
 use Rattle.type1.proofs.Stem.Laws as T′
 use Rattle.type1.proofs.St as S
 use Rattle.type1.proofs.St.Laws as S′
-use Rattle.type1.proofs.Reading as R
-use Rattle.type1.proofs.Reading.Laws as R′
+use Rattle.type1.proofs.Reading as Y
+use Rattle.type1.proofs.Reading.Laws as Y′
 use Rattle.type1.proofs.Tok as K
 use Rattle.type1.proofs.Tok.Laws as K′
 use Rattle.type1.proofs.Ran as N
@@ -73,8 +73,8 @@ machT h = LL.tuple-val T.the-type T′.the-laws (T.the-type .to h)
 abbrev pub machS : St → Val
 machS h = LL.tuple-val S.the-type S′.the-laws (S.the-type .to h)
 
-abbrev pub machR : Reading → Val
-machR h = LL.tuple-val R.the-type R′.the-laws (R.the-type .to h)
+abbrev pub machY : Reading → Val
+machY h = LL.tuple-val Y.the-type Y′.the-laws (Y.the-type .to h)
 
 abbrev pub machK : Tok → Val
 machK h = LL.tuple-val K.the-type K′.the-laws (K.the-type .to h)

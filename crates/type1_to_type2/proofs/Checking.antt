@@ -29,7 +29,7 @@ use Rattle.type1.specs.State.{plusZero}
 use Rattle.type1_to_type2.specs.Emission.{Cmd, program}
 use Rattle.type1_to_type2.specs.Writing as Writing
 use Rattle.type1_to_type2.specs.Writing.{Written, refused, write}
-use Rattle.type1_to_type2.specs.Convert.{writes}
+use Rattle.type1_to_type2.specs.Convert.{Glyph, glyphOf, writes}
 use Rattle.type1_to_type2.specs.Streaming.{resumed, resumedAll, Ends}
 use Rattle.type1_to_type2.specs.Passes.{both}
 use Rattle.type1_to_type2.specs.Entry.{groupCount, firstNumber, Planned, tables, opens, Opens, settles, Answers}
@@ -149,12 +149,12 @@ opened-front p ta tu room w out h f = record { more = λ cs. f (tables p ta tu) 
     open-now : (p : Plan) (ta tu : List Float) (room : ℕ) (cs : List Cmd) → p .number ≡ 0 → opens p ta tu room cs ≡ write (program (tables p ta tu) cs) room
     open-now p ta tu room cs h = unfold opens in rw (eq-eqb (p .number) 0 h) refl
 
-pub ended-refused : (x : Written) (room : ℕ) (v : Writer) (out : List ℕ) (w : Float) (n before k : ℕ) (points f : Bool) → Ends room x v out → (v .number ≡ 0 → ⊥) → f ≡ points → k ≡ refusal before (v .number) f
-    → Answers (settles before points (writes w n x)) room (record { number = k; len = 0; width = plusZero; ran = 0 }) out
-ended-refused (Writing.refused j) room v out w n before k points f F h ep ek =
+pub ended-refused : (x : Written) (room : ℕ) (v : Writer) (out : List ℕ) (g : List ℕ → Glyph) (before k : ℕ) (points f : Bool) → Ends room x v out → (v .number ≡ 0 → ⊥) → f ≡ points → k ≡ refusal before (v .number) f
+    → Answers (settles before points (writes g x)) room (record { number = k; len = 0; width = plusZero; ran = 0 }) out
+ended-refused (Writing.refused j) room v out g before k points f F h ep ek =
     record { glyph = ap (λ (i : ℕ). record { number = i; len = 0; width = plusZero; ran = 0 }) (ek ∙ ap₂ (refusal before) (F .1 .0) ep); bytes = F .1 .1 .1 }
-ended-refused (Writing.wrote b) room v out w n before k points f F h ep ek = absurd (h (F .0))
+ended-refused (Writing.wrote b) room v out g before k points f F h ep ek = absurd (h (F .0))
 
-pub ended-written : (x : Written) (room : ℕ) (v : Writer) (out : List ℕ) (w : Float) (n before : ℕ) (points : Bool) → Ends room x v out → v .number ≡ 0 → Answers (settles before points (writes w n x)) room (record { number = 0; len = v .next; width = w; ran = n }) out
+pub ended-written : (x : Written) (room : ℕ) (v : Writer) (out : List ℕ) (w : Float) (n before : ℕ) (points : Bool) → Ends room x v out → v .number ≡ 0 → Answers (settles before points (writes (glyphOf w n) x)) room (record { number = 0; len = v .next; width = w; ran = n }) out
 ended-written (Writing.refused k) room v out w n before points F h = absurd (let z : ⊥ = omega (arith, F .0, F .1 .0, h) in z)
 ended-written (Writing.wrote b) room v out w n before points F h = record { glyph = ap (λ (j : ℕ). record { number = 0; len = j; width = w; ran = n }) (F .1 .0); bytes = F .1 .1 }

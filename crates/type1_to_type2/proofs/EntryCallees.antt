@@ -28,6 +28,9 @@ use denote.Triple.Spec.{tripleOf}
 use denote.Triple.Statement.{Contract, Triple}
 use denote.Triple.Walked.{says}
 use Rattle.type1.specs.declared.Stem.{Stem}
+use Rattle.type1.specs.declared.Reading.{Reading}
+use Rattle.type1.proofs.Reading as Y
+use Rattle.type1.proofs.Reading.Laws as Y′
 use Rattle.geometry.specs.declared.Matrix.{Matrix}
 use Rattle.type1_to_type2.specs.declared.Collected.{Collected}
 use Rattle.type1_to_type2.specs.declared.Writer.{Writer}
@@ -47,7 +50,7 @@ use Rattle.type1_to_type2.proofs.Plan as Q
 use Rattle.type1_to_type2.proofs.Plan.Laws as Q′
 use Rattle.type1.proofs.Lent.{at-list, Own}
 use Rattle.type1.proofs.Many.{at-one, OwnR, GotAll}
-use Rattle.type1.proofs.Locals.{machI}
+use Rattle.type1.proofs.Locals.{machI, machY}
 use Rattle.type1_to_type2.proofs.Locals.{machZ, machK, machR, machQ}
 use Prim.Native.Nat.{_*_}
 use Rattle.type1.specs.Small.{zeroStem}
@@ -58,9 +61,9 @@ use Rattle.type1_to_type2.specs.Streaming.{resumedAll}
 use Rattle.type1_to_type2.specs.Collecting.{Counted}
 use Rattle.type1_to_type2.specs.Passes.{Gathers, both, stemsTo, cmdsFrom, Stored}
 use Rattle.geometry.specs.Transform.{identity}
-use Rattle.type1.specs.Interpret.{outcome, Leaves}
-use Rattle.type1_to_type2.specs.Convert.{writes, convert}
-use Rattle.type1_to_type2.specs.Entry.{Blank, groupCount, noneOf, Planned, Opens, firstNumber, fromRun, settles, Answers, Converts}
+use Rattle.type1.specs.Interpret.{sourceOf, outcome, Leaves}
+use Rattle.type1_to_type2.specs.Convert.{glyphOf, writes, roomsOf}
+use Rattle.type1_to_type2.specs.Entry.{Blank, groupCount, noneOf, Planned, Opens, firstNumber, fromRun, settles, Answers, ConvertsFrom}
 use Rattle.folding.proofs.is_identity as is-identity-f
 use Rattle.folding.proofs.is_identity.Symbol.{name as #folding·is-identity}
 use Rattle.type1_to_type2.proofs.count_groups as count-groups-f
@@ -187,7 +190,7 @@ module _ {M : Type 1} (𝓤 : URA M) (H : Heap 𝓤) (A : Atoms 𝓤) (mem : Mem
       via 𝓤 (WriteAllC 𝓤 H A mem run′ .pre y) (qed W (((‵ (flft κstems qstems) ⊛ ‵ (Own T.the-row mstems bstems ostems κstems γstems ysstems)) ⊛ ((‵ (flft κcommands qcommands) ⊛ ‵ (ShrSlice (named 0) κcommands u64 .own xcommands (sliceVal (xcommands .ptr) (length (xcommands .now)) ∷ []))) ⊛ ((‵ (flft κacross qacross) ⊛ ‵ (ShrRef (named 0) κacross (Array f64 192) .own xacross (vptr (xacross .ptr .0) (xacross .ptr .1) ∷ []))) ⊛ ((‵ (flft κupright qupright) ⊛ ‵ (ShrRef (named 0) κupright (Array f64 192) .own xupright (vptr (xupright .ptr .0) (xupright .ptr .1) ∷ []))) ⊛ ((‵ (flft κmask qmask) ⊛ ‵ (OwnR (Array bool 96) bmask omask κmask γmask ysmask)) ⊛ (‵ (flft κout qout) ⊛ ‵ (Own u8 mout bout oout κout γout ysout))))))) ∷ []) ∵ says ! need $ split ! $ move ! (1 ∷ []) $ split ! $ move ! (1 ∷ []) $ split ! $ move ! (1 ∷ []) $ split ! $ move ! (1 ∷ []) $ split ! $ move ! (5 ∷ []) $ split ! $ move ! (6 ∷ []) $ split ! $ move ! (7 ∷ []) $ split ! $ move ! (8 ∷ []) $ split ! $ move ! (8 ∷ []) $ split ! $ move ! (10 ∷ []) $ split ! $ nothing ! $ move ! (2 ∷ 0 ∷ []) $ fjoin ! $ owned ! R.the-row (Is R.the-row) (LL.makes R.the-type R′.the-plain 𝓤 H A) wr _ wr-fits $ fjoin ! $ move ! (3 ∷ 0 ∷ []) $ fjoin ! $ move ! (4 ∷ 0 ∷ []) $ fjoin ! $ move ! (5 ∷ 0 ∷ []) $ fjoin ! $ owned ! usize (Is usize) (uint-makes 𝓤 H A W w64) nu _ (refl, nu-fits) $ fjoin ! $ owned ! usize (Is usize) (uint-makes 𝓤 H A W w64) na _ (refl, na-fits) $ fjoin ! $ owned ! bool (Is bool) (bool-makes 𝓤 H A W) masked _ refl $ fjoin ! $ owned ! bool (Is bool) (bool-makes 𝓤 H A W) identity _ refl $ fjoin ! $ owned ! Z.the-row (Is Z.the-row) (LL.makes Z.the-type Z′.the-plain 𝓤 H A) m _ m-fits $ fjoin ! $ owned ! usize (Is usize) (uint-makes 𝓤 H A W w64) entries _ (refl, entries-fits) $ fjoin ! $ move ! (6 ∷ 0 ∷ []) $ fjoin ! $ move ! (7 ∷ 0 ∷ []) $ fjoin ! $ nothing ! $ move ! (2 ∷ 0 ∷ []) $ join ! $ move ! (2 ∷ 0 ∷ []) $ join ! $ move ! (2 ∷ 0 ∷ []) $ join ! $ move ! (2 ∷ 0 ∷ []) $ join ! $ move ! (2 ∷ 0 ∷ []) $ join ! $ move ! (2 ∷ 0 ∷ []) $ join ! $ frame ! $ done !) (known y)
 
   pub end-program-as : Triple 𝓤 (C #type1-to-type2·end-program) (EndProgramC 𝓤 H A mem run′) → (κcommands : Lft) (qcommands : Share) (xcommands : RefT (List ℕ)) (κout : Lft) (qout : Share) (mout bout oout : ℕ) (γout : GName) (ysout : List ℕ) (p : Plan) (ri : Interpreted) (wr : Writer) (m : Matrix) (identity : Bool) → Is Q.the-row p (machQ p ∷ []) → Is I.the-row ri (machI ri ∷ []) → Is R.the-row wr (machR wr ∷ []) → Is Z.the-row m (machZ m ∷ []) → (14 * ri .entries ≤ length (xcommands .now)) × ((identity ≡ isIdentity m) × ((e : ℕ) → e < ri .entries → All (OfCommand Good) (commandIn (xcommands .now) e)))
-      → ent 𝓤 (mean 𝓤 H A ((‵ (flft κcommands qcommands) ⊛ ‵ (ShrSlice (named 0) κcommands u64 .own xcommands (sliceVal (xcommands .ptr) (length (xcommands .now)) ∷ []))) ⊛ (‵ (flft κout qout) ⊛ ‵ (Own u8 mout bout oout κout γout ysout)))) (C #type1-to-type2·end-program (machQ p ∷ machI ri ∷ machR wr ∷ sliceVal (xcommands .ptr) (length (xcommands .now)) ∷ machZ m ∷ vbool identity ∷ sliceVal (bout, oout) mout ∷ []) (λ w. mean 𝓤 H A (GotAll 𝓤 G.the-row (Unit {0} × (Unit {0} × (Unit {0} × (Unit {0} × (Unit {0} × (Unit {0} × (List ℕ × Unit {0}))))))) (λ (r : G.the-row .Denot) (lasts : (Unit {0} × (Unit {0} × (Unit {0} × (Unit {0} × (Unit {0} × (Unit {0} × (List ℕ × Unit {0})))))))). Answers (settles (p .number) (finiteList (foldedList m (drawnIn (ri .entries) (xcommands .now)))) (writes (p .width) (ri .ran) (resumedAll false [] wr ysout []))) (length ysout) r (lasts .1 .1 .1 .1 .1 .1 .0)) (λ (lasts : (Unit {0} × (Unit {0} × (Unit {0} × (Unit {0} × (Unit {0} × (Unit {0} × (List ℕ × Unit {0})))))))). (fsep ftrue (fsep ftrue (fsep ftrue (fsep ftrue (fsep ftrue (fsep ftrue (fsep (fsep (finally u8 γout (lasts .1 .1 .1 .1 .1 .1 .0)) (feq ℕ (length (lasts .1 .1 .1 .1 .1 .1 .0)) (length ysout))) ftrue)))))))) (‵ (flft κcommands qcommands) ⊛ (‵ (flft κout qout) ⊛ ‵ ftrue)) w)))
+      → ent 𝓤 (mean 𝓤 H A ((‵ (flft κcommands qcommands) ⊛ ‵ (ShrSlice (named 0) κcommands u64 .own xcommands (sliceVal (xcommands .ptr) (length (xcommands .now)) ∷ []))) ⊛ (‵ (flft κout qout) ⊛ ‵ (Own u8 mout bout oout κout γout ysout)))) (C #type1-to-type2·end-program (machQ p ∷ machI ri ∷ machR wr ∷ sliceVal (xcommands .ptr) (length (xcommands .now)) ∷ machZ m ∷ vbool identity ∷ sliceVal (bout, oout) mout ∷ []) (λ w. mean 𝓤 H A (GotAll 𝓤 G.the-row (Unit {0} × (Unit {0} × (Unit {0} × (Unit {0} × (Unit {0} × (Unit {0} × (List ℕ × Unit {0}))))))) (λ (r : G.the-row .Denot) (lasts : (Unit {0} × (Unit {0} × (Unit {0} × (Unit {0} × (Unit {0} × (Unit {0} × (List ℕ × Unit {0})))))))). Answers (settles (p .number) (finiteList (foldedList m (drawnIn (ri .entries) (xcommands .now)))) (writes (glyphOf (p .width) (ri .ran)) (resumedAll false [] wr ysout []))) (length ysout) r (lasts .1 .1 .1 .1 .1 .1 .0)) (λ (lasts : (Unit {0} × (Unit {0} × (Unit {0} × (Unit {0} × (Unit {0} × (Unit {0} × (List ℕ × Unit {0})))))))). (fsep ftrue (fsep ftrue (fsep ftrue (fsep ftrue (fsep ftrue (fsep ftrue (fsep (fsep (finally u8 γout (lasts .1 .1 .1 .1 .1 .1 .0)) (feq ℕ (length (lasts .1 .1 .1 .1 .1 .1 .0)) (length ysout))) ftrue)))))))) (‵ (flft κcommands qcommands) ⊛ (‵ (flft κout qout) ⊛ ‵ ftrue)) w)))
   end-program-as known κcommands qcommands xcommands κout qout mout bout oout γout ysout p ri wr m identity p-fits ri-fits wr-fits m-fits need =
       let y : EndProgramC 𝓤 H A mem run′ .Ghost = (((κcommands, (κout, tt)), (qcommands, (qout, tt)), tt, (p, (ri, (wr, (xcommands, (m, (identity, (at-list u8 mout bout oout γout ysout, tt))))))), (machQ p ∷ [], (machI ri ∷ [], (machR wr ∷ [], (sliceVal (xcommands .ptr) (length (xcommands .now)) ∷ [], (machZ m ∷ [], (vbool identity ∷ [], (sliceVal (bout, oout) mout ∷ [], tt)))))))), tt) in
       via 𝓤 (EndProgramC 𝓤 H A mem run′ .pre y) (qed W (((‵ (flft κcommands qcommands) ⊛ ‵ (ShrSlice (named 0) κcommands u64 .own xcommands (sliceVal (xcommands .ptr) (length (xcommands .now)) ∷ []))) ⊛ (‵ (flft κout qout) ⊛ ‵ (Own u8 mout bout oout κout γout ysout))) ∷ []) ∵ says ! need $ split ! $ split ! $ move ! (2 ∷ []) $ split ! $ nothing ! $ move ! (2 ∷ 0 ∷ []) $ fjoin ! $ owned ! bool (Is bool) (bool-makes 𝓤 H A W) identity _ refl $ fjoin ! $ owned ! Z.the-row (Is Z.the-row) (LL.makes Z.the-type Z′.the-plain 𝓤 H A) m _ m-fits $ fjoin ! $ move ! (3 ∷ 0 ∷ []) $ fjoin ! $ owned ! R.the-row (Is R.the-row) (LL.makes R.the-type R′.the-plain 𝓤 H A) wr _ wr-fits $ fjoin ! $ owned ! I.the-row (Is I.the-row) (LL.makes I.the-type I′.the-plain 𝓤 H A) ri _ ri-fits $ fjoin ! $ owned ! Q.the-row (Is Q.the-row) (LL.makes Q.the-type Q′.the-plain 𝓤 H A) p _ p-fits $ fjoin ! $ nothing ! $ move ! (2 ∷ 0 ∷ []) $ join ! $ move ! (2 ∷ 0 ∷ []) $ join ! $ frame ! $ done !) (known y)
@@ -210,11 +213,11 @@ module _ {M : Type 1} (𝓤 : URA M) (H : Heap 𝓤) (A : Atoms 𝓤) (mem : Mem
       let y : WipeC 𝓤 H A mem run′ .Ghost = (((κstems, tt), (qstems, tt), tt, (at-list T.the-row mstems bstems ostems γstems ysstems, tt), (sliceVal (bstems, ostems) mstems ∷ [], tt)), tt) in
       via 𝓤 (WipeC 𝓤 H A mem run′ .pre y) (qed W ((‵ (flft κstems qstems) ⊛ ‵ (Own T.the-row mstems bstems ostems κstems γstems ysstems)) ∷ []) ∵ split ! $ nothing ! $ move ! (2 ∷ 0 ∷ []) $ fjoin ! $ nothing ! $ move ! (2 ∷ 0 ∷ []) $ join ! $ join ! $ frame ! $ done !) (known y)
 
-  pub run-charstring-as : Triple 𝓤 (C #type1·run-charstring) (RunCharstringC 𝓤 H A mem run′) → (κcharstring : Lft) (qcharstring : Share) (xcharstring : RefT (List ℕ)) (κbank : Lft) (qbank : Share) (xbank : RefT (List ℕ)) (κcommands : Lft) (qcommands : Share) (mcommands bcommands ocommands : ℕ) (γcommands : GName) (yscommands : List ℕ) (κstems : Lft) (qstems : Share) (mstems bstems ostems : ℕ) (γstems : GName) (ysstems : List Stem) (iv : ℕ) → iv < 2 ^ 64
-      → ent 𝓤 (mean 𝓤 H A ((‵ (flft κcharstring qcharstring) ⊛ ‵ (ShrSlice (named 0) κcharstring u8 .own xcharstring (sliceVal (xcharstring .ptr) (length (xcharstring .now)) ∷ []))) ⊛ ((‵ (flft κbank qbank) ⊛ ‵ (ShrSlice (named 0) κbank u8 .own xbank (sliceVal (xbank .ptr) (length (xbank .now)) ∷ []))) ⊛ ((‵ (flft κcommands qcommands) ⊛ ‵ (Own u64 mcommands bcommands ocommands κcommands γcommands yscommands)) ⊛ (‵ (flft κstems qstems) ⊛ ‵ (Own T.the-row mstems bstems ostems κstems γstems ysstems)))))) (C #type1·run-charstring (sliceVal (xcharstring .ptr) (length (xcharstring .now)) ∷ sliceVal (xbank .ptr) (length (xbank .now)) ∷ vint w64 iv ∷ sliceVal (bcommands, ocommands) mcommands ∷ sliceVal (bstems, ostems) mstems ∷ []) (λ w. mean 𝓤 H A (GotAll 𝓤 I.the-row (Unit {0} × (Unit {0} × (Unit {0} × (List ℕ × (List Stem × Unit {0}))))) (λ (r : I.the-row .Denot) (lasts : (Unit {0} × (Unit {0} × (Unit {0} × (List ℕ × (List Stem × Unit {0})))))). Leaves r (lasts .1 .1 .1 .0) (lasts .1 .1 .1 .1 .0) yscommands ysstems (outcome (xcharstring .now) (xbank .now) iv (length ysstems) (length yscommands))) (λ (lasts : (Unit {0} × (Unit {0} × (Unit {0} × (List ℕ × (List Stem × Unit {0})))))). (fsep ftrue (fsep ftrue (fsep ftrue (fsep (fsep (finally u64 γcommands (lasts .1 .1 .1 .0)) (feq ℕ (length (lasts .1 .1 .1 .0)) (length yscommands))) (fsep (fsep (finally T.the-row γstems (lasts .1 .1 .1 .1 .0)) (feq ℕ (length (lasts .1 .1 .1 .1 .0)) (length ysstems))) ftrue)))))) (‵ (flft κcharstring qcharstring) ⊛ (‵ (flft κbank qbank) ⊛ (‵ (flft κcommands qcommands) ⊛ (‵ (flft κstems qstems) ⊛ ‵ ftrue)))) w)))
-  run-charstring-as known κcharstring qcharstring xcharstring κbank qbank xbank κcommands qcommands mcommands bcommands ocommands γcommands yscommands κstems qstems mstems bstems ostems γstems ysstems iv iv-fits =
-      let y : RunCharstringC 𝓤 H A mem run′ .Ghost = (((κcharstring, (κbank, (κcommands, (κstems, tt)))), (qcharstring, (qbank, (qcommands, (qstems, tt)))), tt, (xcharstring, (xbank, (iv, (at-list u64 mcommands bcommands ocommands γcommands yscommands, (at-list T.the-row mstems bstems ostems γstems ysstems, tt))))), (sliceVal (xcharstring .ptr) (length (xcharstring .now)) ∷ [], (sliceVal (xbank .ptr) (length (xbank .now)) ∷ [], (vint w64 iv ∷ [], (sliceVal (bcommands, ocommands) mcommands ∷ [], (sliceVal (bstems, ostems) mstems ∷ [], tt)))))), tt) in
-      via 𝓤 (RunCharstringC 𝓤 H A mem run′ .pre y) (qed W (((‵ (flft κcharstring qcharstring) ⊛ ‵ (ShrSlice (named 0) κcharstring u8 .own xcharstring (sliceVal (xcharstring .ptr) (length (xcharstring .now)) ∷ []))) ⊛ ((‵ (flft κbank qbank) ⊛ ‵ (ShrSlice (named 0) κbank u8 .own xbank (sliceVal (xbank .ptr) (length (xbank .now)) ∷ []))) ⊛ ((‵ (flft κcommands qcommands) ⊛ ‵ (Own u64 mcommands bcommands ocommands κcommands γcommands yscommands)) ⊛ (‵ (flft κstems qstems) ⊛ ‵ (Own T.the-row mstems bstems ostems κstems γstems ysstems))))) ∷ []) ∵ split ! $ move ! (1 ∷ []) $ split ! $ move ! (1 ∷ []) $ split ! $ move ! (3 ∷ []) $ split ! $ move ! (4 ∷ []) $ split ! $ move ! (4 ∷ []) $ split ! $ move ! (6 ∷ []) $ split ! $ nothing ! $ move ! (2 ∷ 0 ∷ []) $ fjoin ! $ move ! (3 ∷ 0 ∷ []) $ fjoin ! $ owned ! usize (Is usize) (uint-makes 𝓤 H A W w64) iv _ (refl, iv-fits) $ fjoin ! $ move ! (4 ∷ 0 ∷ []) $ fjoin ! $ move ! (5 ∷ 0 ∷ []) $ fjoin ! $ nothing ! $ move ! (2 ∷ 0 ∷ []) $ join ! $ move ! (2 ∷ 0 ∷ []) $ join ! $ move ! (2 ∷ 0 ∷ []) $ join ! $ move ! (2 ∷ 0 ∷ []) $ join ! $ join ! $ frame ! $ done !) (known y)
+  pub run-charstring-as : Triple 𝓤 (C #type1·run-charstring) (RunCharstringC 𝓤 H A mem run′) → (κcharstring : Lft) (qcharstring : Share) (xcharstring : RefT (List ℕ)) (κbank : Lft) (qbank : Share) (xbank : RefT (List ℕ)) (κcommands : Lft) (qcommands : Share) (mcommands bcommands ocommands : ℕ) (γcommands : GName) (yscommands : List ℕ) (κstems : Lft) (qstems : Share) (mstems bstems ostems : ℕ) (γstems : GName) (ysstems : List Stem) (rd : Reading) → Is Y.the-row rd (machY rd ∷ [])
+      → ent 𝓤 (mean 𝓤 H A ((‵ (flft κcharstring qcharstring) ⊛ ‵ (ShrSlice (named 0) κcharstring u8 .own xcharstring (sliceVal (xcharstring .ptr) (length (xcharstring .now)) ∷ []))) ⊛ ((‵ (flft κbank qbank) ⊛ ‵ (ShrSlice (named 0) κbank u8 .own xbank (sliceVal (xbank .ptr) (length (xbank .now)) ∷ []))) ⊛ ((‵ (flft κcommands qcommands) ⊛ ‵ (Own u64 mcommands bcommands ocommands κcommands γcommands yscommands)) ⊛ (‵ (flft κstems qstems) ⊛ ‵ (Own T.the-row mstems bstems ostems κstems γstems ysstems)))))) (C #type1·run-charstring (sliceVal (xcharstring .ptr) (length (xcharstring .now)) ∷ sliceVal (xbank .ptr) (length (xbank .now)) ∷ machY rd ∷ sliceVal (bcommands, ocommands) mcommands ∷ sliceVal (bstems, ostems) mstems ∷ []) (λ w. mean 𝓤 H A (GotAll 𝓤 I.the-row (Unit {0} × (Unit {0} × (Unit {0} × (List ℕ × (List Stem × Unit {0}))))) (λ (r : I.the-row .Denot) (lasts : (Unit {0} × (Unit {0} × (Unit {0} × (List ℕ × (List Stem × Unit {0})))))). Leaves r (lasts .1 .1 .1 .0) (lasts .1 .1 .1 .1 .0) yscommands ysstems (outcome (sourceOf (xcharstring .now) (xbank .now)) rd (length ysstems) (length yscommands))) (λ (lasts : (Unit {0} × (Unit {0} × (Unit {0} × (List ℕ × (List Stem × Unit {0})))))). (fsep ftrue (fsep ftrue (fsep ftrue (fsep (fsep (finally u64 γcommands (lasts .1 .1 .1 .0)) (feq ℕ (length (lasts .1 .1 .1 .0)) (length yscommands))) (fsep (fsep (finally T.the-row γstems (lasts .1 .1 .1 .1 .0)) (feq ℕ (length (lasts .1 .1 .1 .1 .0)) (length ysstems))) ftrue)))))) (‵ (flft κcharstring qcharstring) ⊛ (‵ (flft κbank qbank) ⊛ (‵ (flft κcommands qcommands) ⊛ (‵ (flft κstems qstems) ⊛ ‵ ftrue)))) w)))
+  run-charstring-as known κcharstring qcharstring xcharstring κbank qbank xbank κcommands qcommands mcommands bcommands ocommands γcommands yscommands κstems qstems mstems bstems ostems γstems ysstems rd rd-fits =
+      let y : RunCharstringC 𝓤 H A mem run′ .Ghost = (((κcharstring, (κbank, (κcommands, (κstems, tt)))), (qcharstring, (qbank, (qcommands, (qstems, tt)))), tt, (xcharstring, (xbank, (rd, (at-list u64 mcommands bcommands ocommands γcommands yscommands, (at-list T.the-row mstems bstems ostems γstems ysstems, tt))))), (sliceVal (xcharstring .ptr) (length (xcharstring .now)) ∷ [], (sliceVal (xbank .ptr) (length (xbank .now)) ∷ [], (machY rd ∷ [], (sliceVal (bcommands, ocommands) mcommands ∷ [], (sliceVal (bstems, ostems) mstems ∷ [], tt)))))), tt) in
+      via 𝓤 (RunCharstringC 𝓤 H A mem run′ .pre y) (qed W (((‵ (flft κcharstring qcharstring) ⊛ ‵ (ShrSlice (named 0) κcharstring u8 .own xcharstring (sliceVal (xcharstring .ptr) (length (xcharstring .now)) ∷ []))) ⊛ ((‵ (flft κbank qbank) ⊛ ‵ (ShrSlice (named 0) κbank u8 .own xbank (sliceVal (xbank .ptr) (length (xbank .now)) ∷ []))) ⊛ ((‵ (flft κcommands qcommands) ⊛ ‵ (Own u64 mcommands bcommands ocommands κcommands γcommands yscommands)) ⊛ (‵ (flft κstems qstems) ⊛ ‵ (Own T.the-row mstems bstems ostems κstems γstems ysstems))))) ∷ []) ∵ split ! $ move ! (1 ∷ []) $ split ! $ move ! (1 ∷ []) $ split ! $ move ! (3 ∷ []) $ split ! $ move ! (4 ∷ []) $ split ! $ move ! (4 ∷ []) $ split ! $ move ! (6 ∷ []) $ split ! $ nothing ! $ move ! (2 ∷ 0 ∷ []) $ fjoin ! $ move ! (3 ∷ 0 ∷ []) $ fjoin ! $ owned ! Y.the-row (Is Y.the-row) (LL.makes Y.the-type Y′.the-plain 𝓤 H A) rd _ rd-fits $ fjoin ! $ move ! (4 ∷ 0 ∷ []) $ fjoin ! $ move ! (5 ∷ 0 ∷ []) $ fjoin ! $ nothing ! $ move ! (2 ∷ 0 ∷ []) $ join ! $ move ! (2 ∷ 0 ∷ []) $ join ! $ move ! (2 ∷ 0 ∷ []) $ join ! $ move ! (2 ∷ 0 ∷ []) $ join ! $ join ! $ frame ! $ done !) (known y)
 
   pub convert-run-as : Triple 𝓤 (C #type1-to-type2·convert-run) (ConvertRunC 𝓤 H A mem run′) → (κstems : Lft) (qstems : Share) (mstems bstems ostems : ℕ) (γstems : GName) (ysstems : List Stem) (κcommands : Lft) (qcommands : Share) (mcommands bcommands ocommands : ℕ) (γcommands : GName) (yscommands : List ℕ) (κacross : Lft) (qacross : Share) (bacross oacross : ℕ) (γacross : GName) (ysacross : List Float) (κupright : Lft) (qupright : Share) (bupright oupright : ℕ) (γupright : GName) (ysupright : List Float) (κmask : Lft) (qmask : Share) (bmask omask : ℕ) (γmask : GName) (ysmask : List Bool) (κout : Lft) (qout : Share) (mout bout oout : ℕ) (γout : GName) (ysout : List ℕ) (ri : Interpreted) (number : ℕ) (m : Matrix) → Is I.the-row ri (machI ri ∷ []) → number < 2 ^ 64 → Is Z.the-row m (machZ m ∷ []) → Stored (ri .entries) yscommands ysstems × Blank ysacross ysupright ysmask
       → ent 𝓤 (mean 𝓤 H A ((‵ (flft κstems qstems) ⊛ ‵ (Own T.the-row mstems bstems ostems κstems γstems ysstems)) ⊛ ((‵ (flft κcommands qcommands) ⊛ ‵ (Own u64 mcommands bcommands ocommands κcommands γcommands yscommands)) ⊛ ((‵ (flft κacross qacross) ⊛ ‵ (OwnR (Array f64 192) bacross oacross κacross γacross ysacross)) ⊛ ((‵ (flft κupright qupright) ⊛ ‵ (OwnR (Array f64 192) bupright oupright κupright γupright ysupright)) ⊛ ((‵ (flft κmask qmask) ⊛ ‵ (OwnR (Array bool 96) bmask omask κmask γmask ysmask)) ⊛ (‵ (flft κout qout) ⊛ ‵ (Own u8 mout bout oout κout γout ysout)))))))) (C #type1-to-type2·convert-run (machI ri ∷ vint w64 number ∷ machZ m ∷ sliceVal (bstems, ostems) mstems ∷ sliceVal (bcommands, ocommands) mcommands ∷ vptr bacross oacross ∷ vptr bupright oupright ∷ vptr bmask omask ∷ sliceVal (bout, oout) mout ∷ []) (λ w. mean 𝓤 H A (GotAll 𝓤 G.the-row (Unit {0} × (Unit {0} × (Unit {0} × (List Stem × (List ℕ × (List Float × (List Float × (List Bool × (List ℕ × Unit {0}))))))))) (λ (r : G.the-row .Denot) (lasts : (Unit {0} × (Unit {0} × (Unit {0} × (List Stem × (List ℕ × (List Float × (List Float × (List Bool × (List ℕ × Unit {0})))))))))). (lasts .1 .1 .1 .0 ≡ ysstems) × ((lasts .1 .1 .1 .1 .0 ≡ yscommands) × Answers (fromRun number m (length ysout) ri yscommands ysstems) (length ysout) r (lasts .1 .1 .1 .1 .1 .1 .1 .1 .0))) (λ (lasts : (Unit {0} × (Unit {0} × (Unit {0} × (List Stem × (List ℕ × (List Float × (List Float × (List Bool × (List ℕ × Unit {0})))))))))). (fsep ftrue (fsep ftrue (fsep ftrue (fsep (fsep (finally T.the-row γstems (lasts .1 .1 .1 .0)) (feq ℕ (length (lasts .1 .1 .1 .0)) (length ysstems))) (fsep (fsep (finally u64 γcommands (lasts .1 .1 .1 .1 .0)) (feq ℕ (length (lasts .1 .1 .1 .1 .0)) (length yscommands))) (fsep (fres γacross ((Array f64 192) .coded .code (lasts .1 .1 .1 .1 .1 .0))) (fsep (fres γupright ((Array f64 192) .coded .code (lasts .1 .1 .1 .1 .1 .1 .0))) (fsep (fres γmask ((Array bool 96) .coded .code (lasts .1 .1 .1 .1 .1 .1 .1 .0))) (fsep (fsep (finally u8 γout (lasts .1 .1 .1 .1 .1 .1 .1 .1 .0)) (feq ℕ (length (lasts .1 .1 .1 .1 .1 .1 .1 .1 .0)) (length ysout))) ftrue)))))))))) (‵ (flft κstems qstems) ⊛ (‵ (flft κcommands qcommands) ⊛ (‵ (flft κacross qacross) ⊛ (‵ (flft κupright qupright) ⊛ (‵ (flft κmask qmask) ⊛ (‵ (flft κout qout) ⊛ ‵ ftrue)))))) w)))
@@ -234,8 +237,8 @@ module _ {M : Type 1} (𝓤 : URA M) (H : Heap 𝓤) (A : Atoms 𝓤) (mem : Mem
       let y : IdentityC 𝓤 H A mem run′ .Ghost = ((tt, tt, tt, tt, tt), tt) in
       via 𝓤 (IdentityC 𝓤 H A mem run′ .pre y) (qed W ((‵ ftrue) ∷ []) ∵ nothing ! $ nothing ! $ join ! $ frame ! $ done !) (known y)
 
-  pub convert-charstring-transformed-as : Triple 𝓤 (C #type1-to-type2·convert-charstring-transformed) (ConvertCharstringTransformedC 𝓤 H A mem run′) → (κcharstring : Lft) (qcharstring : Share) (xcharstring : RefT (List ℕ)) (κbank : Lft) (qbank : Share) (xbank : RefT (List ℕ)) (κstems : Lft) (qstems : Share) (mstems bstems ostems : ℕ) (γstems : GName) (ysstems : List Stem) (κcommands : Lft) (qcommands : Share) (mcommands bcommands ocommands : ℕ) (γcommands : GName) (yscommands : List ℕ) (κout : Lft) (qout : Share) (mout bout oout : ℕ) (γout : GName) (ysout : List ℕ) (iv : ℕ) (m : Matrix) → iv < 2 ^ 64 → Is Z.the-row m (machZ m ∷ [])
-      → ent 𝓤 (mean 𝓤 H A ((‵ (flft κcharstring qcharstring) ⊛ ‵ (ShrSlice (named 0) κcharstring u8 .own xcharstring (sliceVal (xcharstring .ptr) (length (xcharstring .now)) ∷ []))) ⊛ ((‵ (flft κbank qbank) ⊛ ‵ (ShrSlice (named 0) κbank u8 .own xbank (sliceVal (xbank .ptr) (length (xbank .now)) ∷ []))) ⊛ ((‵ (flft κstems qstems) ⊛ ‵ (Own T.the-row mstems bstems ostems κstems γstems ysstems)) ⊛ ((‵ (flft κcommands qcommands) ⊛ ‵ (Own u64 mcommands bcommands ocommands κcommands γcommands yscommands)) ⊛ (‵ (flft κout qout) ⊛ ‵ (Own u8 mout bout oout κout γout ysout))))))) (C #type1-to-type2·convert-charstring-transformed (sliceVal (xcharstring .ptr) (length (xcharstring .now)) ∷ sliceVal (xbank .ptr) (length (xbank .now)) ∷ vint w64 iv ∷ machZ m ∷ sliceVal (bstems, ostems) mstems ∷ sliceVal (bcommands, ocommands) mcommands ∷ sliceVal (bout, oout) mout ∷ []) (λ w. mean 𝓤 H A (GotAll 𝓤 G.the-row (Unit {0} × (Unit {0} × (Unit {0} × (Unit {0} × (List Stem × (List ℕ × (List ℕ × Unit {0}))))))) (λ (r : G.the-row .Denot) (lasts : (Unit {0} × (Unit {0} × (Unit {0} × (Unit {0} × (List Stem × (List ℕ × (List ℕ × Unit {0})))))))). Converts (convert (xcharstring .now) (xbank .now) iv m (length ysstems) (length yscommands) (length ysout)) ysstems yscommands (length ysout) r (lasts .1 .1 .1 .1 .0) (lasts .1 .1 .1 .1 .1 .0) (lasts .1 .1 .1 .1 .1 .1 .0)) (λ (lasts : (Unit {0} × (Unit {0} × (Unit {0} × (Unit {0} × (List Stem × (List ℕ × (List ℕ × Unit {0})))))))). (fsep ftrue (fsep ftrue (fsep ftrue (fsep ftrue (fsep (fsep (finally T.the-row γstems (lasts .1 .1 .1 .1 .0)) (feq ℕ (length (lasts .1 .1 .1 .1 .0)) (length ysstems))) (fsep (fsep (finally u64 γcommands (lasts .1 .1 .1 .1 .1 .0)) (feq ℕ (length (lasts .1 .1 .1 .1 .1 .0)) (length yscommands))) (fsep (fsep (finally u8 γout (lasts .1 .1 .1 .1 .1 .1 .0)) (feq ℕ (length (lasts .1 .1 .1 .1 .1 .1 .0)) (length ysout))) ftrue)))))))) (‵ (flft κcharstring qcharstring) ⊛ (‵ (flft κbank qbank) ⊛ (‵ (flft κstems qstems) ⊛ (‵ (flft κcommands qcommands) ⊛ (‵ (flft κout qout) ⊛ ‵ ftrue))))) w)))
-  convert-charstring-transformed-as known κcharstring qcharstring xcharstring κbank qbank xbank κstems qstems mstems bstems ostems γstems ysstems κcommands qcommands mcommands bcommands ocommands γcommands yscommands κout qout mout bout oout γout ysout iv m iv-fits m-fits =
-      let y : ConvertCharstringTransformedC 𝓤 H A mem run′ .Ghost = (((κcharstring, (κbank, (κstems, (κcommands, (κout, tt))))), (qcharstring, (qbank, (qstems, (qcommands, (qout, tt))))), tt, (xcharstring, (xbank, (iv, (m, (at-list T.the-row mstems bstems ostems γstems ysstems, (at-list u64 mcommands bcommands ocommands γcommands yscommands, (at-list u8 mout bout oout γout ysout, tt))))))), (sliceVal (xcharstring .ptr) (length (xcharstring .now)) ∷ [], (sliceVal (xbank .ptr) (length (xbank .now)) ∷ [], (vint w64 iv ∷ [], (machZ m ∷ [], (sliceVal (bstems, ostems) mstems ∷ [], (sliceVal (bcommands, ocommands) mcommands ∷ [], (sliceVal (bout, oout) mout ∷ [], tt)))))))), tt) in
-      via 𝓤 (ConvertCharstringTransformedC 𝓤 H A mem run′ .pre y) (qed W (((‵ (flft κcharstring qcharstring) ⊛ ‵ (ShrSlice (named 0) κcharstring u8 .own xcharstring (sliceVal (xcharstring .ptr) (length (xcharstring .now)) ∷ []))) ⊛ ((‵ (flft κbank qbank) ⊛ ‵ (ShrSlice (named 0) κbank u8 .own xbank (sliceVal (xbank .ptr) (length (xbank .now)) ∷ []))) ⊛ ((‵ (flft κstems qstems) ⊛ ‵ (Own T.the-row mstems bstems ostems κstems γstems ysstems)) ⊛ ((‵ (flft κcommands qcommands) ⊛ ‵ (Own u64 mcommands bcommands ocommands κcommands γcommands yscommands)) ⊛ (‵ (flft κout qout) ⊛ ‵ (Own u8 mout bout oout κout γout ysout)))))) ∷ []) ∵ split ! $ move ! (1 ∷ []) $ split ! $ move ! (1 ∷ []) $ split ! $ move ! (1 ∷ []) $ split ! $ move ! (4 ∷ []) $ split ! $ move ! (5 ∷ []) $ split ! $ move ! (6 ∷ []) $ split ! $ move ! (6 ∷ []) $ split ! $ move ! (8 ∷ []) $ split ! $ nothing ! $ move ! (2 ∷ 0 ∷ []) $ fjoin ! $ move ! (3 ∷ 0 ∷ []) $ fjoin ! $ move ! (4 ∷ 0 ∷ []) $ fjoin ! $ owned ! Z.the-row (Is Z.the-row) (LL.makes Z.the-type Z′.the-plain 𝓤 H A) m _ m-fits $ fjoin ! $ owned ! usize (Is usize) (uint-makes 𝓤 H A W w64) iv _ (refl, iv-fits) $ fjoin ! $ move ! (5 ∷ 0 ∷ []) $ fjoin ! $ move ! (6 ∷ 0 ∷ []) $ fjoin ! $ nothing ! $ move ! (2 ∷ 0 ∷ []) $ join ! $ move ! (2 ∷ 0 ∷ []) $ join ! $ move ! (2 ∷ 0 ∷ []) $ join ! $ move ! (2 ∷ 0 ∷ []) $ join ! $ move ! (2 ∷ 0 ∷ []) $ join ! $ join ! $ frame ! $ done !) (known y)
+  pub convert-charstring-transformed-as : Triple 𝓤 (C #type1-to-type2·convert-charstring-transformed) (ConvertCharstringTransformedC 𝓤 H A mem run′) → (κcharstring : Lft) (qcharstring : Share) (xcharstring : RefT (List ℕ)) (κbank : Lft) (qbank : Share) (xbank : RefT (List ℕ)) (κstems : Lft) (qstems : Share) (mstems bstems ostems : ℕ) (γstems : GName) (ysstems : List Stem) (κcommands : Lft) (qcommands : Share) (mcommands bcommands ocommands : ℕ) (γcommands : GName) (yscommands : List ℕ) (κout : Lft) (qout : Share) (mout bout oout : ℕ) (γout : GName) (ysout : List ℕ) (rd : Reading) (m : Matrix) → Is Y.the-row rd (machY rd ∷ []) → Is Z.the-row m (machZ m ∷ [])
+      → ent 𝓤 (mean 𝓤 H A ((‵ (flft κcharstring qcharstring) ⊛ ‵ (ShrSlice (named 0) κcharstring u8 .own xcharstring (sliceVal (xcharstring .ptr) (length (xcharstring .now)) ∷ []))) ⊛ ((‵ (flft κbank qbank) ⊛ ‵ (ShrSlice (named 0) κbank u8 .own xbank (sliceVal (xbank .ptr) (length (xbank .now)) ∷ []))) ⊛ ((‵ (flft κstems qstems) ⊛ ‵ (Own T.the-row mstems bstems ostems κstems γstems ysstems)) ⊛ ((‵ (flft κcommands qcommands) ⊛ ‵ (Own u64 mcommands bcommands ocommands κcommands γcommands yscommands)) ⊛ (‵ (flft κout qout) ⊛ ‵ (Own u8 mout bout oout κout γout ysout))))))) (C #type1-to-type2·convert-charstring-transformed (sliceVal (xcharstring .ptr) (length (xcharstring .now)) ∷ sliceVal (xbank .ptr) (length (xbank .now)) ∷ machY rd ∷ machZ m ∷ sliceVal (bstems, ostems) mstems ∷ sliceVal (bcommands, ocommands) mcommands ∷ sliceVal (bout, oout) mout ∷ []) (λ w. mean 𝓤 H A (GotAll 𝓤 G.the-row (Unit {0} × (Unit {0} × (Unit {0} × (Unit {0} × (List Stem × (List ℕ × (List ℕ × Unit {0}))))))) (λ (r : G.the-row .Denot) (lasts : (Unit {0} × (Unit {0} × (Unit {0} × (Unit {0} × (List Stem × (List ℕ × (List ℕ × Unit {0})))))))). ConvertsFrom (sourceOf (xcharstring .now) (xbank .now)) rd m (roomsOf ysstems yscommands ysout) r (lasts .1 .1 .1 .1 .0) (lasts .1 .1 .1 .1 .1 .0) (lasts .1 .1 .1 .1 .1 .1 .0)) (λ (lasts : (Unit {0} × (Unit {0} × (Unit {0} × (Unit {0} × (List Stem × (List ℕ × (List ℕ × Unit {0})))))))). (fsep ftrue (fsep ftrue (fsep ftrue (fsep ftrue (fsep (fsep (finally T.the-row γstems (lasts .1 .1 .1 .1 .0)) (feq ℕ (length (lasts .1 .1 .1 .1 .0)) (length ysstems))) (fsep (fsep (finally u64 γcommands (lasts .1 .1 .1 .1 .1 .0)) (feq ℕ (length (lasts .1 .1 .1 .1 .1 .0)) (length yscommands))) (fsep (fsep (finally u8 γout (lasts .1 .1 .1 .1 .1 .1 .0)) (feq ℕ (length (lasts .1 .1 .1 .1 .1 .1 .0)) (length ysout))) ftrue)))))))) (‵ (flft κcharstring qcharstring) ⊛ (‵ (flft κbank qbank) ⊛ (‵ (flft κstems qstems) ⊛ (‵ (flft κcommands qcommands) ⊛ (‵ (flft κout qout) ⊛ ‵ ftrue))))) w)))
+  convert-charstring-transformed-as known κcharstring qcharstring xcharstring κbank qbank xbank κstems qstems mstems bstems ostems γstems ysstems κcommands qcommands mcommands bcommands ocommands γcommands yscommands κout qout mout bout oout γout ysout rd m rd-fits m-fits =
+      let y : ConvertCharstringTransformedC 𝓤 H A mem run′ .Ghost = (((κcharstring, (κbank, (κstems, (κcommands, (κout, tt))))), (qcharstring, (qbank, (qstems, (qcommands, (qout, tt))))), tt, (xcharstring, (xbank, (rd, (m, (at-list T.the-row mstems bstems ostems γstems ysstems, (at-list u64 mcommands bcommands ocommands γcommands yscommands, (at-list u8 mout bout oout γout ysout, tt))))))), (sliceVal (xcharstring .ptr) (length (xcharstring .now)) ∷ [], (sliceVal (xbank .ptr) (length (xbank .now)) ∷ [], (machY rd ∷ [], (machZ m ∷ [], (sliceVal (bstems, ostems) mstems ∷ [], (sliceVal (bcommands, ocommands) mcommands ∷ [], (sliceVal (bout, oout) mout ∷ [], tt)))))))), tt) in
+      via 𝓤 (ConvertCharstringTransformedC 𝓤 H A mem run′ .pre y) (qed W (((‵ (flft κcharstring qcharstring) ⊛ ‵ (ShrSlice (named 0) κcharstring u8 .own xcharstring (sliceVal (xcharstring .ptr) (length (xcharstring .now)) ∷ []))) ⊛ ((‵ (flft κbank qbank) ⊛ ‵ (ShrSlice (named 0) κbank u8 .own xbank (sliceVal (xbank .ptr) (length (xbank .now)) ∷ []))) ⊛ ((‵ (flft κstems qstems) ⊛ ‵ (Own T.the-row mstems bstems ostems κstems γstems ysstems)) ⊛ ((‵ (flft κcommands qcommands) ⊛ ‵ (Own u64 mcommands bcommands ocommands κcommands γcommands yscommands)) ⊛ (‵ (flft κout qout) ⊛ ‵ (Own u8 mout bout oout κout γout ysout)))))) ∷ []) ∵ split ! $ move ! (1 ∷ []) $ split ! $ move ! (1 ∷ []) $ split ! $ move ! (1 ∷ []) $ split ! $ move ! (4 ∷ []) $ split ! $ move ! (5 ∷ []) $ split ! $ move ! (6 ∷ []) $ split ! $ move ! (6 ∷ []) $ split ! $ move ! (8 ∷ []) $ split ! $ nothing ! $ move ! (2 ∷ 0 ∷ []) $ fjoin ! $ move ! (3 ∷ 0 ∷ []) $ fjoin ! $ move ! (4 ∷ 0 ∷ []) $ fjoin ! $ owned ! Z.the-row (Is Z.the-row) (LL.makes Z.the-type Z′.the-plain 𝓤 H A) m _ m-fits $ fjoin ! $ owned ! Y.the-row (Is Y.the-row) (LL.makes Y.the-type Y′.the-plain 𝓤 H A) rd _ rd-fits $ fjoin ! $ move ! (5 ∷ 0 ∷ []) $ fjoin ! $ move ! (6 ∷ 0 ∷ []) $ fjoin ! $ nothing ! $ move ! (2 ∷ 0 ∷ []) $ join ! $ move ! (2 ∷ 0 ∷ []) $ join ! $ move ! (2 ∷ 0 ∷ []) $ join ! $ move ! (2 ∷ 0 ∷ []) $ join ! $ move ! (2 ∷ 0 ∷ []) $ join ! $ join ! $ frame ! $ done !) (known y)

@@ -10,11 +10,12 @@ use lib.Ieee.{Float}
 use lib.Ieee.Scale.{finite}
 use Rattle.geometry.specs.declared.Matrix.{Matrix}
 use Rattle.type1.specs.declared.Stem.{Stem}
+use Rattle.type1.specs.declared.Reading.{Reading}
 use Rattle.type1.specs.declared.Interpreted.{Interpreted}
 use Rattle.type1.specs.State.{Command, Group, State}
 use Rattle.type1.specs.Run as Run
 use Rattle.type1.specs.Run.{Outcome, pick}
-use Rattle.type1.specs.Interpret.{outcome, Left, refusedWith, Leaves}
+use Rattle.type1.specs.Interpret.{Source, outcome, Left, refusedWith, Leaves}
 use Rattle.type1.specs.Sound.{All, OfCommand}
 use Rattle.type1.specs.Small.{zeroStem}
 use Rattle.type1.specs.Memory.{Good, commandIn, drawnIn, groupsIn}
@@ -29,11 +30,11 @@ use Rattle.type1_to_type2.specs.Emission.{Cmd, items, commands, program}
 use Rattle.type1_to_type2.specs.Writing as Writing
 use Rattle.type1_to_type2.specs.Writing.{Written, write}
 use Rattle.type1_to_type2.specs.Convert as Convert
-use Rattle.type1_to_type2.specs.Convert.{Conversion, instructions, writes, folded, ended, convert, answer, output}
+use Rattle.type1_to_type2.specs.Convert.{Glyph, glyphOf, Conversion, instructions, writes, folded, ended, roomsOf, convert, answer, output}
 use Rattle.type1_to_type2.specs.Collecting.{Collects, Counted, noneCollected}
 use Rattle.type1_to_type2.specs.Streaming.{resumedAll}
 use Rattle.type1_to_type2.specs.Passes.{both, Gathers, stemsTo, cmdsFrom, Stored}
-use Rattle.type1_to_type2.specs.Entry.{groupCount, noneOf, tables, Planned, opens, Opens, leftState, fromRun, settles, Answers, Converts, firstNumber}
+use Rattle.type1_to_type2.specs.Entry.{groupCount, noneOf, tables, Planned, opens, Opens, leftState, fromRun, settles, Answers, ConvertsFrom, firstNumber}
 use Rattle.type1_to_type2.specs.Fine.{written-finite}
 use Rattle.type1_to_type2.specs.Nonzero.{write-nonzero}
 use Rattle.type1_to_type2.proofs.Folds.{finite-all}
@@ -54,33 +55,33 @@ pub few-none : (k : ℕ) (c : Collected) → c ≡ noneOf k → Counted c
 few-none k c e = subst Counted (sym e) (record { across = omega arith; upright = omega arith })
 
 -- by the number so far, whether the width and the stems are finite (f and s), and whether the points are: then what is written was not refused
-settled : (b f s points : Bool) (n p : ℕ) (x y : Written) (w : Float) (k : ℕ) → eqb n 0 ≡ b → p ≡ pick b (pick (f && s) 0 14) n → ((f && s) ≡ true → x ≡ y) → ((c : List ℕ) → y ≡ Writing.wrote c → points ≡ true)
-    → settles p points (writes w k (pick (eqb p 0) x (Writing.refused p))) ≡ pick b (pick (f && (points && s)) (writes w k y) (Convert.refused 14)) (Convert.refused n)
+settled : (b f s points : Bool) (n p : ℕ) (x y : Written) (v : List ℕ → Glyph) → eqb n 0 ≡ b → p ≡ pick b (pick (f && s) 0 14) n → ((f && s) ≡ true → x ≡ y) → ((c : List ℕ) → y ≡ Writing.wrote c → points ≡ true)
+    → settles p points (writes v (pick (eqb p 0) x (Writing.refused p))) ≡ pick b (pick (f && (points && s)) (writes v y) (Convert.refused 14)) (Convert.refused n)
 unfolding refusal
-settled false f s points n p x y w k e q h g = ap (λ (j : ℕ). settles j points (writes w k (pick (eqb j 0) x (Writing.refused j)))) q ∙ ap (λ (z : Bool). settles n points (writes w k (pick z x (Writing.refused n)))) e ∙ ap (λ (z : Bool). Convert.refused (cond z (cond points n 14) n)) e
-settled true true true points n p x y w k e q h g = ap (λ (j : ℕ). settles j points (writes w k (pick (eqb j 0) x (Writing.refused j)))) q ∙ ap (λ (z : Written). settles 0 points (writes w k z)) (h refl) ∙ late points y g
+settled false f s points n p x y v e q h g = ap (λ (j : ℕ). settles j points (writes v (pick (eqb j 0) x (Writing.refused j)))) q ∙ ap (λ (z : Bool). settles n points (writes v (pick z x (Writing.refused n)))) e ∙ ap (λ (z : Bool). Convert.refused (cond z (cond points n 14) n)) e
+settled true true true points n p x y v e q h g = ap (λ (j : ℕ). settles j points (writes v (pick (eqb j 0) x (Writing.refused j)))) q ∙ ap (λ (z : Written). settles 0 points (writes v z)) (h refl) ∙ late points y g
   where
-    late : (points : Bool) (y : Written) → ((c : List ℕ) → y ≡ Writing.wrote c → points ≡ true) → settles 0 points (writes w k y) ≡ pick (points && true) (writes w k y) (Convert.refused 14)
+    late : (points : Bool) (y : Written) → ((c : List ℕ) → y ≡ Writing.wrote c → points ≡ true) → settles 0 points (writes v y) ≡ pick (points && true) (writes v y) (Convert.refused 14)
     late true (Writing.refused j) g = refl
     late true (Writing.wrote c) g = refl
     late false (Writing.refused j) g = refl
     late false (Writing.wrote c) g = absurd (true≢false (sym (g c refl)))
-settled true true false true n p x y w k e q h g = ap (λ (j : ℕ). settles j true (writes w k (pick (eqb j 0) x (Writing.refused j)))) q
-settled true true false false n p x y w k e q h g = ap (λ (j : ℕ). settles j false (writes w k (pick (eqb j 0) x (Writing.refused j)))) q
-settled true false s points n p x y w k e q h g = ap (λ (j : ℕ). settles j points (writes w k (pick (eqb j 0) x (Writing.refused j)))) q
+settled true true false true n p x y v e q h g = ap (λ (j : ℕ). settles j true (writes v (pick (eqb j 0) x (Writing.refused j)))) q
+settled true true false false n p x y v e q h g = ap (λ (j : ℕ). settles j false (writes v (pick (eqb j 0) x (Writing.refused j)))) q
+settled true false s points n p x y v e q h g = ap (λ (j : ℕ). settles j points (writes v (pick (eqb j 0) x (Writing.refused j)))) q
 
 module _ (number : ℕ) (m : Matrix) (r : Interpreted) (c : List ℕ) (z : List Stem) (room : ℕ) where
   abbrev gs : List Group
   gs = foldedGroups m (groupsIn (r .entries) c z)
 
-  is-run : fromRun number m room r c z ≡ pick (eqb number 0) (pick (finite (foldedWidth m (r .width)) && (finiteList (foldedList m (drawnIn (r .entries) c)) && finiteGroups gs)) (writes (foldedWidth m (r .width)) (r .ran) (write (program (declared gs) (commands 0 gs (foldedList m (drawnIn (r .entries) c)))) room)) (Convert.refused 14)) (Convert.refused number)
+  is-run : fromRun number m room r c z ≡ pick (eqb number 0) (pick (finite (foldedWidth m (r .width)) && (finiteList (foldedList m (drawnIn (r .entries) c)) && finiteGroups gs)) (writes (glyphOf (foldedWidth m (r .width)) (r .ran)) (write (program (declared gs) (commands 0 gs (foldedList m (drawnIn (r .entries) c)))) room)) (Convert.refused 14)) (Convert.refused number)
   unfolding fromRun folded foldsFinite instructions
   is-run = refl
 
   pub run-answers : (k : ℕ) (c₀ cc : Collected) (ta tu ta₁ tu₁ : List Float) (p : Plan) (w v : Writer) (out₁ out₂ out₃ : List ℕ) (g : Type2Glyph) (z′ : List Stem)
       → length ta ≡ 192 → length tu ≡ 192 → k ≡ groupCount (r .entries) c → c₀ ≡ noneOf k → Gathers (stemsTo m c z (r .entries)) c₀ ta tu cc ta₁ tu₁ → Planned number cc m (r .width) p → Opens p ta₁ tu₁ room w out₁ → z′ ≡ z
       → resumedAll (p .masked) (both (p .across) (p .upright) ta₁ tu₁) v out₂ [] ≡ resumedAll (p .masked) (both (p .across) (p .upright) ta₁ tu₁) w out₁ (cmdsFrom m c z′ 0 (r .entries)) → length out₂ ≡ room
-      → Answers (settles (p .number) (finiteList (foldedList m (drawnIn (r .entries) c))) (writes (p .width) (r .ran) (resumedAll false [] v out₂ []))) (length out₂) g out₃ → Answers (fromRun number m room r c z) room g out₃
+      → Answers (settles (p .number) (finiteList (foldedList m (drawnIn (r .entries) c))) (writes (glyphOf (p .width) (r .ran)) (resumedAll false [] v out₂ []))) (length out₂) g out₃ → Answers (fromRun number m room r c z) room g out₃
   run-answers k c₀ cc ta tu ta₁ tu₁ p w v out₁ out₂ out₃ g z′ la lu K e₀ G P B ez e l A =
       let C : Collects (stemsTo m c z (r .entries)) cc ta₁ tu₁ = G .0 [] (subst (λ (x : Collected). Collects [] x ta tu) (sym e₀) (collects-group noneCollected k ta tu [] (collects-first ta tu la lu))) in
       let C′ : Collects (allStems gs) cc ta₁ tu₁ = subst (λ (x : List Stem). Collects x cc ta₁ tu₁) (stems-are m c z (r .entries)) C in
@@ -89,9 +90,9 @@ module _ (number : ℕ) (m : Matrix) (r : Interpreted) (c : List ℕ) (z : List 
       let same : (fw && cc .finite) ≡ (fw && finiteGroups gs) = ap (λ (x : Bool). fw && x) (C′ .fine ∙ sym (finite-all gs)) in
       let counted : cc .groups ≡ length gs = G .1 .0 ∙ ap (λ (x : Collected). x .groups) e₀ ∙ K ∙ count-is m c z (r .entries) in
       let left = nothing-left (p .masked) (both (p .across) (p .upright) ta₁ tu₁) v out₂ ∙ e ∙ ap (λ (x : List Stem). resumedAll (p .masked) (both (p .across) (p .upright) ta₁ tu₁) w out₁ (cmdsFrom m c x 0 (r .entries))) ez ∙ B .more (cmdsFrom m c z 0 (r .entries)) ∙ opens-is p ta₁ tu₁ room (cmdsFrom m c z 0 (r .entries)) in
-      let x : settles (p .number) (finiteList ds) (writes (p .width) (r .ran) (resumedAll false [] v out₂ [])) ≡ fromRun number m room r c z =
-      ap₂ (λ (a : Float) (b : Written). settles (p .number) (finiteList ds) (writes a (r .ran) b)) (P .width-is) left
-      ∙ settled (eqb number 0) fw (finiteGroups gs) (finiteList ds) number (p .number) (write (program (tables p ta₁ tu₁) (cmdsFrom m c z 0 (r .entries))) room) (write (program (declared gs) (commands 0 gs ds)) room) (foldedWidth m (r .width)) (r .ran) refl
+      let x : settles (p .number) (finiteList ds) (writes (glyphOf (p .width) (r .ran)) (resumedAll false [] v out₂ [])) ≡ fromRun number m room r c z =
+      ap₂ (λ (a : Float) (b : Written). settles (p .number) (finiteList ds) (writes (glyphOf a (r .ran)) b)) (P .width-is) left
+      ∙ settled (eqb number 0) fw (finiteGroups gs) (finiteList ds) number (p .number) (write (program (tables p ta₁ tu₁) (cmdsFrom m c z 0 (r .entries))) room) (write (program (declared gs) (commands 0 gs ds)) room) (glyphOf (foldedWidth m (r .width)) (r .ran)) refl
       (P .number-is ∙ ap (λ (b : Bool). pick (eqb number 0) (pick b 0 14) number) same)
       (λ f. ap₂ (λ (d : Declared) (cs : List Cmd). write (program d cs) room) (sym (P .stems gs ta₁ tu₁ C′ counted (and-right fw (cc .finite) (same ∙ f)))) (commands-are m c z (r .entries)))
       (λ b q. yes (finiteList ds) (written-finite (declared gs) gs ds room b q))
@@ -139,7 +140,7 @@ same-fold : (m : Matrix) (room : ℕ) (s t : State) → s .width ≡ t .width �
 unfolding folded foldsFinite instructions
 same-fold m room s t a b g d = λ i.
     pick (finite (foldedWidth m (a i)) && (finiteList (foldedList m (d i)) && finiteGroups (foldedGroups m (g i))))
-    (writes (foldedWidth m (a i)) (b i) (write (program (declared (foldedGroups m (g i))) (commands 0 (foldedGroups m (g i)) (foldedList m (d i)))) room)) (Convert.refused 14)
+    (writes (glyphOf (foldedWidth m (a i)) (b i)) (write (program (declared (foldedGroups m (g i))) (commands 0 (foldedGroups m (g i)) (foldedList m (d i)))) room)) (Convert.refused 14)
 
 left-fold : (m : Matrix) (room : ℕ) (r : Interpreted) (c : List ℕ) (z : List Stem) (s : State) → Left r c z s → folded m room (leftState r c z) ≡ folded m room s
 left-fold m room r c z s L = same-fold m room (leftState r c z) s (L .width) (L .ran) (L .groups) (L .drawn)
@@ -169,7 +170,7 @@ module _ (m : Matrix) (room : ℕ) (r : Interpreted) (c : List ℕ) (z : List St
 -- no refusal has the number 0
 abbrev numberOf : Conversion → ℕ
 numberOf (Convert.refused n) = n
-numberOf (Convert.converted b w n) = 1
+numberOf (Convert.converted g) = 1
 
 abbrev Real : Conversion → Type 0
 Real x = x ≡ Convert.refused 0 → ⊥
@@ -177,16 +178,16 @@ Real x = x ≡ Convert.refused 0 → ⊥
 real-refused : (n : ℕ) → 0 < n → Real (Convert.refused n)
 real-refused n h e = let z : n ≡ 0 = ap numberOf e in let y : ⊥ = omega (arith, z, h) in y
 
-real-writes : (w : Float) (n : ℕ) (x : Written) → (x ≡ Writing.refused 0 → ⊥) → Real (writes w n x)
-real-writes w n (Writing.refused k) h e = h (ap Writing.refused (ap numberOf e))
-real-writes w n (Writing.wrote b) h e = let z : _≡_ {A = ℕ} 1 0 = ap numberOf e in let y : ⊥ = omega (arith, z) in y
+real-writes : (g : List ℕ → Glyph) (x : Written) → (x ≡ Writing.refused 0 → ⊥) → Real (writes g x)
+real-writes g (Writing.refused k) h e = h (ap Writing.refused (ap numberOf e))
+real-writes g (Writing.wrote b) h e = let z : _≡_ {A = ℕ} 1 0 = ap numberOf e in let y : ⊥ = omega (arith, z) in y
 
 real-folded : (m : Matrix) (room : ℕ) (s : State) → Real (folded m room s)
 unfolding folded
 real-folded m room s = go (foldsFinite m s)
   where
-    go : (b : Bool) → Real (pick b (writes (foldedWidth m (s .width)) (s .ran) (write (instructions m s) room)) (Convert.refused 14))
-    go true = real-writes (foldedWidth m (s .width)) (s .ran) (write (instructions m s) room) (write-nonzero (instructions m s) room)
+    go : (b : Bool) → Real (pick b (writes (glyphOf (foldedWidth m (s .width)) (s .ran)) (write (instructions m s) room)) (Convert.refused 14))
+    go true = real-writes (glyphOf (foldedWidth m (s .width)) (s .ran)) (write (instructions m s) room) (write-nonzero (instructions m s) room)
     go false = real-refused 14 (omega arith)
 
 real-ended : (m : Matrix) (room : ℕ) (r : Interpreted) (c : List ℕ) (z : List Stem) (c₀ : List ℕ) (z₀ : List Stem) (o : Outcome) → Leaves r c z c₀ z₀ o → Real (ended m room o)
@@ -199,11 +200,13 @@ real-picked : (b : Bool) (x : Conversion) → Real x → Real (pick b x (Convert
 real-picked true x h = h
 real-picked false x h = real-refused 1 (omega arith)
 
-pub entry-answers : (charstring bank : List ℕ) (lenIV : ℕ) (m : Matrix) (stems : List Stem) (words : List ℕ) (room : ℕ) (r : Interpreted) (c : List ℕ) (z : List Stem) → Leaves r c z words stems (outcome charstring bank lenIV (length stems) (length words))
-    → (n : ℕ) → n ≡ firstNumber m (r .number) → (g : Type2Glyph) (z₃ : List Stem) (c₃ out : List ℕ) → Answers (fromRun n m room r c z) room g out → (z₄ : List Stem) (c₅ : List ℕ) → z₄ ≡ replicate (length stems) zeroStem → c₅ ≡ replicate (length words) 0
-    → Converts (convert charstring bank lenIV m (length stems) (length words) room) stems words room g z₄ c₅ out
+pub entry-answers : (x : Source) (reading : Reading) (m : Matrix) (stems : List Stem) (words : List ℕ) (bytes : List ℕ) (r : Interpreted) (c : List ℕ) (z : List Stem) → Leaves r c z words stems (outcome x reading (length stems) (length words))
+    → (n : ℕ) → n ≡ firstNumber m (r .number) → (g : Type2Glyph) (z₃ : List Stem) (c₃ out : List ℕ) → Answers (fromRun n m (length bytes) r c z) (length bytes) g out
+    → (z₄ : List Stem) (c₅ : List ℕ) → z₄ ≡ replicate (length stems) zeroStem → c₅ ≡ replicate (length words) 0
+    → ConvertsFrom x reading m (roomsOf stems words bytes) g z₄ c₅ out
 unfolding convert
-entry-answers charstring bank lenIV m stems words room r c z L n e g z₃ c₃ out A z₄ c₅ ez ec =
-    let o = outcome charstring bank lenIV (length stems) (length words) in
-    let x : fromRun n m room r c z ≡ pick (finiteMatrix m) (ended m room o) (Convert.refused 1) = ap (λ (k : ℕ). fromRun k m room r c z) e ∙ from-outcome m room r c z o words stems L (finiteMatrix m) in
-    record { refusal = real-picked (finiteMatrix m) (ended m room o) (real-ended m room r c z words stems o L); glyph = A .glyph ∙ ap answer x; bytes = A .bytes ∙ ap (output room) x; records = ez; words = ec }
+entry-answers x reading m stems words bytes r c z L n e g z₃ c₃ out A z₄ c₅ ez ec =
+    let room = length bytes in
+    let o = outcome x reading (length stems) (length words) in
+    let y : fromRun n m room r c z ≡ pick (finiteMatrix m) (ended m room o) (Convert.refused 1) = ap (λ (k : ℕ). fromRun k m room r c z) e ∙ from-outcome m room r c z o words stems L (finiteMatrix m) in
+    record { refusal = real-picked (finiteMatrix m) (ended m room o) (real-ended m room r c z words stems o L); glyph = A .glyph ∙ ap answer y; bytes = A .bytes ∙ ap (output room) y; records = ez; words = ec }

@@ -9,7 +9,9 @@ use lib.Ieee.{Float}
 use lib.Ieee.Scale.{finite}
 use Rattle.geometry.specs.declared.Matrix.{Matrix}
 use Rattle.type1.specs.declared.Stem.{Stem}
+use Rattle.type1.specs.declared.Reading.{Reading}
 use Rattle.type1.specs.declared.Interpreted.{Interpreted}
+use Rattle.type1.specs.Interpret.{Source}
 use Rattle.type1.specs.State.{Group, State, origin, start}
 use Rattle.type1.specs.Run.{pick}
 use Rattle.type1.specs.Small.{zeroStem}
@@ -23,7 +25,7 @@ use Rattle.type1_to_type2.specs.Stems.{Declared, declared, allStems}
 use Rattle.type1_to_type2.specs.Emission.{Cmd, program}
 use Rattle.type1_to_type2.specs.Writing.{Written, refused, write}
 use Rattle.type1_to_type2.specs.Convert as Convert
-use Rattle.type1_to_type2.specs.Convert.{Conversion, folded, answer, output}
+use Rattle.type1_to_type2.specs.Convert.{Conversion, Rooms, folded, convert, answer, output}
 use Rattle.type1_to_type2.specs.Table.{tableStems}
 use Rattle.type1_to_type2.specs.Collecting.{Collects}
 use Rattle.type1_to_type2.specs.Streaming.{resumedAll}
@@ -71,7 +73,7 @@ fromRun number m room r c z = pick (eqb number 0) (folded m room (leftState r c 
 -- a conversion, with the number before writing and whether the folded points are finite
 abbrev pub settles : ℕ → Bool → Conversion → Conversion
 settles before points (Convert.refused n) = Convert.refused (refusal before n points)
-settles before points (Convert.converted b w n) = Convert.converted b w n
+settles before points (Convert.converted g) = Convert.converted g
 
 -- an answer and an output that are a conversion's
 pub record Answers (x : Conversion) (room : ℕ) (g : Type2Glyph) (out : List ℕ) : Type 0 where
@@ -85,10 +87,14 @@ pub record Blank (across upright : List Float) (mask : List Bool) : Type 0 where
   pub mask-len : length mask ≡ 96
 
 -- what an entry that converts leaves: the answer and the output are a conversion's, every record and every word of the stores is zero
-pub record Converts (x : Conversion) (stems : List Stem) (commands : List ℕ) (room : ℕ) (g : Type2Glyph) (stems′ : List Stem) (commands′ out : List ℕ) : Type 0 where
+pub record Converts (x : Conversion) (r : Rooms) (g : Type2Glyph) (stems : List Stem) (commands out : List ℕ) : Type 0 where
   -- a refusal's number is not 0
   pub refusal : x ≡ Convert.refused 0 → ⊥
   pub glyph : g ≡ answer x
-  pub bytes : out ≡ output room x
-  pub records : stems′ ≡ replicate (length stems) zeroStem
-  pub words : commands′ ≡ replicate (length commands) 0
+  pub bytes : out ≡ output (r .bytes) x
+  pub records : stems ≡ replicate (r .records) zeroStem
+  pub words : commands ≡ replicate (r .words) 0
+
+-- of a source, read so, under a matrix
+abbrev pub ConvertsFrom : Source → Reading → Matrix → Rooms → Type2Glyph → List Stem → List ℕ → List ℕ → Type 0
+ConvertsFrom x reading m r = Converts (convert x reading m r) r

@@ -30,4 +30,4 @@ pub record Front (x : Written) (len : ℕ) (out part : List ℕ) : Type 0 where
 -- ---- what converting wrote
 abbrev pub writtenBy : Conversion → Written
 writtenBy (Convert.refused n) = refused n
-writtenBy (Convert.converted b w n) = wrote b
+writtenBy (Convert.converted g) = wrote (g .program)

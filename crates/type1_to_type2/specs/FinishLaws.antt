@@ -7,8 +7,8 @@ use Rattle.type1_to_type2.specs.FinishAnswer.{finishedAnswer, finishedOu
 
 pub converted-output : (room : ℕ) (x : Conversion) → output room x ≡ finishedOutput room (writtenBy x)
 converted-output room (Convert.refused n) = refl
-converted-output room (Convert.converted b w n) = refl
+converted-output room (Convert.converted g) = refl
 
 pub converted-length : (x : Conversion) → answer x .len ≡ finishedAnswer (writtenBy x) .len
 converted-length (Convert.refused n) = refl
-converted-length (Convert.converted b w n) = refl
+converted-length (Convert.converted g) = refl

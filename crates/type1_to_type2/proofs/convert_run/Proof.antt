@@ -72,7 +72,7 @@ use Rattle.type1_to_type2.proofs.Locals.{machZ, machK, machR, machG, ma
 use Rattle.folding.specs.Folding.{isIdentity}
 use Rattle.type1_to_type2.specs.Streaming.{resumedAll}
 use Rattle.type1_to_type2.specs.Passes.{Gathers, both, stemsTo, cmdsFrom, Stored}
-use Rattle.type1_to_type2.specs.Convert.{writes}
+use Rattle.type1_to_type2.specs.Convert.{glyphOf, writes}
 use Rattle.type1_to_type2.specs.Entry.{Blank, groupCount, noneOf, Planned, Opens, fromRun, settles, Answers}
 use Rattle.folding.specs.Folding.{foldedList, finiteList}
 use Rattle.type1.specs.Memory.{drawnIn}
@@ -265,7 +265,7 @@ module _ {M : Type 1} (𝓤 : URA M) (H : Heap 𝓤) (A : Atoms 𝓤) (W : Given
         assigns ! (addr ! (from ! (fld ! refl (hop ! (look-in ! 76 (sub ! 0 refl (whole !))) (stop !))))) (from ! (stop !)) (init ! 14 refl (tt, tt)) $
         assigns ! (agg ! (and-then ! (load ! (from ! (stop !)) (look ! 14 refl)) (and-then ! (load ! (from ! (fld ! refl (stop !))) (look-in ! 76 (sub ! 1 refl (whole !)))) (no-more !)))) (from ! (stop !)) (init ! 12 refl (tt, (tt, (record { fits = fitout .0 }, tt)))) $
         -- `end_program`
-        move ! (8 ∷ 9 ∷ []) $ lend-shared ! tt u64 mcommands bcommands ocommands yscommands (refl) (λ νcommands8 δcommands8. move ! (2 ∷ 3 ∷ []) $ lend ! tt u8 mout bout oout (zs7 .1 .1 .1 .1 .1 .1 .1 .1 .1 .1 .1 .1 .0) (lout7 ∙ lout6) (λ νout8 δout8. move ! (2 ∷ 0 ∷ []) $ join ! $ asks-all ! fm G.the-row (Is G.the-row) (shows 𝓤 H A G.the-row) (Unit {0} × (Unit {0} × (Unit {0} × (Unit {0} × (Unit {0} × (Unit {0} × (List ℕ × Unit {0}))))))) (λ (r : G.the-row .Denot) (lasts : (Unit {0} × (Unit {0} × (Unit {0} × (Unit {0} × (Unit {0} × (Unit {0} × (List ℕ × Unit {0})))))))). Answers (settles (r5 .number) (finiteList (foldedList m (drawnIn (ri .entries) ((at-list u64 mcommands bcommands ocommands δcommands8 yscommands) .now)))) (writes (r5 .width) (ri .ran) (resumedAll false [] r7 (zs7 .1 .1 .1 .1 .1 .1 .1 .1 .1 .1 .1 .1 .0) []))) (length (zs7 .1 .1 .1 .1 .1 .1 .1 .1 .1 .1 .1 .1 .0)) r (lasts .1 .1 .1 .1 .1 .1 .0)) (λ (lasts : (Unit {0} × (Unit {0} × (Unit {0} × (Unit {0} × (Unit {0} × (Unit {0} × (List ℕ × Unit {0})))))))). (fsep ftrue (fsep ftrue (fsep ftrue (fsep ftrue (fsep ftrue (fsep ftrue (fsep (fsep (finally u8 δout8 (lasts .1 .1 .1 .1 .1 .1 .0)) (feq ℕ (length (lasts .1 .1 .1 .1 .1 .1 .0)) (length (zs7 .1 .1 .1 .1 .1 .1 .1 .1 .1 .1 .1 .1 .0)))) ftrue)))))))) (‵ (flft (νcommands8 ∷ []) fullShare) ⊛ (‵ (flft (νout8 ∷ []) fullShare) ⊛ ‵ ftrue)) ((‵ (flft (νcommands8 ∷ []) fullShare) ⊛ ‵ (ShrSlice (named 0) (νcommands8 ∷ []) u64 .own (at-list u64 mcommands bcommands ocommands δcommands8 yscommands) (sliceVal ((at-list u64 mcommands bcommands ocommands δcommands8 yscommands) .ptr) (length ((at-list u64 mcommands bcommands ocommands δcommands8 yscommands) .now)) ∷ []))) ⊛ (‵ (flft (νout8 ∷ []) fullShare) ⊛ ‵ (Own u8 mout bout oout (νout8 ∷ []) δout8 (zs7 .1 .1 .1 .1 .1 .1 .1 .1 .1 .1 .1 .1 .0)))) (machQ r5 ∷ machI ri ∷ machR r7 ∷ sliceVal ((at-list u64 mcommands bcommands ocommands δcommands8 yscommands) .ptr) (length ((at-list u64 mcommands bcommands ocommands δcommands8 yscommands) .now)) ∷ machZ m ∷ vbool r1 ∷ sliceVal (bout, oout) mout ∷ []) (end-program-as 𝓤 H A mem run′ W C known-end-program (νcommands8 ∷ []) fullShare (at-list u64 mcommands bcommands ocommands δcommands8 yscommands) (νout8 ∷ []) fullShare mout bout oout δout8 (zs7 .1 .1 .1 .1 .1 .1 .1 .1 .1 .1 .1 .1 .0) (r5) (ri) (r7) (m) (r1) (mineQ r5 w5 is5) (ri-fits) (mineR r7 w7 is7) (m-fits) (need .0 .words, (e1, need .0 .finite))) (and-then ! (load ! (from ! (stop !)) (look ! 67 refl)) (and-then ! (load ! (from ! (stop !)) (look ! 91 refl)) (and-then ! (load ! (from ! (stop !)) (look ! 63 refl)) (and-then ! (load ! (from ! (stop !)) (look ! 15 refl)) (and-then ! (load ! (from ! (stop !)) (look ! 87 refl)) (and-then ! (load ! (from ! (stop !)) (look ! 73 refl)) (and-then ! (load ! (from ! (stop !)) (look ! 11 refl)) (no-more !)))))))) (λ w8 r8 zs8 e8 is8. land ! (from ! (stop !)) (init ! 95 refl (typedG 𝓤 H A W r8 _ is8)) $ rewrite ! 95 (λ (u : Val). ‵ (fat fullShare tGt l₀ 0 u)) (ap only (LL.tells G.the-type G′.the-laws r8 (w8 ∷ []) is8)) refl $ drop ! $ split ! $ move ! (1 ∷ []) $ split ! $ move ! (1 ∷ []) $ drop ! $ move ! (2 ∷ []) $ fsplit ! $ drop ! $ fsplit ! $ drop ! $ fsplit ! $ drop ! $ fsplit ! $ drop ! $ fsplit ! $ drop ! $ fsplit ! $ drop ! $ fsplit ! $ fsplit ! $ move ! (1 ∷ []) $ feqL ! (λ lout8. move ! (1 ∷ []) $ drop ! $
+        move ! (8 ∷ 9 ∷ []) $ lend-shared ! tt u64 mcommands bcommands ocommands yscommands (refl) (λ νcommands8 δcommands8. move ! (2 ∷ 3 ∷ []) $ lend ! tt u8 mout bout oout (zs7 .1 .1 .1 .1 .1 .1 .1 .1 .1 .1 .1 .1 .0) (lout7 ∙ lout6) (λ νout8 δout8. move ! (2 ∷ 0 ∷ []) $ join ! $ asks-all ! fm G.the-row (Is G.the-row) (shows 𝓤 H A G.the-row) (Unit {0} × (Unit {0} × (Unit {0} × (Unit {0} × (Unit {0} × (Unit {0} × (List ℕ × Unit {0}))))))) (λ (r : G.the-row .Denot) (lasts : (Unit {0} × (Unit {0} × (Unit {0} × (Unit {0} × (Unit {0} × (Unit {0} × (List ℕ × Unit {0})))))))). Answers (settles (r5 .number) (finiteList (foldedList m (drawnIn (ri .entries) ((at-list u64 mcommands bcommands ocommands δcommands8 yscommands) .now)))) (writes (glyphOf (r5 .width) (ri .ran)) (resumedAll false [] r7 (zs7 .1 .1 .1 .1 .1 .1 .1 .1 .1 .1 .1 .1 .0) []))) (length (zs7 .1 .1 .1 .1 .1 .1 .1 .1 .1 .1 .1 .1 .0)) r (lasts .1 .1 .1 .1 .1 .1 .0)) (λ (lasts : (Unit {0} × (Unit {0} × (Unit {0} × (Unit {0} × (Unit {0} × (Unit {0} × (List ℕ × Unit {0})))))))). (fsep ftrue (fsep ftrue (fsep ftrue (fsep ftrue (fsep ftrue (fsep ftrue (fsep (fsep (finally u8 δout8 (lasts .1 .1 .1 .1 .1 .1 .0)) (feq ℕ (length (lasts .1 .1 .1 .1 .1 .1 .0)) (length (zs7 .1 .1 .1 .1 .1 .1 .1 .1 .1 .1 .1 .1 .0)))) ftrue)))))))) (‵ (flft (νcommands8 ∷ []) fullShare) ⊛ (‵ (flft (νout8 ∷ []) fullShare) ⊛ ‵ ftrue)) ((‵ (flft (νcommands8 ∷ []) fullShare) ⊛ ‵ (ShrSlice (named 0) (νcommands8 ∷ []) u64 .own (at-list u64 mcommands bcommands ocommands δcommands8 yscommands) (sliceVal ((at-list u64 mcommands bcommands ocommands δcommands8 yscommands) .ptr) (length ((at-list u64 mcommands bcommands ocommands δcommands8 yscommands) .now)) ∷ []))) ⊛ (‵ (flft (νout8 ∷ []) fullShare) ⊛ ‵ (Own u8 mout bout oout (νout8 ∷ []) δout8 (zs7 .1 .1 .1 .1 .1 .1 .1 .1 .1 .1 .1 .1 .0)))) (machQ r5 ∷ machI ri ∷ machR r7 ∷ sliceVal ((at-list u64 mcommands bcommands ocommands δcommands8 yscommands) .ptr) (length ((at-list u64 mcommands bcommands ocommands δcommands8 yscommands) .now)) ∷ machZ m ∷ vbool r1 ∷ sliceVal (bout, oout) mout ∷ []) (end-program-as 𝓤 H A mem run′ W C known-end-program (νcommands8 ∷ []) fullShare (at-list u64 mcommands bcommands ocommands δcommands8 yscommands) (νout8 ∷ []) fullShare mout bout oout δout8 (zs7 .1 .1 .1 .1 .1 .1 .1 .1 .1 .1 .1 .1 .0) (r5) (ri) (r7) (m) (r1) (mineQ r5 w5 is5) (ri-fits) (mineR r7 w7 is7) (m-fits) (need .0 .words, (e1, need .0 .finite))) (and-then ! (load ! (from ! (stop !)) (look ! 67 refl)) (and-then ! (load ! (from ! (stop !)) (look ! 91 refl)) (and-then ! (load ! (from ! (stop !)) (look ! 63 refl)) (and-then ! (load ! (from ! (stop !)) (look ! 15 refl)) (and-then ! (load ! (from ! (stop !)) (look ! 87 refl)) (and-then ! (load ! (from ! (stop !)) (look ! 73 refl)) (and-then ! (load ! (from ! (stop !)) (look ! 11 refl)) (no-more !)))))))) (λ w8 r8 zs8 e8 is8. land ! (from ! (stop !)) (init ! 95 refl (typedG 𝓤 H A W r8 _ is8)) $ rewrite ! 95 (λ (u : Val). ‵ (fat fullShare tGt l₀ 0 u)) (ap only (LL.tells G.the-type G′.the-laws r8 (w8 ∷ []) is8)) refl $ drop ! $ split ! $ move ! (1 ∷ []) $ split ! $ move ! (1 ∷ []) $ drop ! $ move ! (2 ∷ []) $ fsplit ! $ drop ! $ fsplit ! $ drop ! $ fsplit ! $ drop ! $ fsplit ! $ drop ! $ fsplit ! $ drop ! $ fsplit ! $ drop ! $ fsplit ! $ fsplit ! $ move ! (1 ∷ []) $ feqL ! (λ lout8. move ! (1 ∷ []) $ drop ! $
         move ! (2 ∷ 4 ∷ []) $ returned-shared ! tt u64 mcommands bcommands ocommands νcommands8 yscommands (refl) fitcommands (move ! (3 ∷ 4 ∷ 2 ∷ []) $ returned ! tt u8 mout bout oout νout8 δout8 (zs7 .1 .1 .1 .1 .1 .1 .1 .1 .1 .1 .1 .1 .0) (zs8 .1 .1 .1 .1 .1 .1 .0) (lout7 ∙ lout6) lout8 fitout (owned ! G.the-row (Is G.the-row) (LL.makes G.the-type G′.the-plain 𝓤 H A) r8 _ (mineG r8 w8 is8) $
         returns ! (look ! 95 refl) $ move ! (0 ∷ 11 ∷ 12 ∷ 3 ∷ 4 ∷ 9 ∷ 10 ∷ 7 ∷ 8 ∷ 5 ∷ 6 ∷ 1 ∷ 2 ∷ 13 ∷ 14 ∷ 15 ∷ 16 ∷ 17 ∷ 18 ∷ 19 ∷ 20 ∷ 21 ∷ 22 ∷ 23 ∷ 24 ∷ 25 ∷ 26 ∷ 27 ∷ 28 ∷ 29 ∷ 30 ∷ 31 ∷ 32 ∷ 33 ∷ 34 ∷ 35 ∷ 36 ∷ 37 ∷ 38 ∷ 39 ∷ 40 ∷ 41 ∷ 42 ∷ 43 ∷ 44 ∷ 45 ∷ 46 ∷ 47 ∷ 48 ∷ 49 ∷ 50 ∷ 51 ∷ 52 ∷ 53 ∷ 54 ∷ 55 ∷ 56 ∷ 57 ∷ 58 ∷ 59 ∷ 60 ∷ 61 ∷ 62 ∷ 63 ∷ 64 ∷ 65 ∷ 66 ∷ 67 ∷ 68 ∷ 69 ∷ 70 ∷ 71 ∷ 72 ∷ 73 ∷ 74 ∷ 75 ∷ 76 ∷ 77 ∷ 78 ∷ 79 ∷ 80 ∷ 81 ∷ 82 ∷ 83 ∷ 84 ∷ 85 ∷ 86 ∷ 87 ∷ 88 ∷ 89 ∷ 90 ∷ 91 ∷ 92 ∷ 93 ∷ 94 ∷ 95 ∷ 96 ∷ []) $ leave ! (_ ∷ _ ∷ _ ∷ _ ∷ _ ∷ _ ∷ _ ∷ _ ∷ _ ∷ _ ∷ _ ∷ _ ∷ _ ∷ []) (filled _ _ _ ∷ filled _ _ _ ∷ filled _ _ _ ∷ filled _ _ _ ∷ filled _ _ _ ∷ filled _ _ _ ∷ filled _ _ _ ∷ filled _ _ _ ∷ filled _ _ _ ∷ filled _ _ _ ∷ filled _ _ _ ∷ filled _ _ _ ∷ filled _ _ _ ∷ filled _ _ _ ∷ filled _ _ _ ∷ filled _ _ _ ∷ filled _ _ _ ∷ filled _ _ _ ∷ filled _ _ _ ∷ filled _ _ _ ∷ filled _ _ _ ∷ filled _ _ _ ∷ filled _ _ _ ∷ filled _ _ _ ∷ filled _ _ _ ∷ filled _ _ _ ∷ filled _ _ _ ∷ filled _ _ _ ∷ filled _ _ _ ∷ filled _ _ _ ∷ filled _ _ _ ∷ filled _ _ _ ∷ filled _ _ _ ∷ filled _ _ _ ∷ filled _ _ _ ∷ filled _ _ _ ∷ filled _ _ _ ∷ filled _ _ _ ∷ filled _ _ _ ∷ filled _ _ _ ∷ filled _ _ _ ∷ filled _ _ _ ∷ []) $ keep ! (0 ∷ 1 ∷ 2 ∷ 3 ∷ 4 ∷ 5 ∷ 6 ∷ 7 ∷ 8 ∷ 9 ∷ 10 ∷ 11 ∷ 12 ∷ []) $ by ! (exits r8 (machG r8) (zs7 .0) yscommands (zs4 .1 .1 .1 .1 .1 .1 .0) (zs4 .1 .1 .1 .1 .1 .1 .1 .0) (zs7 .1 .1 .1 .1 .1 .1 .1 .1 .1 .1 .0) (zs8 .1 .1 .1 .1 .1 .1 .0) ((e7 .0 ∙ e4 .0, (refl, run-answers number m ri yscommands ysstems (length ysout) r2 r3 r4 ysacross ysupright (zs4 .1 .1 .1 .1 .1 .1 .0) (zs4 .1 .1 .1 .1 .1 .1 .1 .0) r5 r6 r7 (zs6 .1 .1 .1 .0) (zs7 .1 .1 .1 .1 .1 .1 .1 .1 .1 .1 .1 .1 .0) (zs8 .1 .1 .1 .1 .1 .1 .0) r8 (zs4 .0) (need .1 .across-len) (need .1 .upright-len) e2 e3 (e4 .1) e5 e6 (e4 .0) (e7 .1) (lout7 ∙ lout6) e8))) (lstems7 ∙ lstems4) (refl) (lout8 ∙ lout7 ∙ lout6)))))))))))))))))))))))))))))))))))))))))))))))))))))))))))))))))))))))))))))))))))))))))
 

@@ -1,5 +1,6 @@
 use denote.Ref.{now}
 use Rattle.type1_to_type2.specs.Streaming.{resumedAll}
+use Rattle.type1_to_type2.specs.Convert.{glyphOf}
 use Rattle.type1_to_type2.proofs.Checking.{ended-refused, ended-written}
 use mathlib.Core.Bool.{false}
 use mathlib.Core.List.{[]}
@@ -28,7 +29,7 @@ same-length c = search needs
 returns : tie.Need-returns
 unfolding ofBits
 returns c =
-    ended-refused (resumedAll false [] (c .before .before .before .before .before .before .before .before .before .before .args .w) (now (c .before .before .before .before .before .before .before .before .before .before .args .out)) []) _ (c .before .before .before .before .before .before .finish-program .result) _ (c .before .before .before .before .before .before .before .before .before .before .args .p .width) (c .before .before .before .before .before .before .before .before .before .before .args .r .ran) (c .before .before .before .before .before .before .before .before .before .before .args .p .number) _ _ _ (c .before .before .before .before .before .before .finish-program .ensures false []) (c .before .before .if1 .taken) (c .before .finite-points .ensures) (c .refusal .ensures)
+    ended-refused (resumedAll false [] (c .before .before .before .before .before .before .before .before .before .before .args .w) (now (c .before .before .before .before .before .before .before .before .before .before .args .out)) []) _ (c .before .before .before .before .before .before .finish-program .result) _ (glyphOf (c .before .before .before .before .before .before .before .before .before .before .args .p .width) (c .before .before .before .before .before .before .before .before .before .before .args .r .ran)) (c .before .before .before .before .before .before .before .before .before .before .args .p .number) _ _ _ (c .before .before .before .before .before .before .finish-program .ensures false []) (c .before .before .if1 .taken) (c .before .finite-points .ensures) (c .refusal .ensures)
 
 -- src/lib.rt:1191:1
 same-length-2 : tie.Need-same-length-2

@@ -31,8 +31,8 @@ use denote.Triple.Statement.{Contract, Triple}
 use denote.Triple.Walked.{says}
 use Rattle.type1.specs.declared.Stem.{Stem}
 use Rattle.type1.specs.declared.Reading.{Reading}
-use Rattle.type1.proofs.Reading as R
-use Rattle.type1.proofs.Reading.Laws as R′
+use Rattle.type1.proofs.Reading as Y
+use Rattle.type1.proofs.Reading.Laws as Y′
 use Rattle.type1.specs.declared.St.{St}
 use Rattle.type1.proofs.Stem as T
 use Rattle.type1.proofs.St as S
@@ -43,7 +43,7 @@ use Rattle.type1.proofs.Called as D
 use Rattle.type1.proofs.Begun as B
 use Rattle.type1.proofs.Lent.{at-list, Own}
 use Rattle.type1.proofs.Many.{at-one, OwnR, GotAll, GotTwo, says-three}
-use Rattle.type1.proofs.Locals.{machS, machR}
+use Rattle.type1.proofs.Locals.{machS, machY}
 use Rattle.charstring.specs.Cipher.{maxCharstringBytes}
 use Rattle.charstring.specs.Cursor.{start}
 use Rattle.bank.specs.Bank.{Valid, bytesAt, found}
@@ -160,11 +160,11 @@ module _ {M : Type 1} (𝓤 : URA M) (H : Heap 𝓤) (A : Atoms 𝓤) (mem : Mem
       let y : StoppedC 𝓤 H A mem run′ .Ghost = ((tt, tt, tt, (st, (flow, tt)), (machS st ∷ [], (vint w8 flow ∷ [], tt))), tt) in
       via 𝓤 (StoppedC 𝓤 H A mem run′ .pre y) (qed W ((‵ ftrue) ∷ []) ∵ nothing ! $ owned ! u8 (Is u8) (uint-makes 𝓤 H A W w8) flow _ (refl, flow-fits) $ fjoin ! $ owned ! S.the-row (Is S.the-row) (LL.makes S.the-type S′.the-plain 𝓤 H A) st _ st-fits $ fjoin ! $ nothing ! $ join ! $ frame ! $ done !) (known y)
 
-  pub begin-as : Triple 𝓤 (C #type1·begin) (BeginC 𝓤 H A mem run′) → (κcode : Lft) (qcode : Share) (xcode : RefT (List ℕ)) (rd : Reading) → Is R.the-row rd (machR rd ∷ [])
-      → ent 𝓤 (mean 𝓤 H A (‵ (flft κcode qcode) ⊛ ‵ (ShrSlice (named 0) κcode u8 .own xcode (sliceVal (xcode .ptr) (length (xcode .now)) ∷ [])))) (C #type1·begin (sliceVal (xcode .ptr) (length (xcode .now)) ∷ machR rd ∷ []) (λ w. mean 𝓤 H A (GotAll 𝓤 B.the-row (Unit {0} × (Unit {0} × Unit {0})) (λ (r : B.the-row .Denot) (lasts : (Unit {0} × (Unit {0} × Unit {0}))). cursorOf (r .at) (r .key) (r .encrypted) ≡ start (rd .«len_iv») (xcode .now)) (λ (lasts : (Unit {0} × (Unit {0} × Unit {0}))). (fsep ftrue (fsep ftrue ftrue))) (‵ (flft κcode qcode) ⊛ ‵ ftrue) w)))
+  pub begin-as : Triple 𝓤 (C #type1·begin) (BeginC 𝓤 H A mem run′) → (κcode : Lft) (qcode : Share) (xcode : RefT (List ℕ)) (rd : Reading) → Is Y.the-row rd (machY rd ∷ [])
+      → ent 𝓤 (mean 𝓤 H A (‵ (flft κcode qcode) ⊛ ‵ (ShrSlice (named 0) κcode u8 .own xcode (sliceVal (xcode .ptr) (length (xcode .now)) ∷ [])))) (C #type1·begin (sliceVal (xcode .ptr) (length (xcode .now)) ∷ machY rd ∷ []) (λ w. mean 𝓤 H A (GotAll 𝓤 B.the-row (Unit {0} × (Unit {0} × Unit {0})) (λ (r : B.the-row .Denot) (lasts : (Unit {0} × (Unit {0} × Unit {0}))). cursorOf (r .at) (r .key) (r .encrypted) ≡ start (rd .«len_iv») (xcode .now)) (λ (lasts : (Unit {0} × (Unit {0} × Unit {0}))). (fsep ftrue (fsep ftrue ftrue))) (‵ (flft κcode qcode) ⊛ ‵ ftrue) w)))
   begin-as known κcode qcode xcode rd rd-fits =
-      let y : BeginC 𝓤 H A mem run′ .Ghost = (((κcode, tt), (qcode, tt), tt, (xcode, (rd, tt)), (sliceVal (xcode .ptr) (length (xcode .now)) ∷ [], (machR rd ∷ [], tt))), tt) in
-      via 𝓤 (BeginC 𝓤 H A mem run′ .pre y) (qed W ((‵ (flft κcode qcode) ⊛ ‵ (ShrSlice (named 0) κcode u8 .own xcode (sliceVal (xcode .ptr) (length (xcode .now)) ∷ []))) ∷ []) ∵ split ! $ nothing ! $ owned ! R.the-row (Is R.the-row) (LL.makes R.the-type R′.the-plain 𝓤 H A) rd _ rd-fits $ fjoin ! $ move ! (2 ∷ 0 ∷ []) $ fjoin ! $ nothing ! $ move ! (2 ∷ 0 ∷ []) $ join ! $ join ! $ frame ! $ done !) (known y)
+      let y : BeginC 𝓤 H A mem run′ .Ghost = (((κcode, tt), (qcode, tt), tt, (xcode, (rd, tt)), (sliceVal (xcode .ptr) (length (xcode .now)) ∷ [], (machY rd ∷ [], tt))), tt) in
+      via 𝓤 (BeginC 𝓤 H A mem run′ .pre y) (qed W ((‵ (flft κcode qcode) ⊛ ‵ (ShrSlice (named 0) κcode u8 .own xcode (sliceVal (xcode .ptr) (length (xcode .now)) ∷ []))) ∷ []) ∵ split ! $ nothing ! $ owned ! Y.the-row (Is Y.the-row) (LL.makes Y.the-type Y′.the-plain 𝓤 H A) rd _ rd-fits $ fjoin ! $ move ! (2 ∷ 0 ∷ []) $ fjoin ! $ nothing ! $ move ! (2 ∷ 0 ∷ []) $ join ! $ join ! $ frame ! $ done !) (known y)
 
   pub body-as : Triple 𝓤 (C #bank·body) (BodyC 𝓤 H A mem run′) → (κbank : Lft) (qbank : Share) (xbank : RefT (List ℕ)) (n : ℕ) → n < 2 ^ 64
       → ent 𝓤 (mean 𝓤 H A (‵ (flft κbank qbank) ⊛ ‵ (ShrSlice (named 0) κbank u8 .own xbank (sliceVal (xbank .ptr) (length (xbank .now)) ∷ [])))) (C #bank·body (sliceVal (xbank .ptr) (length (xbank .now)) ∷ vint w64 n ∷ []) (λ w. mean 𝓤 H A (GotAll 𝓤 (ShrSlice (named 0) κbank u8) (Unit {0} × (Unit {0} × Unit {0})) (λ (r : (ShrSlice (named 0) κbank u8) .Denot) (lasts : (Unit {0} × (Unit {0} × Unit {0}))). r .now ≡ bytesAt (found n (xbank .now)) (xbank .now)) (λ (lasts : (Unit {0} × (Unit {0} × Unit {0}))). (fsep ftrue (fsep ftrue ftrue))) (‵ (flft κbank qbank) ⊛ ‵ ftrue) w)))
@@ -190,20 +190,20 @@ module _ {M : Type 1} (𝓤 : URA M) (H : Heap 𝓤) (A : Atoms 𝓤) (mem : Mem
       let y : KeepGroupC 𝓤 H A mem run′ .Ghost = (((κedges, (κacross, (κstems, tt))), (qedges, (qacross, (qstems, tt))), tt, (used, (n, (xedges, (xacross, (at-list T.the-row mstems bstems ostems γstems ysstems, tt))))), (vint w64 used ∷ [], (vint w64 n ∷ [], (vptr (xedges .ptr .0) (xedges .ptr .1) ∷ [], (vptr (xacross .ptr .0) (xacross .ptr .1) ∷ [], (sliceVal (bstems, ostems) mstems ∷ [], tt)))))), tt) in
       via 𝓤 (KeepGroupC 𝓤 H A mem run′ .pre y) (qed W (((‵ (flft κedges qedges) ⊛ ‵ (ShrRef (named 0) κedges (Array f64 512) .own xedges (vptr (xedges .ptr .0) (xedges .ptr .1) ∷ []))) ⊛ ((‵ (flft κacross qacross) ⊛ ‵ (ShrRef (named 0) κacross (Array bool 256) .own xacross (vptr (xacross .ptr .0) (xacross .ptr .1) ∷ []))) ⊛ (‵ (flft κstems qstems) ⊛ ‵ (Own T.the-row mstems bstems ostems κstems γstems ysstems)))) ∷ []) ∵ says ! need $ split ! $ move ! (1 ∷ []) $ split ! $ move ! (2 ∷ []) $ split ! $ move ! (2 ∷ []) $ split ! $ move ! (4 ∷ []) $ split ! $ nothing ! $ move ! (2 ∷ 0 ∷ []) $ fjoin ! $ move ! (3 ∷ 0 ∷ []) $ fjoin ! $ move ! (4 ∷ 0 ∷ []) $ fjoin ! $ owned ! usize (Is usize) (uint-makes 𝓤 H A W w64) n _ (refl, n-fits) $ fjoin ! $ owned ! usize (Is usize) (uint-makes 𝓤 H A W w64) used _ (refl, used-fits) $ fjoin ! $ nothing ! $ move ! (2 ∷ 0 ∷ []) $ join ! $ move ! (2 ∷ 0 ∷ []) $ join ! $ move ! (2 ∷ 0 ∷ []) $ join ! $ frame ! $ done !) (known y)
 
-  pub call-body-as : (t : ℕ) → BelowCallBody 𝓤 H A mem run′ C t → (κbank : Lft) (qbank : Share) (xbank : RefT (List ℕ)) (κops : Lft) (qops : Share) (bops oops : ℕ) (γops : GName) (ysops : List Float) (κps : Lft) (qps : Share) (bps ops : ℕ) (γps : GName) (ysps : List Float) (κcells : Lft) (qcells : Share) (bcells ocells : ℕ) (γcells : GName) (yscells : List Float) (κedges : Lft) (qedges : Share) (bedges oedges : ℕ) (γedges : GName) (ysedges : List Float) (κacross : Lft) (qacross : Share) (bacross oacross : ℕ) (γacross : GName) (ysacross : List Bool) (κcmds : Lft) (qcmds : Share) (mcmds bcmds ocmds : ℕ) (γcmds : GName) (yscmds : List ℕ) (κstems : Lft) (qstems : Share) (mstems bstems ostems : ℕ) (γstems : GName) (ysstems : List Stem) (rd : Reading) (levels : ℕ) (st : St) → Is R.the-row rd (machR rd ∷ []) → levels < 2 ^ 64 → Is S.the-row st (machS st ∷ []) → (levels < 100) × (Valid (xbank .now) × Ready st (memOf ysops ysps yscells ysedges ysacross yscmds ysstems)) → (levels + levels + levels) < t
-      → ent 𝓤 (mean 𝓤 H A ((‵ (flft κbank qbank) ⊛ ‵ (ShrSlice (named 0) κbank u8 .own xbank (sliceVal (xbank .ptr) (length (xbank .now)) ∷ []))) ⊛ ((‵ (flft κops qops) ⊛ ‵ (OwnR (Array f64 256) bops oops κops γops ysops)) ⊛ ((‵ (flft κps qps) ⊛ ‵ (OwnR (Array f64 256) bps ops κps γps ysps)) ⊛ ((‵ (flft κcells qcells) ⊛ ‵ (OwnR (Array f64 19) bcells ocells κcells γcells yscells)) ⊛ ((‵ (flft κedges qedges) ⊛ ‵ (OwnR (Array f64 512) bedges oedges κedges γedges ysedges)) ⊛ ((‵ (flft κacross qacross) ⊛ ‵ (OwnR (Array bool 256) bacross oacross κacross γacross ysacross)) ⊛ ((‵ (flft κcmds qcmds) ⊛ ‵ (Own u64 mcmds bcmds ocmds κcmds γcmds yscmds)) ⊛ (‵ (flft κstems qstems) ⊛ ‵ (Own T.the-row mstems bstems ostems κstems γstems ysstems)))))))))) (C #type1·call-body (sliceVal (xbank .ptr) (length (xbank .now)) ∷ machR rd ∷ vint w64 levels ∷ machS st ∷ vptr bops oops ∷ vptr bps ops ∷ vptr bcells ocells ∷ vptr bedges oedges ∷ vptr bacross oacross ∷ sliceVal (bcmds, ocmds) mcmds ∷ sliceVal (bstems, ostems) mstems ∷ []) (λ w. mean 𝓤 H A (GotAll 𝓤 N.the-row (Unit {0} × (Unit {0} × (Unit {0} × (Unit {0} × (List Float × (List Float × (List Float × (List Float × (List Bool × (List ℕ × (List Stem × Unit {0}))))))))))) (λ (r : N.the-row .Denot) (lasts : (Unit {0} × (Unit {0} × (Unit {0} × (Unit {0} × (List Float × (List Float × (List Float × (List Float × (List Bool × (List ℕ × (List Stem × Unit {0})))))))))))). Meets r (memOf (lasts .1 .1 .1 .1 .0) (lasts .1 .1 .1 .1 .1 .0) (lasts .1 .1 .1 .1 .1 .1 .0) (lasts .1 .1 .1 .1 .1 .1 .1 .0) (lasts .1 .1 .1 .1 .1 .1 .1 .1 .0) (lasts .1 .1 .1 .1 .1 .1 .1 .1 .1 .0) (lasts .1 .1 .1 .1 .1 .1 .1 .1 .1 .1 .0)) (opD (xbank .now) rd levels 10 st (memOf ysops ysps yscells ysedges ysacross yscmds ysstems))) (λ (lasts : (Unit {0} × (Unit {0} × (Unit {0} × (Unit {0} × (List Float × (List Float × (List Float × (List Float × (List Bool × (List ℕ × (List Stem × Unit {0})))))))))))). (fsep ftrue (fsep ftrue (fsep ftrue (fsep ftrue (fsep (fres γops ((Array f64 256) .coded .code (lasts .1 .1 .1 .1 .0))) (fsep (fres γps ((Array f64 256) .coded .code (lasts .1 .1 .1 .1 .1 .0))) (fsep (fres γcells ((Array f64 19) .coded .code (lasts .1 .1 .1 .1 .1 .1 .0))) (fsep (fres γedges ((Array f64 512) .coded .code (lasts .1 .1 .1 .1 .1 .1 .1 .0))) (fsep (fres γacross ((Array bool 256) .coded .code (lasts .1 .1 .1 .1 .1 .1 .1 .1 .0))) (fsep (fsep (finally u64 γcmds (lasts .1 .1 .1 .1 .1 .1 .1 .1 .1 .0)) (feq ℕ (length (lasts .1 .1 .1 .1 .1 .1 .1 .1 .1 .0)) (length yscmds))) (fsep (fsep (finally T.the-row γstems (lasts .1 .1 .1 .1 .1 .1 .1 .1 .1 .1 .0)) (feq ℕ (length (lasts .1 .1 .1 .1 .1 .1 .1 .1 .1 .1 .0)) (length ysstems))) ftrue)))))))))))) (‵ (flft κbank qbank) ⊛ (‵ (flft κops qops) ⊛ (‵ (flft κps qps) ⊛ (‵ (flft κcells qcells) ⊛ (‵ (flft κedges qedges) ⊛ (‵ (flft κacross qacross) ⊛ (‵ (flft κcmds qcmds) ⊛ (‵ (flft κstems qstems) ⊛ ‵ ftrue)))))))) w)))
+  pub call-body-as : (t : ℕ) → BelowCallBody 𝓤 H A mem run′ C t → (κbank : Lft) (qbank : Share) (xbank : RefT (List ℕ)) (κops : Lft) (qops : Share) (bops oops : ℕ) (γops : GName) (ysops : List Float) (κps : Lft) (qps : Share) (bps ops : ℕ) (γps : GName) (ysps : List Float) (κcells : Lft) (qcells : Share) (bcells ocells : ℕ) (γcells : GName) (yscells : List Float) (κedges : Lft) (qedges : Share) (bedges oedges : ℕ) (γedges : GName) (ysedges : List Float) (κacross : Lft) (qacross : Share) (bacross oacross : ℕ) (γacross : GName) (ysacross : List Bool) (κcmds : Lft) (qcmds : Share) (mcmds bcmds ocmds : ℕ) (γcmds : GName) (yscmds : List ℕ) (κstems : Lft) (qstems : Share) (mstems bstems ostems : ℕ) (γstems : GName) (ysstems : List Stem) (rd : Reading) (levels : ℕ) (st : St) → Is Y.the-row rd (machY rd ∷ []) → levels < 2 ^ 64 → Is S.the-row st (machS st ∷ []) → (levels < 100) × (Valid (xbank .now) × Ready st (memOf ysops ysps yscells ysedges ysacross yscmds ysstems)) → (levels + levels + levels) < t
+      → ent 𝓤 (mean 𝓤 H A ((‵ (flft κbank qbank) ⊛ ‵ (ShrSlice (named 0) κbank u8 .own xbank (sliceVal (xbank .ptr) (length (xbank .now)) ∷ []))) ⊛ ((‵ (flft κops qops) ⊛ ‵ (OwnR (Array f64 256) bops oops κops γops ysops)) ⊛ ((‵ (flft κps qps) ⊛ ‵ (OwnR (Array f64 256) bps ops κps γps ysps)) ⊛ ((‵ (flft κcells qcells) ⊛ ‵ (OwnR (Array f64 19) bcells ocells κcells γcells yscells)) ⊛ ((‵ (flft κedges qedges) ⊛ ‵ (OwnR (Array f64 512) bedges oedges κedges γedges ysedges)) ⊛ ((‵ (flft κacross qacross) ⊛ ‵ (OwnR (Array bool 256) bacross oacross κacross γacross ysacross)) ⊛ ((‵ (flft κcmds qcmds) ⊛ ‵ (Own u64 mcmds bcmds ocmds κcmds γcmds yscmds)) ⊛ (‵ (flft κstems qstems) ⊛ ‵ (Own T.the-row mstems bstems ostems κstems γstems ysstems)))))))))) (C #type1·call-body (sliceVal (xbank .ptr) (length (xbank .now)) ∷ machY rd ∷ vint w64 levels ∷ machS st ∷ vptr bops oops ∷ vptr bps ops ∷ vptr bcells ocells ∷ vptr bedges oedges ∷ vptr bacross oacross ∷ sliceVal (bcmds, ocmds) mcmds ∷ sliceVal (bstems, ostems) mstems ∷ []) (λ w. mean 𝓤 H A (GotAll 𝓤 N.the-row (Unit {0} × (Unit {0} × (Unit {0} × (Unit {0} × (List Float × (List Float × (List Float × (List Float × (List Bool × (List ℕ × (List Stem × Unit {0}))))))))))) (λ (r : N.the-row .Denot) (lasts : (Unit {0} × (Unit {0} × (Unit {0} × (Unit {0} × (List Float × (List Float × (List Float × (List Float × (List Bool × (List ℕ × (List Stem × Unit {0})))))))))))). Meets r (memOf (lasts .1 .1 .1 .1 .0) (lasts .1 .1 .1 .1 .1 .0) (lasts .1 .1 .1 .1 .1 .1 .0) (lasts .1 .1 .1 .1 .1 .1 .1 .0) (lasts .1 .1 .1 .1 .1 .1 .1 .1 .0) (lasts .1 .1 .1 .1 .1 .1 .1 .1 .1 .0) (lasts .1 .1 .1 .1 .1 .1 .1 .1 .1 .1 .0)) (opD (xbank .now) rd levels 10 st (memOf ysops ysps yscells ysedges ysacross yscmds ysstems))) (λ (lasts : (Unit {0} × (Unit {0} × (Unit {0} × (Unit {0} × (List Float × (List Float × (List Float × (List Float × (List Bool × (List ℕ × (List Stem × Unit {0})))))))))))). (fsep ftrue (fsep ftrue (fsep ftrue (fsep ftrue (fsep (fres γops ((Array f64 256) .coded .code (lasts .1 .1 .1 .1 .0))) (fsep (fres γps ((Array f64 256) .coded .code (lasts .1 .1 .1 .1 .1 .0))) (fsep (fres γcells ((Array f64 19) .coded .code (lasts .1 .1 .1 .1 .1 .1 .0))) (fsep (fres γedges ((Array f64 512) .coded .code (lasts .1 .1 .1 .1 .1 .1 .1 .0))) (fsep (fres γacross ((Array bool 256) .coded .code (lasts .1 .1 .1 .1 .1 .1 .1 .1 .0))) (fsep (fsep (finally u64 γcmds (lasts .1 .1 .1 .1 .1 .1 .1 .1 .1 .0)) (feq ℕ (length (lasts .1 .1 .1 .1 .1 .1 .1 .1 .1 .0)) (length yscmds))) (fsep (fsep (finally T.the-row γstems (lasts .1 .1 .1 .1 .1 .1 .1 .1 .1 .1 .0)) (feq ℕ (length (lasts .1 .1 .1 .1 .1 .1 .1 .1 .1 .1 .0)) (length ysstems))) ftrue)))))))))))) (‵ (flft κbank qbank) ⊛ (‵ (flft κops qops) ⊛ (‵ (flft κps qps) ⊛ (‵ (flft κcells qcells) ⊛ (‵ (flft κedges qedges) ⊛ (‵ (flft κacross qacross) ⊛ (‵ (flft κcmds qcmds) ⊛ (‵ (flft κstems qstems) ⊛ ‵ ftrue)))))))) w)))
   call-body-as t known κbank qbank xbank κops qops bops oops γops ysops κps qps bps ops γps ysps κcells qcells bcells ocells γcells yscells κedges qedges bedges oedges γedges ysedges κacross qacross bacross oacross γacross ysacross κcmds qcmds mcmds bcmds ocmds γcmds yscmds κstems qstems mstems bstems ostems γstems ysstems rd levels st rd-fits levels-fits st-fits need lt =
-      let y : CallBodyC 𝓤 H A mem run′ .Ghost = (((κbank, (κops, (κps, (κcells, (κedges, (κacross, (κcmds, (κstems, tt)))))))), (qbank, (qops, (qps, (qcells, (qedges, (qacross, (qcmds, (qstems, tt)))))))), tt, (xbank, (rd, (levels, (st, (at-one (Array f64 256) bops oops γops ysops, (at-one (Array f64 256) bps ops γps ysps, (at-one (Array f64 19) bcells ocells γcells yscells, (at-one (Array f64 512) bedges oedges γedges ysedges, (at-one (Array bool 256) bacross oacross γacross ysacross, (at-list u64 mcmds bcmds ocmds γcmds yscmds, (at-list T.the-row mstems bstems ostems γstems ysstems, tt))))))))))), (sliceVal (xbank .ptr) (length (xbank .now)) ∷ [], (machR rd ∷ [], (vint w64 levels ∷ [], (machS st ∷ [], (vptr bops oops ∷ [], (vptr bps ops ∷ [], (vptr bcells ocells ∷ [], (vptr bedges oedges ∷ [], (vptr bacross oacross ∷ [], (sliceVal (bcmds, ocmds) mcmds ∷ [], (sliceVal (bstems, ostems) mstems ∷ [], tt)))))))))))), tt) in
-      via 𝓤 (CallBodyC 𝓤 H A mem run′ .pre y) (qed W (((‵ (flft κbank qbank) ⊛ ‵ (ShrSlice (named 0) κbank u8 .own xbank (sliceVal (xbank .ptr) (length (xbank .now)) ∷ []))) ⊛ ((‵ (flft κops qops) ⊛ ‵ (OwnR (Array f64 256) bops oops κops γops ysops)) ⊛ ((‵ (flft κps qps) ⊛ ‵ (OwnR (Array f64 256) bps ops κps γps ysps)) ⊛ ((‵ (flft κcells qcells) ⊛ ‵ (OwnR (Array f64 19) bcells ocells κcells γcells yscells)) ⊛ ((‵ (flft κedges qedges) ⊛ ‵ (OwnR (Array f64 512) bedges oedges κedges γedges ysedges)) ⊛ ((‵ (flft κacross qacross) ⊛ ‵ (OwnR (Array bool 256) bacross oacross κacross γacross ysacross)) ⊛ ((‵ (flft κcmds qcmds) ⊛ ‵ (Own u64 mcmds bcmds ocmds κcmds γcmds yscmds)) ⊛ (‵ (flft κstems qstems) ⊛ ‵ (Own T.the-row mstems bstems ostems κstems γstems ysstems))))))))) ∷ []) ∵ says ! need $ split ! $ move ! (1 ∷ []) $ split ! $ move ! (1 ∷ []) $ split ! $ move ! (1 ∷ []) $ split ! $ move ! (1 ∷ []) $ split ! $ move ! (1 ∷ []) $ split ! $ move ! (1 ∷ []) $ split ! $ move ! (7 ∷ []) $ split ! $ move ! (8 ∷ []) $ split ! $ move ! (9 ∷ []) $ split ! $ move ! (10 ∷ []) $ split ! $ move ! (11 ∷ []) $ split ! $ move ! (12 ∷ []) $ split ! $ move ! (12 ∷ []) $ split ! $ move ! (14 ∷ []) $ split ! $ nothing ! $ move ! (2 ∷ 0 ∷ []) $ fjoin ! $ move ! (3 ∷ 0 ∷ []) $ fjoin ! $ move ! (4 ∷ 0 ∷ []) $ fjoin ! $ move ! (5 ∷ 0 ∷ []) $ fjoin ! $ move ! (6 ∷ 0 ∷ []) $ fjoin ! $ move ! (7 ∷ 0 ∷ []) $ fjoin ! $ move ! (8 ∷ 0 ∷ []) $ fjoin ! $ owned ! S.the-row (Is S.the-row) (LL.makes S.the-type S′.the-plain 𝓤 H A) st _ st-fits $ fjoin ! $ owned ! usize (Is usize) (uint-makes 𝓤 H A W w64) levels _ (refl, levels-fits) $ fjoin ! $ owned ! R.the-row (Is R.the-row) (LL.makes R.the-type R′.the-plain 𝓤 H A) rd _ rd-fits $ fjoin ! $ move ! (9 ∷ 0 ∷ []) $ fjoin ! $ nothing ! $ move ! (2 ∷ 0 ∷ []) $ join ! $ move ! (2 ∷ 0 ∷ []) $ join ! $ move ! (2 ∷ 0 ∷ []) $ join ! $ move ! (2 ∷ 0 ∷ []) $ join ! $ move ! (2 ∷ 0 ∷ []) $ join ! $ move ! (2 ∷ 0 ∷ []) $ join ! $ move ! (2 ∷ 0 ∷ []) $ join ! $ move ! (2 ∷ 0 ∷ []) $ join ! $ frame ! $ done !) (known y lt)
+      let y : CallBodyC 𝓤 H A mem run′ .Ghost = (((κbank, (κops, (κps, (κcells, (κedges, (κacross, (κcmds, (κstems, tt)))))))), (qbank, (qops, (qps, (qcells, (qedges, (qacross, (qcmds, (qstems, tt)))))))), tt, (xbank, (rd, (levels, (st, (at-one (Array f64 256) bops oops γops ysops, (at-one (Array f64 256) bps ops γps ysps, (at-one (Array f64 19) bcells ocells γcells yscells, (at-one (Array f64 512) bedges oedges γedges ysedges, (at-one (Array bool 256) bacross oacross γacross ysacross, (at-list u64 mcmds bcmds ocmds γcmds yscmds, (at-list T.the-row mstems bstems ostems γstems ysstems, tt))))))))))), (sliceVal (xbank .ptr) (length (xbank .now)) ∷ [], (machY rd ∷ [], (vint w64 levels ∷ [], (machS st ∷ [], (vptr bops oops ∷ [], (vptr bps ops ∷ [], (vptr bcells ocells ∷ [], (vptr bedges oedges ∷ [], (vptr bacross oacross ∷ [], (sliceVal (bcmds, ocmds) mcmds ∷ [], (sliceVal (bstems, ostems) mstems ∷ [], tt)))))))))))), tt) in
+      via 𝓤 (CallBodyC 𝓤 H A mem run′ .pre y) (qed W (((‵ (flft κbank qbank) ⊛ ‵ (ShrSlice (named 0) κbank u8 .own xbank (sliceVal (xbank .ptr) (length (xbank .now)) ∷ []))) ⊛ ((‵ (flft κops qops) ⊛ ‵ (OwnR (Array f64 256) bops oops κops γops ysops)) ⊛ ((‵ (flft κps qps) ⊛ ‵ (OwnR (Array f64 256) bps ops κps γps ysps)) ⊛ ((‵ (flft κcells qcells) ⊛ ‵ (OwnR (Array f64 19) bcells ocells κcells γcells yscells)) ⊛ ((‵ (flft κedges qedges) ⊛ ‵ (OwnR (Array f64 512) bedges oedges κedges γedges ysedges)) ⊛ ((‵ (flft κacross qacross) ⊛ ‵ (OwnR (Array bool 256) bacross oacross κacross γacross ysacross)) ⊛ ((‵ (flft κcmds qcmds) ⊛ ‵ (Own u64 mcmds bcmds ocmds κcmds γcmds yscmds)) ⊛ (‵ (flft κstems qstems) ⊛ ‵ (Own T.the-row mstems bstems ostems κstems γstems ysstems))))))))) ∷ []) ∵ says ! need $ split ! $ move ! (1 ∷ []) $ split ! $ move ! (1 ∷ []) $ split ! $ move ! (1 ∷ []) $ split ! $ move ! (1 ∷ []) $ split ! $ move ! (1 ∷ []) $ split ! $ move ! (1 ∷ []) $ split ! $ move ! (7 ∷ []) $ split ! $ move ! (8 ∷ []) $ split ! $ move ! (9 ∷ []) $ split ! $ move ! (10 ∷ []) $ split ! $ move ! (11 ∷ []) $ split ! $ move ! (12 ∷ []) $ split ! $ move ! (12 ∷ []) $ split ! $ move ! (14 ∷ []) $ split ! $ nothing ! $ move ! (2 ∷ 0 ∷ []) $ fjoin ! $ move ! (3 ∷ 0 ∷ []) $ fjoin ! $ move ! (4 ∷ 0 ∷ []) $ fjoin ! $ move ! (5 ∷ 0 ∷ []) $ fjoin ! $ move ! (6 ∷ 0 ∷ []) $ fjoin ! $ move ! (7 ∷ 0 ∷ []) $ fjoin ! $ move ! (8 ∷ 0 ∷ []) $ fjoin ! $ owned ! S.the-row (Is S.the-row) (LL.makes S.the-type S′.the-plain 𝓤 H A) st _ st-fits $ fjoin ! $ owned ! usize (Is usize) (uint-makes 𝓤 H A W w64) levels _ (refl, levels-fits) $ fjoin ! $ owned ! Y.the-row (Is Y.the-row) (LL.makes Y.the-type Y′.the-plain 𝓤 H A) rd _ rd-fits $ fjoin ! $ move ! (9 ∷ 0 ∷ []) $ fjoin ! $ nothing ! $ move ! (2 ∷ 0 ∷ []) $ join ! $ move ! (2 ∷ 0 ∷ []) $ join ! $ move ! (2 ∷ 0 ∷ []) $ join ! $ move ! (2 ∷ 0 ∷ []) $ join ! $ move ! (2 ∷ 0 ∷ []) $ join ! $ move ! (2 ∷ 0 ∷ []) $ join ! $ move ! (2 ∷ 0 ∷ []) $ join ! $ move ! (2 ∷ 0 ∷ []) $ join ! $ frame ! $ done !) (known y lt)
 
-  pub op-as : (t : ℕ) → BelowOp 𝓤 H A mem run′ C t → (κbank : Lft) (qbank : Share) (xbank : RefT (List ℕ)) (κops : Lft) (qops : Share) (bops oops : ℕ) (γops : GName) (ysops : List Float) (κps : Lft) (qps : Share) (bps ops : ℕ) (γps : GName) (ysps : List Float) (κcells : Lft) (qcells : Share) (bcells ocells : ℕ) (γcells : GName) (yscells : List Float) (κedges : Lft) (qedges : Share) (bedges oedges : ℕ) (γedges : GName) (ysedges : List Float) (κacross : Lft) (qacross : Share) (bacross oacross : ℕ) (γacross : GName) (ysacross : List Bool) (κcmds : Lft) (qcmds : Share) (mcmds bcmds ocmds : ℕ) (γcmds : GName) (yscmds : List ℕ) (κstems : Lft) (qstems : Share) (mstems bstems ostems : ℕ) (γstems : GName) (ysstems : List Stem) (o : ℕ) (rd : Reading) (levels : ℕ) (st : St) → o < 2 ^ 16 → Is R.the-row rd (machR rd ∷ []) → levels < 2 ^ 64 → Is S.the-row st (machS st ∷ []) → (levels < 100) × (Valid (xbank .now) × Ready st (memOf ysops ysps yscells ysedges ysacross yscmds ysstems)) → (levels + levels + levels + 1) < t
-      → ent 𝓤 (mean 𝓤 H A ((‵ (flft κbank qbank) ⊛ ‵ (ShrSlice (named 0) κbank u8 .own xbank (sliceVal (xbank .ptr) (length (xbank .now)) ∷ []))) ⊛ ((‵ (flft κops qops) ⊛ ‵ (OwnR (Array f64 256) bops oops κops γops ysops)) ⊛ ((‵ (flft κps qps) ⊛ ‵ (OwnR (Array f64 256) bps ops κps γps ysps)) ⊛ ((‵ (flft κcells qcells) ⊛ ‵ (OwnR (Array f64 19) bcells ocells κcells γcells yscells)) ⊛ ((‵ (flft κedges qedges) ⊛ ‵ (OwnR (Array f64 512) bedges oedges κedges γedges ysedges)) ⊛ ((‵ (flft κacross qacross) ⊛ ‵ (OwnR (Array bool 256) bacross oacross κacross γacross ysacross)) ⊛ ((‵ (flft κcmds qcmds) ⊛ ‵ (Own u64 mcmds bcmds ocmds κcmds γcmds yscmds)) ⊛ (‵ (flft κstems qstems) ⊛ ‵ (Own T.the-row mstems bstems ostems κstems γstems ysstems)))))))))) (C #type1·op (vint w16 o ∷ sliceVal (xbank .ptr) (length (xbank .now)) ∷ machR rd ∷ vint w64 levels ∷ machS st ∷ vptr bops oops ∷ vptr bps ops ∷ vptr bcells ocells ∷ vptr bedges oedges ∷ vptr bacross oacross ∷ sliceVal (bcmds, ocmds) mcmds ∷ sliceVal (bstems, ostems) mstems ∷ []) (λ w. mean 𝓤 H A (GotAll 𝓤 N.the-row (Unit {0} × (Unit {0} × (Unit {0} × (Unit {0} × (Unit {0} × (List Float × (List Float × (List Float × (List Float × (List Bool × (List ℕ × (List Stem × Unit {0})))))))))))) (λ (r : N.the-row .Denot) (lasts : (Unit {0} × (Unit {0} × (Unit {0} × (Unit {0} × (Unit {0} × (List Float × (List Float × (List Float × (List Float × (List Bool × (List ℕ × (List Stem × Unit {0}))))))))))))). Meets r (memOf (lasts .1 .1 .1 .1 .1 .0) (lasts .1 .1 .1 .1 .1 .1 .0) (lasts .1 .1 .1 .1 .1 .1 .1 .0) (lasts .1 .1 .1 .1 .1 .1 .1 .1 .0) (lasts .1 .1 .1 .1 .1 .1 .1 .1 .1 .0) (lasts .1 .1 .1 .1 .1 .1 .1 .1 .1 .1 .0) (lasts .1 .1 .1 .1 .1 .1 .1 .1 .1 .1 .1 .0)) (opD (xbank .now) rd levels o st (memOf ysops ysps yscells ysedges ysacross yscmds ysstems))) (λ (lasts : (Unit {0} × (Unit {0} × (Unit {0} × (Unit {0} × (Unit {0} × (List Float × (List Float × (List Float × (List Float × (List Bool × (List ℕ × (List Stem × Unit {0}))))))))))))). (fsep ftrue (fsep ftrue (fsep ftrue (fsep ftrue (fsep ftrue (fsep (fres γops ((Array f64 256) .coded .code (lasts .1 .1 .1 .1 .1 .0))) (fsep (fres γps ((Array f64 256) .coded .code (lasts .1 .1 .1 .1 .1 .1 .0))) (fsep (fres γcells ((Array f64 19) .coded .code (lasts .1 .1 .1 .1 .1 .1 .1 .0))) (fsep (fres γedges ((Array f64 512) .coded .code (lasts .1 .1 .1 .1 .1 .1 .1 .1 .0))) (fsep (fres γacross ((Array bool 256) .coded .code (lasts .1 .1 .1 .1 .1 .1 .1 .1 .1 .0))) (fsep (fsep (finally u64 γcmds (lasts .1 .1 .1 .1 .1 .1 .1 .1 .1 .1 .0)) (feq ℕ (length (lasts .1 .1 .1 .1 .1 .1 .1 .1 .1 .1 .0)) (length yscmds))) (fsep (fsep (finally T.the-row γstems (lasts .1 .1 .1 .1 .1 .1 .1 .1 .1 .1 .1 .0)) (feq ℕ (length (lasts .1 .1 .1 .1 .1 .1 .1 .1 .1 .1 .1 .0)) (length ysstems))) ftrue))))))))))))) (‵ (flft κbank qbank) ⊛ (‵ (flft κops qops) ⊛ (‵ (flft κps qps) ⊛ (‵ (flft κcells qcells) ⊛ (‵ (flft κedges qedges) ⊛ (‵ (flft κacross qacross) ⊛ (‵ (flft κcmds qcmds) ⊛ (‵ (flft κstems qstems) ⊛ ‵ ftrue)))))))) w)))
+  pub op-as : (t : ℕ) → BelowOp 𝓤 H A mem run′ C t → (κbank : Lft) (qbank : Share) (xbank : RefT (List ℕ)) (κops : Lft) (qops : Share) (bops oops : ℕ) (γops : GName) (ysops : List Float) (κps : Lft) (qps : Share) (bps ops : ℕ) (γps : GName) (ysps : List Float) (κcells : Lft) (qcells : Share) (bcells ocells : ℕ) (γcells : GName) (yscells : List Float) (κedges : Lft) (qedges : Share) (bedges oedges : ℕ) (γedges : GName) (ysedges : List Float) (κacross : Lft) (qacross : Share) (bacross oacross : ℕ) (γacross : GName) (ysacross : List Bool) (κcmds : Lft) (qcmds : Share) (mcmds bcmds ocmds : ℕ) (γcmds : GName) (yscmds : List ℕ) (κstems : Lft) (qstems : Share) (mstems bstems ostems : ℕ) (γstems : GName) (ysstems : List Stem) (o : ℕ) (rd : Reading) (levels : ℕ) (st : St) → o < 2 ^ 16 → Is Y.the-row rd (machY rd ∷ []) → levels < 2 ^ 64 → Is S.the-row st (machS st ∷ []) → (levels < 100) × (Valid (xbank .now) × Ready st (memOf ysops ysps yscells ysedges ysacross yscmds ysstems)) → (levels + levels + levels + 1) < t
+      → ent 𝓤 (mean 𝓤 H A ((‵ (flft κbank qbank) ⊛ ‵ (ShrSlice (named 0) κbank u8 .own xbank (sliceVal (xbank .ptr) (length (xbank .now)) ∷ []))) ⊛ ((‵ (flft κops qops) ⊛ ‵ (OwnR (Array f64 256) bops oops κops γops ysops)) ⊛ ((‵ (flft κps qps) ⊛ ‵ (OwnR (Array f64 256) bps ops κps γps ysps)) ⊛ ((‵ (flft κcells qcells) ⊛ ‵ (OwnR (Array f64 19) bcells ocells κcells γcells yscells)) ⊛ ((‵ (flft κedges qedges) ⊛ ‵ (OwnR (Array f64 512) bedges oedges κedges γedges ysedges)) ⊛ ((‵ (flft κacross qacross) ⊛ ‵ (OwnR (Array bool 256) bacross oacross κacross γacross ysacross)) ⊛ ((‵ (flft κcmds qcmds) ⊛ ‵ (Own u64 mcmds bcmds ocmds κcmds γcmds yscmds)) ⊛ (‵ (flft κstems qstems) ⊛ ‵ (Own T.the-row mstems bstems ostems κstems γstems ysstems)))))))))) (C #type1·op (vint w16 o ∷ sliceVal (xbank .ptr) (length (xbank .now)) ∷ machY rd ∷ vint w64 levels ∷ machS st ∷ vptr bops oops ∷ vptr bps ops ∷ vptr bcells ocells ∷ vptr bedges oedges ∷ vptr bacross oacross ∷ sliceVal (bcmds, ocmds) mcmds ∷ sliceVal (bstems, ostems) mstems ∷ []) (λ w. mean 𝓤 H A (GotAll 𝓤 N.the-row (Unit {0} × (Unit {0} × (Unit {0} × (Unit {0} × (Unit {0} × (List Float × (List Float × (List Float × (List Float × (List Bool × (List ℕ × (List Stem × Unit {0})))))))))))) (λ (r : N.the-row .Denot) (lasts : (Unit {0} × (Unit {0} × (Unit {0} × (Unit {0} × (Unit {0} × (List Float × (List Float × (List Float × (List Float × (List Bool × (List ℕ × (List Stem × Unit {0}))))))))))))). Meets r (memOf (lasts .1 .1 .1 .1 .1 .0) (lasts .1 .1 .1 .1 .1 .1 .0) (lasts .1 .1 .1 .1 .1 .1 .1 .0) (lasts .1 .1 .1 .1 .1 .1 .1 .1 .0) (lasts .1 .1 .1 .1 .1 .1 .1 .1 .1 .0) (lasts .1 .1 .1 .1 .1 .1 .1 .1 .1 .1 .0) (lasts .1 .1 .1 .1 .1 .1 .1 .1 .1 .1 .1 .0)) (opD (xbank .now) rd levels o st (memOf ysops ysps yscells ysedges ysacross yscmds ysstems))) (λ (lasts : (Unit {0} × (Unit {0} × (Unit {0} × (Unit {0} × (Unit {0} × (List Float × (List Float × (List Float × (List Float × (List Bool × (List ℕ × (List Stem × Unit {0}))))))))))))). (fsep ftrue (fsep ftrue (fsep ftrue (fsep ftrue (fsep ftrue (fsep (fres γops ((Array f64 256) .coded .code (lasts .1 .1 .1 .1 .1 .0))) (fsep (fres γps ((Array f64 256) .coded .code (lasts .1 .1 .1 .1 .1 .1 .0))) (fsep (fres γcells ((Array f64 19) .coded .code (lasts .1 .1 .1 .1 .1 .1 .1 .0))) (fsep (fres γedges ((Array f64 512) .coded .code (lasts .1 .1 .1 .1 .1 .1 .1 .1 .0))) (fsep (fres γacross ((Array bool 256) .coded .code (lasts .1 .1 .1 .1 .1 .1 .1 .1 .1 .0))) (fsep (fsep (finally u64 γcmds (lasts .1 .1 .1 .1 .1 .1 .1 .1 .1 .1 .0)) (feq ℕ (length (lasts .1 .1 .1 .1 .1 .1 .1 .1 .1 .1 .0)) (length yscmds))) (fsep (fsep (finally T.the-row γstems (lasts .1 .1 .1 .1 .1 .1 .1 .1 .1 .1 .1 .0)) (feq ℕ (length (lasts .1 .1 .1 .1 .1 .1 .1 .1 .1 .1 .1 .0)) (length ysstems))) ftrue))))))))))))) (‵ (flft κbank qbank) ⊛ (‵ (flft κops qops) ⊛ (‵ (flft κps qps) ⊛ (‵ (flft κcells qcells) ⊛ (‵ (flft κedges qedges) ⊛ (‵ (flft κacross qacross) ⊛ (‵ (flft κcmds qcmds) ⊛ (‵ (flft κstems qstems) ⊛ ‵ ftrue)))))))) w)))
   op-as t known κbank qbank xbank κops qops bops oops γops ysops κps qps bps ops γps ysps κcells qcells bcells ocells γcells yscells κedges qedges bedges oedges γedges ysedges κacross qacross bacross oacross γacross ysacross κcmds qcmds mcmds bcmds ocmds γcmds yscmds κstems qstems mstems bstems ostems γstems ysstems o rd levels st o-fits rd-fits levels-fits st-fits need lt =
-      let y : OpC 𝓤 H A mem run′ .Ghost = (((κbank, (κops, (κps, (κcells, (κedges, (κacross, (κcmds, (κstems, tt)))))))), (qbank, (qops, (qps, (qcells, (qedges, (qacross, (qcmds, (qstems, tt)))))))), tt, (o, (xbank, (rd, (levels, (st, (at-one (Array f64 256) bops oops γops ysops, (at-one (Array f64 256) bps ops γps ysps, (at-one (Array f64 19) bcells ocells γcells yscells, (at-one (Array f64 512) bedges oedges γedges ysedges, (at-one (Array bool 256) bacross oacross γacross ysacross, (at-list u64 mcmds bcmds ocmds γcmds yscmds, (at-list T.the-row mstems bstems ostems γstems ysstems, tt)))))))))))), (vint w16 o ∷ [], (sliceVal (xbank .ptr) (length (xbank .now)) ∷ [], (machR rd ∷ [], (vint w64 levels ∷ [], (machS st ∷ [], (vptr bops oops ∷ [], (vptr bps ops ∷ [], (vptr bcells ocells ∷ [], (vptr bedges oedges ∷ [], (vptr bacross oacross ∷ [], (sliceVal (bcmds, ocmds) mcmds ∷ [], (sliceVal (bstems, ostems) mstems ∷ [], tt))))))))))))), tt) in
-      via 𝓤 (OpC 𝓤 H A mem run′ .pre y) (qed W (((‵ (flft κbank qbank) ⊛ ‵ (ShrSlice (named 0) κbank u8 .own xbank (sliceVal (xbank .ptr) (length (xbank .now)) ∷ []))) ⊛ ((‵ (flft κops qops) ⊛ ‵ (OwnR (Array f64 256) bops oops κops γops ysops)) ⊛ ((‵ (flft κps qps) ⊛ ‵ (OwnR (Array f64 256) bps ops κps γps ysps)) ⊛ ((‵ (flft κcells qcells) ⊛ ‵ (OwnR (Array f64 19) bcells ocells κcells γcells yscells)) ⊛ ((‵ (flft κedges qedges) ⊛ ‵ (OwnR (Array f64 512) bedges oedges κedges γedges ysedges)) ⊛ ((‵ (flft κacross qacross) ⊛ ‵ (OwnR (Array bool 256) bacross oacross κacross γacross ysacross)) ⊛ ((‵ (flft κcmds qcmds) ⊛ ‵ (Own u64 mcmds bcmds ocmds κcmds γcmds yscmds)) ⊛ (‵ (flft κstems qstems) ⊛ ‵ (Own T.the-row mstems bstems ostems κstems γstems ysstems))))))))) ∷ []) ∵ says ! need $ split ! $ move ! (1 ∷ []) $ split ! $ move ! (1 ∷ []) $ split ! $ move ! (1 ∷ []) $ split ! $ move ! (1 ∷ []) $ split ! $ move ! (1 ∷ []) $ split ! $ move ! (1 ∷ []) $ split ! $ move ! (7 ∷ []) $ split ! $ move ! (8 ∷ []) $ split ! $ move ! (9 ∷ []) $ split ! $ move ! (10 ∷ []) $ split ! $ move ! (11 ∷ []) $ split ! $ move ! (12 ∷ []) $ split ! $ move ! (12 ∷ []) $ split ! $ move ! (14 ∷ []) $ split ! $ nothing ! $ move ! (2 ∷ 0 ∷ []) $ fjoin ! $ move ! (3 ∷ 0 ∷ []) $ fjoin ! $ move ! (4 ∷ 0 ∷ []) $ fjoin ! $ move ! (5 ∷ 0 ∷ []) $ fjoin ! $ move ! (6 ∷ 0 ∷ []) $ fjoin ! $ move ! (7 ∷ 0 ∷ []) $ fjoin ! $ move ! (8 ∷ 0 ∷ []) $ fjoin ! $ owned ! S.the-row (Is S.the-row) (LL.makes S.the-type S′.the-plain 𝓤 H A) st _ st-fits $ fjoin ! $ owned ! usize (Is usize) (uint-makes 𝓤 H A W w64) levels _ (refl, levels-fits) $ fjoin ! $ owned ! R.the-row (Is R.the-row) (LL.makes R.the-type R′.the-plain 𝓤 H A) rd _ rd-fits $ fjoin ! $ move ! (9 ∷ 0 ∷ []) $ fjoin ! $ owned ! u16 (Is u16) (uint-makes 𝓤 H A W w16) o _ (refl, o-fits) $ fjoin ! $ nothing ! $ move ! (2 ∷ 0 ∷ []) $ join ! $ move ! (2 ∷ 0 ∷ []) $ join ! $ move ! (2 ∷ 0 ∷ []) $ join ! $ move ! (2 ∷ 0 ∷ []) $ join ! $ move ! (2 ∷ 0 ∷ []) $ join ! $ move ! (2 ∷ 0 ∷ []) $ join ! $ move ! (2 ∷ 0 ∷ []) $ join ! $ move ! (2 ∷ 0 ∷ []) $ join ! $ frame ! $ done !) (known y lt)
+      let y : OpC 𝓤 H A mem run′ .Ghost = (((κbank, (κops, (κps, (κcells, (κedges, (κacross, (κcmds, (κstems, tt)))))))), (qbank, (qops, (qps, (qcells, (qedges, (qacross, (qcmds, (qstems, tt)))))))), tt, (o, (xbank, (rd, (levels, (st, (at-one (Array f64 256) bops oops γops ysops, (at-one (Array f64 256) bps ops γps ysps, (at-one (Array f64 19) bcells ocells γcells yscells, (at-one (Array f64 512) bedges oedges γedges ysedges, (at-one (Array bool 256) bacross oacross γacross ysacross, (at-list u64 mcmds bcmds ocmds γcmds yscmds, (at-list T.the-row mstems bstems ostems γstems ysstems, tt)))))))))))), (vint w16 o ∷ [], (sliceVal (xbank .ptr) (length (xbank .now)) ∷ [], (machY rd ∷ [], (vint w64 levels ∷ [], (machS st ∷ [], (vptr bops oops ∷ [], (vptr bps ops ∷ [], (vptr bcells ocells ∷ [], (vptr bedges oedges ∷ [], (vptr bacross oacross ∷ [], (sliceVal (bcmds, ocmds) mcmds ∷ [], (sliceVal (bstems, ostems) mstems ∷ [], tt))))))))))))), tt) in
+      via 𝓤 (OpC 𝓤 H A mem run′ .pre y) (qed W (((‵ (flft κbank qbank) ⊛ ‵ (ShrSlice (named 0) κbank u8 .own xbank (sliceVal (xbank .ptr) (length (xbank .now)) ∷ []))) ⊛ ((‵ (flft κops qops) ⊛ ‵ (OwnR (Array f64 256) bops oops κops γops ysops)) ⊛ ((‵ (flft κps qps) ⊛ ‵ (OwnR (Array f64 256) bps ops κps γps ysps)) ⊛ ((‵ (flft κcells qcells) ⊛ ‵ (OwnR (Array f64 19) bcells ocells κcells γcells yscells)) ⊛ ((‵ (flft κedges qedges) ⊛ ‵ (OwnR (Array f64 512) bedges oedges κedges γedges ysedges)) ⊛ ((‵ (flft κacross qacross) ⊛ ‵ (OwnR (Array bool 256) bacross oacross κacross γacross ysacross)) ⊛ ((‵ (flft κcmds qcmds) ⊛ ‵ (Own u64 mcmds bcmds ocmds κcmds γcmds yscmds)) ⊛ (‵ (flft κstems qstems) ⊛ ‵ (Own T.the-row mstems bstems ostems κstems γstems ysstems))))))))) ∷ []) ∵ says ! need $ split ! $ move ! (1 ∷ []) $ split ! $ move ! (1 ∷ []) $ split ! $ move ! (1 ∷ []) $ split ! $ move ! (1 ∷ []) $ split ! $ move ! (1 ∷ []) $ split ! $ move ! (1 ∷ []) $ split ! $ move ! (7 ∷ []) $ split ! $ move ! (8 ∷ []) $ split ! $ move ! (9 ∷ []) $ split ! $ move ! (10 ∷ []) $ split ! $ move ! (11 ∷ []) $ split ! $ move ! (12 ∷ []) $ split ! $ move ! (12 ∷ []) $ split ! $ move ! (14 ∷ []) $ split ! $ nothing ! $ move ! (2 ∷ 0 ∷ []) $ fjoin ! $ move ! (3 ∷ 0 ∷ []) $ fjoin ! $ move ! (4 ∷ 0 ∷ []) $ fjoin ! $ move ! (5 ∷ 0 ∷ []) $ fjoin ! $ move ! (6 ∷ 0 ∷ []) $ fjoin ! $ move ! (7 ∷ 0 ∷ []) $ fjoin ! $ move ! (8 ∷ 0 ∷ []) $ fjoin ! $ owned ! S.the-row (Is S.the-row) (LL.makes S.the-type S′.the-plain 𝓤 H A) st _ st-fits $ fjoin ! $ owned ! usize (Is usize) (uint-makes 𝓤 H A W w64) levels _ (refl, levels-fits) $ fjoin ! $ owned ! Y.the-row (Is Y.the-row) (LL.makes Y.the-type Y′.the-plain 𝓤 H A) rd _ rd-fits $ fjoin ! $ move ! (9 ∷ 0 ∷ []) $ fjoin ! $ owned ! u16 (Is u16) (uint-makes 𝓤 H A W w16) o _ (refl, o-fits) $ fjoin ! $ nothing ! $ move ! (2 ∷ 0 ∷ []) $ join ! $ move ! (2 ∷ 0 ∷ []) $ join ! $ move ! (2 ∷ 0 ∷ []) $ join ! $ move ! (2 ∷ 0 ∷ []) $ join ! $ move ! (2 ∷ 0 ∷ []) $ join ! $ move ! (2 ∷ 0 ∷ []) $ join ! $ move ! (2 ∷ 0 ∷ []) $ join ! $ move ! (2 ∷ 0 ∷ []) $ join ! $ frame ! $ done !) (known y lt)
 
-  pub run-as : (t : ℕ) → BelowRun 𝓤 H A mem run′ C t → (κcode : Lft) (qcode : Share) (xcode : RefT (List ℕ)) (κbank : Lft) (qbank : Share) (xbank : RefT (List ℕ)) (κops : Lft) (qops : Share) (bops oops : ℕ) (γops : GName) (ysops : List Float) (κps : Lft) (qps : Share) (bps ops : ℕ) (γps : GName) (ysps : List Float) (κcells : Lft) (qcells : Share) (bcells ocells : ℕ) (γcells : GName) (yscells : List Float) (κedges : Lft) (qedges : Share) (bedges oedges : ℕ) (γedges : GName) (ysedges : List Float) (κacross : Lft) (qacross : Share) (bacross oacross : ℕ) (γacross : GName) (ysacross : List Bool) (κcmds : Lft) (qcmds : Share) (mcmds bcmds ocmds : ℕ) (γcmds : GName) (yscmds : List ℕ) (κstems : Lft) (qstems : Share) (mstems bstems ostems : ℕ) (γstems : GName) (ysstems : List Stem) (rd : Reading) (levels : ℕ) (st : St) → Is R.the-row rd (machR rd ∷ []) → levels < 2 ^ 64 → Is S.the-row st (machS st ∷ []) → (levels < 100) × (Valid (xbank .now) × Ready st (memOf ysops ysps yscells ysedges ysacross yscmds ysstems)) → (levels + levels + levels + 2) < t
-      → ent 𝓤 (mean 𝓤 H A ((‵ (flft κcode qcode) ⊛ ‵ (ShrSlice (named 0) κcode u8 .own xcode (sliceVal (xcode .ptr) (length (xcode .now)) ∷ []))) ⊛ ((‵ (flft κbank qbank) ⊛ ‵ (ShrSlice (named 0) κbank u8 .own xbank (sliceVal (xbank .ptr) (length (xbank .now)) ∷ []))) ⊛ ((‵ (flft κops qops) ⊛ ‵ (OwnR (Array f64 256) bops oops κops γops ysops)) ⊛ ((‵ (flft κps qps) ⊛ ‵ (OwnR (Array f64 256) bps ops κps γps ysps)) ⊛ ((‵ (flft κcells qcells) ⊛ ‵ (OwnR (Array f64 19) bcells ocells κcells γcells yscells)) ⊛ ((‵ (flft κedges qedges) ⊛ ‵ (OwnR (Array f64 512) bedges oedges κedges γedges ysedges)) ⊛ ((‵ (flft κacross qacross) ⊛ ‵ (OwnR (Array bool 256) bacross oacross κacross γacross ysacross)) ⊛ ((‵ (flft κcmds qcmds) ⊛ ‵ (Own u64 mcmds bcmds ocmds κcmds γcmds yscmds)) ⊛ (‵ (flft κstems qstems) ⊛ ‵ (Own T.the-row mstems bstems ostems κstems γstems ysstems))))))))))) (C #type1·run (sliceVal (xcode .ptr) (length (xcode .now)) ∷ sliceVal (xbank .ptr) (length (xbank .now)) ∷ machR rd ∷ vint w64 levels ∷ machS st ∷ vptr bops oops ∷ vptr bps ops ∷ vptr bcells ocells ∷ vptr bedges oedges ∷ vptr bacross oacross ∷ sliceVal (bcmds, ocmds) mcmds ∷ sliceVal (bstems, ostems) mstems ∷ []) (λ w. mean 𝓤 H A (GotAll 𝓤 N.the-row (Unit {0} × (Unit {0} × (Unit {0} × (Unit {0} × (Unit {0} × (List Float × (List Float × (List Float × (List Float × (List Bool × (List ℕ × (List Stem × Unit {0})))))))))))) (λ (r : N.the-row .Denot) (lasts : (Unit {0} × (Unit {0} × (Unit {0} × (Unit {0} × (Unit {0} × (List Float × (List Float × (List Float × (List Float × (List Bool × (List ℕ × (List Stem × Unit {0}))))))))))))). Meets r (memOf (lasts .1 .1 .1 .1 .1 .0) (lasts .1 .1 .1 .1 .1 .1 .0) (lasts .1 .1 .1 .1 .1 .1 .1 .0) (lasts .1 .1 .1 .1 .1 .1 .1 .1 .0) (lasts .1 .1 .1 .1 .1 .1 .1 .1 .1 .0) (lasts .1 .1 .1 .1 .1 .1 .1 .1 .1 .1 .0) (lasts .1 .1 .1 .1 .1 .1 .1 .1 .1 .1 .1 .0)) (runD (xbank .now) rd levels (xcode .now) st (memOf ysops ysps yscells ysedges ysacross yscmds ysstems))) (λ (lasts : (Unit {0} × (Unit {0} × (Unit {0} × (Unit {0} × (Unit {0} × (List Float × (List Float × (List Float × (List Float × (List Bool × (List ℕ × (List Stem × Unit {0}))))))))))))). (fsep ftrue (fsep ftrue (fsep ftrue (fsep ftrue (fsep ftrue (fsep (fres γops ((Array f64 256) .coded .code (lasts .1 .1 .1 .1 .1 .0))) (fsep (fres γps ((Array f64 256) .coded .code (lasts .1 .1 .1 .1 .1 .1 .0))) (fsep (fres γcells ((Array f64 19) .coded .code (lasts .1 .1 .1 .1 .1 .1 .1 .0))) (fsep (fres γedges ((Array f64 512) .coded .code (lasts .1 .1 .1 .1 .1 .1 .1 .1 .0))) (fsep (fres γacross ((Array bool 256) .coded .code (lasts .1 .1 .1 .1 .1 .1 .1 .1 .1 .0))) (fsep (fsep (finally u64 γcmds (lasts .1 .1 .1 .1 .1 .1 .1 .1 .1 .1 .0)) (feq ℕ (length (lasts .1 .1 .1 .1 .1 .1 .1 .1 .1 .1 .0)) (length yscmds))) (fsep (fsep (finally T.the-row γstems (lasts .1 .1 .1 .1 .1 .1 .1 .1 .1 .1 .1 .0)) (feq ℕ (length (lasts .1 .1 .1 .1 .1 .1 .1 .1 .1 .1 .1 .0)) (length ysstems))) ftrue))))))))))))) (‵ (flft κcode qcode) ⊛ (‵ (flft κbank qbank) ⊛ (‵ (flft κops qops) ⊛ (‵ (flft κps qps) ⊛ (‵ (flft κcells qcells) ⊛ (‵ (flft κedges qedges) ⊛ (‵ (flft κacross qacross) ⊛ (‵ (flft κcmds qcmds) ⊛ (‵ (flft κstems qstems) ⊛ ‵ ftrue))))))))) w)))
+  pub run-as : (t : ℕ) → BelowRun 𝓤 H A mem run′ C t → (κcode : Lft) (qcode : Share) (xcode : RefT (List ℕ)) (κbank : Lft) (qbank : Share) (xbank : RefT (List ℕ)) (κops : Lft) (qops : Share) (bops oops : ℕ) (γops : GName) (ysops : List Float) (κps : Lft) (qps : Share) (bps ops : ℕ) (γps : GName) (ysps : List Float) (κcells : Lft) (qcells : Share) (bcells ocells : ℕ) (γcells : GName) (yscells : List Float) (κedges : Lft) (qedges : Share) (bedges oedges : ℕ) (γedges : GName) (ysedges : List Float) (κacross : Lft) (qacross : Share) (bacross oacross : ℕ) (γacross : GName) (ysacross : List Bool) (κcmds : Lft) (qcmds : Share) (mcmds bcmds ocmds : ℕ) (γcmds : GName) (yscmds : List ℕ) (κstems : Lft) (qstems : Share) (mstems bstems ostems : ℕ) (γstems : GName) (ysstems : List Stem) (rd : Reading) (levels : ℕ) (st : St) → Is Y.the-row rd (machY rd ∷ []) → levels < 2 ^ 64 → Is S.the-row st (machS st ∷ []) → (levels < 100) × (Valid (xbank .now) × Ready st (memOf ysops ysps yscells ysedges ysacross yscmds ysstems)) → (levels + levels + levels + 2) < t
+      → ent 𝓤 (mean 𝓤 H A ((‵ (flft κcode qcode) ⊛ ‵ (ShrSlice (named 0) κcode u8 .own xcode (sliceVal (xcode .ptr) (length (xcode .now)) ∷ []))) ⊛ ((‵ (flft κbank qbank) ⊛ ‵ (ShrSlice (named 0) κbank u8 .own xbank (sliceVal (xbank .ptr) (length (xbank .now)) ∷ []))) ⊛ ((‵ (flft κops qops) ⊛ ‵ (OwnR (Array f64 256) bops oops κops γops ysops)) ⊛ ((‵ (flft κps qps) ⊛ ‵ (OwnR (Array f64 256) bps ops κps γps ysps)) ⊛ ((‵ (flft κcells qcells) ⊛ ‵ (OwnR (Array f64 19) bcells ocells κcells γcells yscells)) ⊛ ((‵ (flft κedges qedges) ⊛ ‵ (OwnR (Array f64 512) bedges oedges κedges γedges ysedges)) ⊛ ((‵ (flft κacross qacross) ⊛ ‵ (OwnR (Array bool 256) bacross oacross κacross γacross ysacross)) ⊛ ((‵ (flft κcmds qcmds) ⊛ ‵ (Own u64 mcmds bcmds ocmds κcmds γcmds yscmds)) ⊛ (‵ (flft κstems qstems) ⊛ ‵ (Own T.the-row mstems bstems ostems κstems γstems ysstems))))))))))) (C #type1·run (sliceVal (xcode .ptr) (length (xcode .now)) ∷ sliceVal (xbank .ptr) (length (xbank .now)) ∷ machY rd ∷ vint w64 levels ∷ machS st ∷ vptr bops oops ∷ vptr bps ops ∷ vptr bcells ocells ∷ vptr bedges oedges ∷ vptr bacross oacross ∷ sliceVal (bcmds, ocmds) mcmds ∷ sliceVal (bstems, ostems) mstems ∷ []) (λ w. mean 𝓤 H A (GotAll 𝓤 N.the-row (Unit {0} × (Unit {0} × (Unit {0} × (Unit {0} × (Unit {0} × (List Float × (List Float × (List Float × (List Float × (List Bool × (List ℕ × (List Stem × Unit {0})))))))))))) (λ (r : N.the-row .Denot) (lasts : (Unit {0} × (Unit {0} × (Unit {0} × (Unit {0} × (Unit {0} × (List Float × (List Float × (List Float × (List Float × (List Bool × (List ℕ × (List Stem × Unit {0}))))))))))))). Meets r (memOf (lasts .1 .1 .1 .1 .1 .0) (lasts .1 .1 .1 .1 .1 .1 .0) (lasts .1 .1 .1 .1 .1 .1 .1 .0) (lasts .1 .1 .1 .1 .1 .1 .1 .1 .0) (lasts .1 .1 .1 .1 .1 .1 .1 .1 .1 .0) (lasts .1 .1 .1 .1 .1 .1 .1 .1 .1 .1 .0) (lasts .1 .1 .1 .1 .1 .1 .1 .1 .1 .1 .1 .0)) (runD (xbank .now) rd levels (xcode .now) st (memOf ysops ysps yscells ysedges ysacross yscmds ysstems))) (λ (lasts : (Unit {0} × (Unit {0} × (Unit {0} × (Unit {0} × (Unit {0} × (List Float × (List Float × (List Float × (List Float × (List Bool × (List ℕ × (List Stem × Unit {0}))))))))))))). (fsep ftrue (fsep ftrue (fsep ftrue (fsep ftrue (fsep ftrue (fsep (fres γops ((Array f64 256) .coded .code (lasts .1 .1 .1 .1 .1 .0))) (fsep (fres γps ((Array f64 256) .coded .code (lasts .1 .1 .1 .1 .1 .1 .0))) (fsep (fres γcells ((Array f64 19) .coded .code (lasts .1 .1 .1 .1 .1 .1 .1 .0))) (fsep (fres γedges ((Array f64 512) .coded .code (lasts .1 .1 .1 .1 .1 .1 .1 .1 .0))) (fsep (fres γacross ((Array bool 256) .coded .code (lasts .1 .1 .1 .1 .1 .1 .1 .1 .1 .0))) (fsep (fsep (finally u64 γcmds (lasts .1 .1 .1 .1 .1 .1 .1 .1 .1 .1 .0)) (feq ℕ (length (lasts .1 .1 .1 .1 .1 .1 .1 .1 .1 .1 .0)) (length yscmds))) (fsep (fsep (finally T.the-row γstems (lasts .1 .1 .1 .1 .1 .1 .1 .1 .1 .1 .1 .0)) (feq ℕ (length (lasts .1 .1 .1 .1 .1 .1 .1 .1 .1 .1 .1 .0)) (length ysstems))) ftrue))))))))))))) (‵ (flft κcode qcode) ⊛ (‵ (flft κbank qbank) ⊛ (‵ (flft κops qops) ⊛ (‵ (flft κps qps) ⊛ (‵ (flft κcells qcells) ⊛ (‵ (flft κedges qedges) ⊛ (‵ (flft κacross qacross) ⊛ (‵ (flft κcmds qcmds) ⊛ (‵ (flft κstems qstems) ⊛ ‵ ftrue))))))))) w)))
   run-as t known κcode qcode xcode κbank qbank xbank κops qops bops oops γops ysops κps qps bps ops γps ysps κcells qcells bcells ocells γcells yscells κedges qedges bedges oedges γedges ysedges κacross qacross bacross oacross γacross ysacross κcmds qcmds mcmds bcmds ocmds γcmds yscmds κstems qstems mstems bstems ostems γstems ysstems rd levels st rd-fits levels-fits st-fits need lt =
-      let y : RunC 𝓤 H A mem run′ .Ghost = (((κcode, (κbank, (κops, (κps, (κcells, (κedges, (κacross, (κcmds, (κstems, tt))))))))), (qcode, (qbank, (qops, (qps, (qcells, (qedges, (qacross, (qcmds, (qstems, tt))))))))), tt, (xcode, (xbank, (rd, (levels, (st, (at-one (Array f64 256) bops oops γops ysops, (at-one (Array f64 256) bps ops γps ysps, (at-one (Array f64 19) bcells ocells γcells yscells, (at-one (Array f64 512) bedges oedges γedges ysedges, (at-one (Array bool 256) bacross oacross γacross ysacross, (at-list u64 mcmds bcmds ocmds γcmds yscmds, (at-list T.the-row mstems bstems ostems γstems ysstems, tt)))))))))))), (sliceVal (xcode .ptr) (length (xcode .now)) ∷ [], (sliceVal (xbank .ptr) (length (xbank .now)) ∷ [], (machR rd ∷ [], (vint w64 levels ∷ [], (machS st ∷ [], (vptr bops oops ∷ [], (vptr bps ops ∷ [], (vptr bcells ocells ∷ [], (vptr bedges oedges ∷ [], (vptr bacross oacross ∷ [], (sliceVal (bcmds, ocmds) mcmds ∷ [], (sliceVal (bstems, ostems) mstems ∷ [], tt))))))))))))), tt) in
-      via 𝓤 (RunC 𝓤 H A mem run′ .pre y) (qed W (((‵ (flft κcode qcode) ⊛ ‵ (ShrSlice (named 0) κcode u8 .own xcode (sliceVal (xcode .ptr) (length (xcode .now)) ∷ []))) ⊛ ((‵ (flft κbank qbank) ⊛ ‵ (ShrSlice (named 0) κbank u8 .own xbank (sliceVal (xbank .ptr) (length (xbank .now)) ∷ []))) ⊛ ((‵ (flft κops qops) ⊛ ‵ (OwnR (Array f64 256) bops oops κops γops ysops)) ⊛ ((‵ (flft κps qps) ⊛ ‵ (OwnR (Array f64 256) bps ops κps γps ysps)) ⊛ ((‵ (flft κcells qcells) ⊛ ‵ (OwnR (Array f64 19) bcells ocells κcells γcells yscells)) ⊛ ((‵ (flft κedges qedges) ⊛ ‵ (OwnR (Array f64 512) bedges oedges κedges γedges ysedges)) ⊛ ((‵ (flft κacross qacross) ⊛ ‵ (OwnR (Array bool 256) bacross oacross κacross γacross ysacross)) ⊛ ((‵ (flft κcmds qcmds) ⊛ ‵ (Own u64 mcmds bcmds ocmds κcmds γcmds yscmds)) ⊛ (‵ (flft κstems qstems) ⊛ ‵ (Own T.the-row mstems bstems ostems κstems γstems ysstems)))))))))) ∷ []) ∵ says ! need $ split ! $ move ! (1 ∷ []) $ split ! $ move ! (1 ∷ []) $ split ! $ move ! (1 ∷ []) $ split ! $ move ! (1 ∷ []) $ split ! $ move ! (1 ∷ []) $ split ! $ move ! (1 ∷ []) $ split ! $ move ! (1 ∷ []) $ split ! $ move ! (8 ∷ []) $ split ! $ move ! (9 ∷ []) $ split ! $ move ! (10 ∷ []) $ split ! $ move ! (11 ∷ []) $ split ! $ move ! (12 ∷ []) $ split ! $ move ! (13 ∷ []) $ split ! $ move ! (14 ∷ []) $ split ! $ move ! (14 ∷ []) $ split ! $ move ! (16 ∷ []) $ split ! $ nothing ! $ move ! (2 ∷ 0 ∷ []) $ fjoin ! $ move ! (3 ∷ 0 ∷ []) $ fjoin ! $ move ! (4 ∷ 0 ∷ []) $ fjoin ! $ move ! (5 ∷ 0 ∷ []) $ fjoin ! $ move ! (6 ∷ 0 ∷ []) $ fjoin ! $ move ! (7 ∷ 0 ∷ []) $ fjoin ! $ move ! (8 ∷ 0 ∷ []) $ fjoin ! $ owned ! S.the-row (Is S.the-row) (LL.makes S.the-type S′.the-plain 𝓤 H A) st _ st-fits $ fjoin ! $ owned ! usize (Is usize) (uint-makes 𝓤 H A W w64) levels _ (refl, levels-fits) $ fjoin ! $ owned ! R.the-row (Is R.the-row) (LL.makes R.the-type R′.the-plain 𝓤 H A) rd _ rd-fits $ fjoin ! $ move ! (9 ∷ 0 ∷ []) $ fjoin ! $ move ! (10 ∷ 0 ∷ []) $ fjoin ! $ nothing ! $ move ! (2 ∷ 0 ∷ []) $ join ! $ move ! (2 ∷ 0 ∷ []) $ join ! $ move ! (2 ∷ 0 ∷ []) $ join ! $ move ! (2 ∷ 0 ∷ []) $ join ! $ move ! (2 ∷ 0 ∷ []) $ join ! $ move ! (2 ∷ 0 ∷ []) $ join ! $ move ! (2 ∷ 0 ∷ []) $ join ! $ move ! (2 ∷ 0 ∷ []) $ join ! $ move ! (2 ∷ 0 ∷ []) $ join ! $ frame ! $ done !) (known y lt)
+      let y : RunC 𝓤 H A mem run′ .Ghost = (((κcode, (κbank, (κops, (κps, (κcells, (κedges, (κacross, (κcmds, (κstems, tt))))))))), (qcode, (qbank, (qops, (qps, (qcells, (qedges, (qacross, (qcmds, (qstems, tt))))))))), tt, (xcode, (xbank, (rd, (levels, (st, (at-one (Array f64 256) bops oops γops ysops, (at-one (Array f64 256) bps ops γps ysps, (at-one (Array f64 19) bcells ocells γcells yscells, (at-one (Array f64 512) bedges oedges γedges ysedges, (at-one (Array bool 256) bacross oacross γacross ysacross, (at-list u64 mcmds bcmds ocmds γcmds yscmds, (at-list T.the-row mstems bstems ostems γstems ysstems, tt)))))))))))), (sliceVal (xcode .ptr) (length (xcode .now)) ∷ [], (sliceVal (xbank .ptr) (length (xbank .now)) ∷ [], (machY rd ∷ [], (vint w64 levels ∷ [], (machS st ∷ [], (vptr bops oops ∷ [], (vptr bps ops ∷ [], (vptr bcells ocells ∷ [], (vptr bedges oedges ∷ [], (vptr bacross oacross ∷ [], (sliceVal (bcmds, ocmds) mcmds ∷ [], (sliceVal (bstems, ostems) mstems ∷ [], tt))))))))))))), tt) in
+      via 𝓤 (RunC 𝓤 H A mem run′ .pre y) (qed W (((‵ (flft κcode qcode) ⊛ ‵ (ShrSlice (named 0) κcode u8 .own xcode (sliceVal (xcode .ptr) (length (xcode .now)) ∷ []))) ⊛ ((‵ (flft κbank qbank) ⊛ ‵ (ShrSlice (named 0) κbank u8 .own xbank (sliceVal (xbank .ptr) (length (xbank .now)) ∷ []))) ⊛ ((‵ (flft κops qops) ⊛ ‵ (OwnR (Array f64 256) bops oops κops γops ysops)) ⊛ ((‵ (flft κps qps) ⊛ ‵ (OwnR (Array f64 256) bps ops κps γps ysps)) ⊛ ((‵ (flft κcells qcells) ⊛ ‵ (OwnR (Array f64 19) bcells ocells κcells γcells yscells)) ⊛ ((‵ (flft κedges qedges) ⊛ ‵ (OwnR (Array f64 512) bedges oedges κedges γedges ysedges)) ⊛ ((‵ (flft κacross qacross) ⊛ ‵ (OwnR (Array bool 256) bacross oacross κacross γacross ysacross)) ⊛ ((‵ (flft κcmds qcmds) ⊛ ‵ (Own u64 mcmds bcmds ocmds κcmds γcmds yscmds)) ⊛ (‵ (flft κstems qstems) ⊛ ‵ (Own T.the-row mstems bstems ostems κstems γstems ysstems)))))))))) ∷ []) ∵ says ! need $ split ! $ move ! (1 ∷ []) $ split ! $ move ! (1 ∷ []) $ split ! $ move ! (1 ∷ []) $ split ! $ move ! (1 ∷ []) $ split ! $ move ! (1 ∷ []) $ split ! $ move ! (1 ∷ []) $ split ! $ move ! (1 ∷ []) $ split ! $ move ! (8 ∷ []) $ split ! $ move ! (9 ∷ []) $ split ! $ move ! (10 ∷ []) $ split ! $ move ! (11 ∷ []) $ split ! $ move ! (12 ∷ []) $ split ! $ move ! (13 ∷ []) $ split ! $ move ! (14 ∷ []) $ split ! $ move ! (14 ∷ []) $ split ! $ move ! (16 ∷ []) $ split ! $ nothing ! $ move ! (2 ∷ 0 ∷ []) $ fjoin ! $ move ! (3 ∷ 0 ∷ []) $ fjoin ! $ move ! (4 ∷ 0 ∷ []) $ fjoin ! $ move ! (5 ∷ 0 ∷ []) $ fjoin ! $ move ! (6 ∷ 0 ∷ []) $ fjoin ! $ move ! (7 ∷ 0 ∷ []) $ fjoin ! $ move ! (8 ∷ 0 ∷ []) $ fjoin ! $ owned ! S.the-row (Is S.the-row) (LL.makes S.the-type S′.the-plain 𝓤 H A) st _ st-fits $ fjoin ! $ owned ! usize (Is usize) (uint-makes 𝓤 H A W w64) levels _ (refl, levels-fits) $ fjoin ! $ owned ! Y.the-row (Is Y.the-row) (LL.makes Y.the-type Y′.the-plain 𝓤 H A) rd _ rd-fits $ fjoin ! $ move ! (9 ∷ 0 ∷ []) $ fjoin ! $ move ! (10 ∷ 0 ∷ []) $ fjoin ! $ nothing ! $ move ! (2 ∷ 0 ∷ []) $ join ! $ move ! (2 ∷ 0 ∷ []) $ join ! $ move ! (2 ∷ 0 ∷ []) $ join ! $ move ! (2 ∷ 0 ∷ []) $ join ! $ move ! (2 ∷ 0 ∷ []) $ join ! $ move ! (2 ∷ 0 ∷ []) $ join ! $ move ! (2 ∷ 0 ∷ []) $ join ! $ move ! (2 ∷ 0 ∷ []) $ join ! $ move ! (2 ∷ 0 ∷ []) $ join ! $ frame ! $ done !) (known y lt)
