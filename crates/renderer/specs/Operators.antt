@@ -8,16 +8,17 @@ use mathlib.Core.List.{List, [], _∷_, _++_, append-assoc, append-nil}
 use mathlib.Core.Option.{Option, some}
 use lib.ListN.{length, take, drop, length-append, length-take, length-drop, take-append-drop, drop-of-length-le, replicate, length-replicate, replicate-append-replicate}
 use lib.Seq.{take-append-add, take-append-le, drop-append-le, take-all, take-at, drop-at}
-use lib.Dec.{T, leb, ltb, eqb, leb→le, nleb→lt, nltb→le, eqb→eq, lit≤}
+use lib.Dec.{T, leb, ltb, eqb, leb→le, nleb→lt, nltb→le, lit≤}
 use lib.Ieee.Fits.{and-i}
 use lib.IntN.{ℤ, pos}
-use Rattle.type2.specs.Number.{zp, zm, Reading, noNumber, readFrom, read, number, numberBytes, inRange}
-use Rattle.type2.specs.Machine.{Kind, moves, lines, curves, flexes, State, Step, fault, stop, on, ended, withOps, withStems, withMask, withEntry, begin, push, Takes, exactly, many, least, spare, settle, stem, bits, bitsOf, noneSet, mask, reach, lastOf, allSmall, draw, andThen, draws, across, upward, escape, operator, step, next, run}
+use Rattle.type2.specs.Number.{Reading, noNumber, readFrom, read, number, numberBytes, inRange}
+use Rattle.type2.specs.Path.{Kind, moves, lines, curves, flexes}
+use Rattle.renderer.specs.Machine.{State, Step, fault, stop, on, ended, withOps, withStems, withMask, withEntry, begin, push, Takes, exactly, many, least, spare, settle, stem, bits, bitsOf, noneSet, mask, reach, lastOf, allSmall, draw, andThen, draws, across, upward, escape, operator, step, next, run}
 use Rattle.type2.specs.Instruction as Instruction
 use Rattle.type2.specs.Instruction.{numbers, fine}
 use Rattle.type2.specs.Bools.{yes, is-lt, not-lt, is-le, not-le, choose, and-both}
-use Rattle.type2.specs.Signed.{same}
+use Rattle.type2.specs.Signed.{zero-is}
 use Rattle.type2.specs.ReadBack.{reads-back, not-empty}
 
 -- ---- bytes that are taken are passed over
 pub skip : (l r : List ℕ) (s : State) → run (l ++ r) (length l) s ≡ run r 0 s
@@ -244,9 +245,6 @@ draws-snoc k K (suc n) l m s t e f d h =
     go (on i x) ih u = ih x u
 
 -- ---- moves, a flex, lines and curves
-pub zero-is : (u : ℤ) → T (Instruction.isZero u) → u ≡ pos 0
-zero-is u t = let e : zp u + zm u ≡ 0 = eqb→eq (zp u + zm u) 0 t in same u (pos 0) (omega arith)
-
 module _ (r : List ℕ) (s : State) (g : Ready s) where
   abbrev pub Goes : Kind → List ℤ → Instruction.Instr → Type 0
   Goes k l i = run (numbers (i .operands) ++ (i .code ++ r)) 0 s ≡ run r 0 (acted k l (settledWith [] s))

@@ -1,5 +1,5 @@
 -- Definitions: the Type 2 machine. Document 01, "Type 2 machine (T2)"; the operators are those of TN#5177, section 4.
--- A program is a list of bytes. Every number is a whole count of 1/65536, as `Number` reads it.
+-- A program is a list of bytes. Every number is a whole count of 1/65536, as crate `type2`'s `Number` reads it.
 use Prim.Native.Nat.{ℕ, zero, suc, _+_, _-_, _/_, _%_, _^_}
 use mathlib.Core.Bool.{Bool, true, false, not, _&&_, _||_, cond}
 use mathlib.Core.List.{List, [], _∷_, _++_}
@@ -7,12 +7,10 @@ use mathlib.Core.Option.{Option, none, some}
 use lib.ListN.{length, take, drop}
 use lib.Dec.{leb, ltb, eqb}
 use lib.IntN.{ℤ, pos, _+ℤ_}
 use Rattle.type2.specs.Number.{zp, zm, Reading, noNumber, number, readFrom}
+use Rattle.type2.specs.Path.{Kind, moves, lines, curves, flexes}
 
 -- ---- "State: point (0, 0), stem count (0), width (none), operands, drawn list and masks (all empty)."
-
-pub data Kind : Type 0 where
-  moves lines curves flexes : Kind
 
 -- "An entry of that list, as of the Type 1 run's, is a kind and the points it goes to, its start not among them." P is a point of either run.
 pub record Entry (P : Type 0) : Type 0 where

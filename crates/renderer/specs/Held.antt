@@ -8,9 +8,10 @@ use mathlib.Core.Option.{Option, none, some}
 use lib.ListN.{length, take, drop, length-append}
 use lib.Dec.{leb, ltb, eqb, ltb→lt}
 use lib.IntN.{ℤ, pos}
 use Rattle.type2.specs.Number.{Reading, noNumber, number, readFrom}
-use Rattle.type2.specs.Machine.{Kind, moves, lines, curves, flexes, State, Step, fault, stop, on, begin, push, joins, exactly, many, settled, settle, after, stem, bits, noneSet, mask, reach, allSmall, draw, andThen, draws, across, upward, escape, operator, step}
+use Rattle.type2.specs.Path.{Kind, moves, lines, curves, flexes}
+use Rattle.renderer.specs.Machine.{State, Step, fault, stop, on, begin, push, joins, exactly, many, settled, settle, after, stem, bits, noneSet, mask, reach, allSmall, draw, andThen, draws, across, upward, escape, operator, step}
 use Rattle.type2.specs.Bools.{choose}
 
 -- no operands are left where the step goes on or ends
 abbrev pub Clears : Step → Type 0
