@@ -125,7 +125,7 @@ fn compare_file(file: &[u8], kind: u64) -> Tally {
     t
 }
 
-// The function's name: the file's, without `.vec`.
+// A file's name without `.vec`.
 fn name(file: &[u8]) -> &[u8] {
     if file.len() < 4 {
         return file;

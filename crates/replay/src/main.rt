@@ -1,5 +1,5 @@
-// Compares our functions with vectors recorded from the Rust (tools/oracle/VECTORS.md has their layout).
-// Prints for each file of vectors the function's name, how many were compared and how many differ, then the sums.
+// Compares our functions with vectors recorded from the Rust, and with Adobe's number examples (tools/oracle/VECTORS.md has their layout).
+// Prints for each file of vectors its name, how many were compared and how many differ, then the sums.
 ghost use mathlib.Core.Path.{_≡_};
 ghost use lib.ListN.{length, replicate};
 ghost use Rattle.type1.specs.Interpret.{outcome, Leaves};
