@@ -19,8 +19,8 @@ use Rattle.type1.specs.Sound.{All, Numbers, Placed}
 use Rattle.type1.specs.Invariants.{run-points, run-placed, run-finite, run-whole}
 use Rattle.type2.specs.Number.{Is}
 use Rattle.type2.specs.Instruction.{numbers, bytes, allFine}
-use Rattle.type2.specs.Machine as Machine
-use Rattle.type2.specs.Machine.{machine}
+use Rattle.renderer.specs.Machine as Machine
+use Rattle.renderer.specs.Machine.{machine}
 use Rattle.type2.specs.Bools.{and-both}
 use Rattle.folding.specs.Folding.{foldedList, foldedGroups, foldedWidth, foldsFinite, finiteList, finiteGroups}
 use Rattle.type1_to_type2.specs.Stems.{stemsOf}

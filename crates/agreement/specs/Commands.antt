@@ -11,7 +11,7 @@ use Rattle.type1.specs.declared.Stem.{Stem}
 use Rattle.type1.specs.State.{Command, move, line, curve, flex, Group}
 use Rattle.type1.specs.Sound.{All, Rising, points}
 use Rattle.type1.specs.Sound as Sound
-use Rattle.type2.specs.Machine.{Mask}
+use Rattle.renderer.specs.Machine.{Mask}
 use Rattle.type2.specs.Bools.{choose, is-eq, not-eq}
 use Rattle.type1_to_type2.specs.Stems.{maskOf}
 use Rattle.type1_to_type2.specs.Emission.{pointsOf, Cmd, hints, shape, startsAt, commands}

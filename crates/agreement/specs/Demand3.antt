@@ -16,8 +16,8 @@ use Rattle.type1.specs.State.{Command, Group}
 use Rattle.type1.specs.Run as Run
 use Rattle.type1.specs.Sound.{All}
 use Rattle.type2.specs.Number.{zp, zm, Is}
-use Rattle.type2.specs.Machine as Machine
-use Rattle.type2.specs.Machine.{Entry, Mask, Step, fault, stop, on, step, ended, machine}
+use Rattle.renderer.specs.Machine as Machine
+use Rattle.renderer.specs.Machine.{Entry, Mask, Step, fault, stop, on, step, ended, machine}
 use Rattle.folding.specs.Folding.{isIdentity, foldedList, foldedStems, foldedGroups, foldedWidth}
 use Rattle.type1_to_type2.specs.Stems.{Declared, declared, stemsOf, maskOf}
 use Rattle.type1_to_type2.specs.Emission.{kindOf, pointsOf}

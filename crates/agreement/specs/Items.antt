@@ -9,12 +9,12 @@ use lib.ListN.{length, length-append}
 use lib.Dec.{T, leb, leb→le, lit≤}
 use lib.IntN.{ℤ}
 use lib.Ieee.Fits.{and-i}
-use Rattle.type2.specs.Machine.{Kind, moves, lines, curves, flexes, State, on, ended, withMask, draws, run}
+use Rattle.type2.specs.Path.{Kind, moves, lines, curves, flexes, most}
+use Rattle.renderer.specs.Machine.{State, on, ended, withMask, draws, run}
 use Rattle.type2.specs.Number.{inRange}
 use Rattle.type2.specs.Instruction.{Instr, instr, numbers, bytes, fine, maskBytes}
 use Rattle.type2.specs.Bools.{choose, and-both}
-use Rattle.type2.specs.Operators.{Ready, settledWith, operands-run, end-run, mask-run, acted, draws-snoc, move-run, flex-run, lines-run, curves-run}
-use Rattle.type2.specs.Path.{most}
+use Rattle.renderer.specs.Operators.{Ready, settledWith, operands-run, end-run, mask-run, acted, draws-snoc, move-run, flex-run, lines-run, curves-run}
 use Rattle.type1_to_type2.specs.Emission.{moveOf, Item, mask, go, Waiting, idle, held, codeOf, sameKind, flush, join, pack}
 use Rattle.agreement.specs.Simulation.{effect, effects, size, Drawable, Accepted, AllAccepted, waits, Held, Waits, Flushed, ItemsRun}
 

@@ -9,14 +9,14 @@ use lib.ListN.{length, length-append}
 use lib.Dec.{T, ltb, ltb→lt, lt→ltb, lit≤}
 use lib.IntN.{ℤ, _+ℤ_}
 use lib.Ieee.Fits.{and-i}
-use Rattle.type2.specs.Machine.{Mask, State, small, allSmall, reach, lastOf, moved, withMask}
+use Rattle.renderer.specs.Machine.{Mask, State, small, allSmall, reach, lastOf, moved, withMask}
 use Rattle.type2.specs.Number.{zp, zm, inRange, units, Is}
 use Rattle.type2.specs.Instruction.{fine}
 use Rattle.type2.specs.Bools.{and-both}
 use Rattle.type2.specs.Signed.{add-bal, one-sided}
-use Rattle.type2.specs.Operators.{acted}
+use Rattle.renderer.specs.Operators.{acted}
 use Rattle.geometry.specs.declared.Point.{Point}
-use Rattle.type2.specs.Machine as Machine
+use Rattle.renderer.specs.Machine as Machine
 use Rattle.type1.specs.declared.Stem.{Stem}
 use Rattle.type1.specs.State.{Command, move, line, curve, flex}
 use Rattle.type1_to_type2.specs.Stems.{maskOf}

@@ -10,12 +10,12 @@ use lib.Dec.{T, leb, eqb, lit≤}
 use lib.IntN.{ℤ, pos}
 use lib.Ieee.{Float, binary64, fits}
 use Rattle.binary64.specs.Value.{mag}
-use Rattle.type2.specs.Machine.{Entry, State, start, withOps, withStems, run}
+use Rattle.renderer.specs.Machine.{Entry, State, start, withOps, withStems, run}
 use Rattle.type2.specs.Number.{Is}
 use Rattle.type2.specs.Instruction.{Instr, instr, bytes, fine, allFine}
 use Rattle.type2.specs.Bools.{and-both}
-use Rattle.type2.specs.Operators.{Ready, settledWith, widthOf, numbers-run, operands-run, stem-run}
-use Rattle.type2.specs.Machine as Machine
+use Rattle.renderer.specs.Operators.{Ready, settledWith, widthOf, numbers-run, operands-run, stem-run}
+use Rattle.renderer.specs.Machine as Machine
 use Rattle.type1.specs.declared.Stem.{Stem}
 use Rattle.type1.specs.State.{plusZero, origin}
 use Rattle.type1_to_type2.specs.Stems.{Declared, stemsOf}

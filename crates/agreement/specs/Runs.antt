@@ -10,9 +10,10 @@ use lib.Dec.{leb, ltb, eqb, eqb→eq}
 use lib.IntN.{ℤ, pos}
 use Rattle.type1.specs.Sound.{All}
 use Rattle.type2.specs.Number.{Reading, noNumber, number, readFrom}
-use Rattle.type2.specs.Machine.{Kind, moves, lines, curves, flexes, State, Step, fault, stop, on, failed, ended, push, joins, exactly, many, settle, after, stem, bits, noneSet, mask, reach, allSmall, draw, andThen, draws, across, upward, escape, operator, step, next, run}
+use Rattle.type2.specs.Path.{Kind, moves, lines, curves, flexes}
+use Rattle.renderer.specs.Machine.{State, Step, fault, stop, on, failed, ended, push, joins, exactly, many, settle, after, stem, bits, noneSet, mask, reach, allSmall, draw, andThen, draws, across, upward, escape, operator, step, next, run}
 use Rattle.type2.specs.Bools.{choose}
-use Rattle.type2.specs.Held.{Holds48, step-holds}
+use Rattle.renderer.specs.Held.{Holds48, step-holds}
 use Rattle.agreement.specs.Demand3.{reached, states}
 use Rattle.agreement.specs.Simulation.{Holding48, Stops}
 

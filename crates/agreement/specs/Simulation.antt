@@ -20,11 +20,11 @@ use Rattle.type1.specs.Run.{Outcome, going, ending}
 use Rattle.type1.specs.State.{Command, Group}
 use Rattle.type2.specs.Number.{zp, zm, units, Is}
 use Rattle.type2.specs.Instruction.{Instr, numbers, bytes, fine, allFine}
-use Rattle.type2.specs.Machine as Machine
-use Rattle.type2.specs.Machine.{Kind, moves, lines, curves, flexes, Entry, Mask, State, Step, fault, stop, on, withMask, withStems, reach, lastOf, allSmall, draws, run, machine, ended}
-use Rattle.type2.specs.Operators.{Ready, settledWith, acted}
+use Rattle.renderer.specs.Machine as Machine
+use Rattle.type2.specs.Path.{Kind, moves, lines, curves, flexes, delta}
+use Rattle.renderer.specs.Machine.{Entry, Mask, State, Step, fault, stop, on, withMask, withStems, reach, lastOf, allSmall, draws, run, machine, ended}
+use Rattle.renderer.specs.Operators.{Ready, settledWith, acted}
 use Rattle.type1_to_type2.specs.Stems.{Declared, stemsOf, maskOf}
-use Rattle.type2.specs.Path.{delta}
 use Rattle.type1_to_type2.specs.Emission.{program, commands, pack, deltas, arrives, pointsOf, Cmd, hints, shape, Item, mask, go, Waiting, idle, held, flush}
 use Rattle.folding.specs.Folding.{foldedList, foldedGroups, foldedWidth, foldsFinite}
 use Rattle.type1_to_type2.specs.Writing as Writing

@@ -27,10 +27,9 @@ use Rattle.type2.specs.Signed.{one-sided}
 use Rattle.type2.specs.Fixed.{units-quantized}
 use Rattle.type2.specs.Pushes.{rounded-is}
 use Rattle.type2.specs.Instruction.{Instr, instr, isZero, moveInstr}
-use Rattle.type2.specs.Machine.{Kind, lines, curves}
+use Rattle.type2.specs.Path.{Kind, lines, curves, reaches, most, takes}
 use Rattle.type1_to_type2.proofs.Writes.{refused-stays, not-before, put-cons, pair-refused, pair-pushed}
 use Rattle.type1_to_type2.specs.declared.Writer.{Writer}
-use Rattle.type2.specs.Path.{reaches, most, takes}
 use Rattle.type1_to_type2.specs.Emission.{Cmd, shape, Item, go, items, codeOf, deltas, arrives, pointsOf, heightOf, kindOf, written}
 use Rattle.type1_to_type2.specs.Writing.{Written, refused, wrote, put, putNumbers}
 use Rattle.type1_to_type2.specs.Streaming.{resumed, resumedItems, resumedAll, pointOf, closed, joined, streamed, putInstr, shares, Puts, Still, Flushed, Batched, Goes, Draws, Ends}

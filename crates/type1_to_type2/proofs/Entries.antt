@@ -20,8 +20,7 @@ use Rattle.type1_to_type2.specs.declared.Writer.{Writer}
 use Rattle.folding.specs.Folding.{foldedCommand}
 use Rattle.type1_to_type2.specs.Stems.{maskOf}
 use Rattle.type2.specs.Number.{units}
-use Rattle.type2.specs.Machine.{lines, curves}
-use Rattle.type2.specs.Path.{takes}
+use Rattle.type2.specs.Path.{lines, curves, takes}
 use Rattle.type1_to_type2.specs.Emission.{Cmd, shape, items, written}
 use Rattle.type1_to_type2.specs.Emission as Emission
 use Rattle.type1_to_type2.specs.Streaming.{pointOf, resumedItems, resumedAll, cmdsIn, pointsIn, foldedPoints, pointCount, Puts, Still, Flushed, Batched, EntryBegins, EntryEnds, Goes, Draws, Writes, Masks}

@@ -13,10 +13,9 @@ use Rattle.type1.specs.declared.Stem.{Stem}
 use Rattle.type1.specs.State.{plusZero, origin}
 use Rattle.type1.specs.Run.{pick}
 use Rattle.type2.specs.Number.{inRange, numberBytes}
-use Rattle.type2.specs.Machine.{Kind, moves, lines, curves, flexes}
+use Rattle.type2.specs.Path.{Kind, moves, lines, curves, flexes, most}
 use Rattle.type2.specs.Instruction.{Instr, instr, maskBytes}
 use Rattle.type1_to_type2.specs.Stems.{Declared, stemsOf}
-use Rattle.type2.specs.Path.{most}
 use Rattle.type1_to_type2.specs.Emission.{Cmd, Item, mask, go, items, Waiting, idle, held, codeOf, sameKind, flush, moveOf, join, pack, pair, secondEdge, stemsFrom, program}
 use Rattle.type1_to_type2.specs.Writing.{Written, refused, wrote, put, putNumbers, write}
 use Rattle.type1_to_type2.specs.Streaming.{putInstr, closed, joined, streamed, stemsWritten}

@@ -11,8 +11,7 @@ use Rattle.geometry.specs.declared.Point.{Point}
 use Rattle.type1.specs.declared.Stem.{Stem}
 use Rattle.type1.specs.State.{Command, move, line, curve, flex, Group, plusZero, origin}
 use Rattle.type2.specs.Number.{quantized, units}
-use Rattle.type2.specs.Machine.{Kind, moves, lines, curves, flexes}
-use Rattle.type2.specs.Path.{delta, reaches, most}
+use Rattle.type2.specs.Path.{Kind, moves, lines, curves, flexes, delta, reaches, most}
 use Rattle.type2.specs.Instruction.{Instr, instr, moveInstr, maskBytes}
 use Rattle.type1_to_type2.specs.Stems.{Declared, stemsOf, maskOf}
 

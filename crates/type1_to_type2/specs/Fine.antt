@@ -14,13 +14,12 @@ use lib.Ieee.Fits.{and-i}
 use Rattle.geometry.specs.declared.Point.{Point}
 use Rattle.type1.specs.declared.Stem.{Stem}
 use Rattle.type1.specs.State.{Command, move, line, curve, flex, Group, plusZero, origin}
-use Rattle.type2.specs.Machine.{Kind, moves, lines, curves, flexes}
+use Rattle.type2.specs.Path.{Kind, moves, lines, curves, flexes, delta, most}
 use Rattle.type2.specs.Number.{quantized, units, numberBytes, inRange}
-use Rattle.type2.specs.Path.{delta, most}
 use Rattle.type2.specs.Casts.{in-range-finite}
 use Rattle.type2.specs.Instruction.{Instr, instr, numbers, bytes, fine, allFine, isZero}
 use Rattle.type2.specs.Bools.{choose, and-both}
-use Rattle.type2.specs.Operators.{zero-is}
+use Rattle.type2.specs.Signed.{zero-is}
 use Rattle.folding.specs.Folding.{finitePoint, finiteCommand, finiteList}
 use Rattle.type1_to_type2.specs.Stems.{Declared, stemsOf}
 use Rattle.type1_to_type2.specs.Emission.{pair, secondEdge, stemsFrom, follow, deltas, arrives, pointsOf, heightOf, Cmd, hints, shape, startsAt, commands, moveOf, Item, mask, go, items, Waiting, idle, held, codeOf, sameKind, flush, join, pack, program}

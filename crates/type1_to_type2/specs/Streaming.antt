@@ -13,13 +13,12 @@ use Rattle.type1.specs.declared.Stem.{Stem}
 use Rattle.type1.specs.State.{Command, plusZero}
 use Rattle.type1.specs.Run.{pick}
 use Rattle.type1.specs.Memory.{word, pointIn, commandIn}
-use Rattle.type2.specs.Machine.{Kind, moves, lines, curves, flexes}
+use Rattle.type2.specs.Path.{Kind, moves, lines, curves, flexes, most, takes}
 use Rattle.type2.specs.Instruction.{Instr, instr, maskBytes}
 use Rattle.type1_to_type2.specs.declared.Writer.{Writer}
 use Rattle.type1_to_type2.specs.declared.StemWriter.{StemWriter}
 use Rattle.folding.specs.Folding.{foldedPoint, foldedCommand}
 use Rattle.type1_to_type2.specs.Stems.{maskOf}
-use Rattle.type2.specs.Path.{most, takes}
 use Rattle.type1_to_type2.specs.Emission.{Cmd, hints, shape, Item, mask, go, items, codeOf, moveOf, pair, secondEdge, deltas, arrives, written}
 use Rattle.type1_to_type2.specs.Writing.{Written, refused, wrote, thenWrite, put, putNumbers}
 

@@ -1,5 +1,4 @@
 pub mod Number
-pub mod Machine
 pub mod Instruction
 pub mod Path
 pub mod Width
@@ -14,5 +13,3 @@ pub mod Casts
 pub mod Put
 pub mod Forms
 pub mod Pushes
-pub mod Operators
-pub mod Held

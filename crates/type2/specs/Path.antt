@@ -1,10 +1,13 @@
--- Definitions: the deltas of a path, and how many lines or curves share an operator. Document 01, "Path"; TN#5177, section 4.1.
+-- Definitions: the kinds of a path's entries, its deltas, and how many lines or curves share an operator. Document 01, "Path"; TN#5177, section 4.1.
 use Prim.Native.Nat.{ℕ, _+_, _*_}
 use mathlib.Core.Bool.{Bool}
 use lib.Dec.{leb}
 use lib.Ieee.{Float, binary64, add, sub}
 use Rattle.type2.specs.Number.{quantized}
-use Rattle.type2.specs.Machine.{Kind, moves, lines, curves, flexes}
+
+-- what an entry of a drawn list is, of the Type 1 run's and of the Type 2 machine's
+pub data Kind : Type 0 where
+  moves lines curves flexes : Kind
 
 -- "A delta runs from the point the renderer will have reached": of one coordinate, with the coordinate reached by it
 abbrev pub delta : Float → Float → Float

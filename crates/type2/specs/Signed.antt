@@ -3,9 +3,10 @@ use mathlib.Core.Path.{_≡_, refl, ap}
 use mathlib.Core.Logic.{_⊎_, inl, inr}
 use Prim.Native.Nat.{ℕ, suc, _+_, _-_}
 use native.Mathlib.Omega.{arith}
-use lib.Dec.{ltb, ltb→lt, nltb→le}
+use lib.Dec.{T, ltb, ltb→lt, nltb→le, eqb→eq}
 use lib.IntN.{ℤ, pos, negsuc, subℕ, _+ℤ_}
 use Rattle.type2.specs.Number.{zp, zm}
+use Rattle.type2.specs.Instruction.{isZero}
 use Rattle.type2.specs.Bools.{choose}
 
 pub same : (a b : ℤ) → zp a + zm b ≡ zm a + zp b → a ≡ b
@@ -29,3 +30,6 @@ add-bal (negsuc a) (negsuc b) = omega arith
 pub one-sided : (a : ℤ) → (zp a ≡ 0) ⊎ (zm a ≡ 0)
 one-sided (pos n) = inr refl
 one-sided (negsuc n) = inl refl
+
+pub zero-is : (u : ℤ) → T (isZero u) → u ≡ pos 0
+zero-is u t = let e : zp u + zm u ≡ 0 = eqb→eq (zp u + zm u) 0 t in same u (pos 0) (omega arith)

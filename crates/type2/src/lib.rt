@@ -7,8 +7,7 @@ ghost use lib.IntN.{subℕ};
 ghost use lib.Ieee.{binary64, sub};
 ghost use Rattle.binary64.specs.Rounding.{roundAway};
 ghost use Rattle.type2.specs.Number.{quantized, numberBytes, gave, put, pushNumber};
-ghost use Rattle.type2.specs.Machine.{lines, curves};
-ghost use Rattle.type2.specs.Path.{reaches, takes};
+ghost use Rattle.type2.specs.Path.{lines, curves, reaches, takes};
 ghost use Rattle.type2.specs.Width.{pushWidth};
 
 // `binary64::round`, at once for a whole number and where there is no tie. Below 2 ^ 51 the sum with

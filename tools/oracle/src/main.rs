@@ -47,7 +47,7 @@ const fn kind(
     }
 }
 
-const KINDS: [Kind; 17] = [
+const KINDS: [Kind; 18] = [
     kind("round", 1, true, doubles::round),
     kind("floor", 2, true, doubles::floor),
     kind("abs", 3, true, doubles::abs),
@@ -65,6 +65,7 @@ const KINDS: [Kind; 17] = [
     kind("convert", 15, true, glyphs::convert),
     kind("finish", 16, true, glyphs::finish),
     kind("closepaths", 17, true, glyphs::closepaths),
+    kind("adobe_numbers", 18, true, numbers::adobe_numbers),
 ];
 
 fn main() {

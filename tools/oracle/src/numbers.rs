@@ -73,6 +73,36 @@ pub fn push_number(r: &mut Random, to: &mut Vectors) {
     }
 }
 
+/// Adobe's examples of numbers, not the Rust's answers: those of TN#5176, table 4, whose forms Type 2 has too,
+/// and both ends of each form of TN#5177, section 3.2. A whole number has a shorter form than 255's.
+const ADOBE: [(f64, &[u8]); 19] = [
+    (0.0, &[0x8b]),
+    (100.0, &[0xef]),
+    (-100.0, &[0x27]),
+    (1000.0, &[0xfa, 0x7c]),
+    (-1000.0, &[0xfe, 0x7c]),
+    (10000.0, &[0x1c, 0x27, 0x10]),
+    (-10000.0, &[0x1c, 0xd8, 0xf0]),
+    (-107.0, &[0x20]),
+    (107.0, &[0xf6]),
+    (108.0, &[0xf7, 0x00]),
+    (1131.0, &[0xfa, 0xff]),
+    (-108.0, &[0xfb, 0x00]),
+    (-1131.0, &[0xfe, 0xff]),
+    (-32768.0, &[0x1c, 0x80, 0x00]),
+    (32767.0, &[0x1c, 0x7f, 0xff]),
+    (-32768.0 + 1.0 / 65536.0, &[0xff, 0x80, 0x00, 0x00, 0x01]),
+    (32768.0 - 1.0 / 65536.0, &[0xff, 0x7f, 0xff, 0xff, 0xff]),
+    (1.0 / 65536.0, &[0xff, 0x00, 0x00, 0x00, 0x01]),
+    (-1.0 / 65536.0, &[0xff, 0xff, 0xff, 0xff, 0xff]),
+];
+
+pub fn adobe_numbers(_: &mut Random, to: &mut Vectors) {
+    for (v, bytes) in ADOBE {
+        to.add(Fields::new().double(v).number(0).string(bytes));
+    }
+}
+
 fn add_widths(to: &mut Vectors, widths: &[f64], scratch: usize, number: u64, pair: (f64, f64)) {
     let fields = Fields::new().size(widths.len()).doubles(widths).size(scratch);
     to.add(fields.number(number).double(pair.0).double(pair.1));

@@ -1,0 +1,4 @@
+pub mod Machine
+pub mod Examples
+pub mod Operators
+pub mod Held
