@@ -1,6 +1,6 @@
 -- Definitions: the charstring cipher. Document 01, "Cipher"; Adobe Type 1 Font Format, chapter 7.
 use Prim.Native.Nat.{ℕ, _+_, _-_, _*_, _/_, _%_, _^_, _<_}
-use mathlib.Core.Bool.{cond}
+use mathlib.Core.Bool.{Bool, cond}
 use mathlib.Core.List.{List, [], _∷_}
 use lib.Bits.{bitXor}
 use lib.Dec.{eqb}
@@ -18,9 +18,17 @@ startKey = 4330
 unfoldable pub step : ℕ → ℕ → ℕ
 step c r = ((c + r) * 52845 + 22719) % 65536
 
+-- what the cipher byte c adds to the key's product: step c r is r × 52845 and this, modulo 65536 (`step-parts`)
+unfoldable pub keyPart : ℕ → ℕ
+keyPart c = (c * 52845 + 22719) % 65536
+
 -- the plain byte of the cipher byte c
 unfoldable pub plainByte : ℕ → ℕ → ℕ
 plainByte c r = bitXor c (r / 256)
+
+-- the plain byte of a charstring's byte c, which may not be encrypted
+abbrev pub byteOf : ℕ → ℕ → Bool → ℕ
+byteOf c key encrypted = cond encrypted (plainByte c key) c
 
 -- all plain bytes, from a key on
 abbrev pub decrypt : ℕ → List ℕ → List ℕ

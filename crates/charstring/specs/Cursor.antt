@@ -8,7 +8,7 @@ use lib.ListN.{length, getD, take, drop}
 use Rattle.charstring.specs.declared.Cursor.{Cursor}
 use Rattle.charstring.specs.declared.Read.{Read}
 use Rattle.charstring.specs.declared.Read.the-variants.{Byte, End}
-use Rattle.charstring.specs.Cipher.{startKey, step, plainByte, decrypt, keyAfter, notEncrypted}
+use Rattle.charstring.specs.Cipher.{startKey, step, byteOf, decrypt, keyAfter, notEncrypted}
 
 -- the plain bytes still to come from a cursor
 unfoldable pub rest : Cursor → List ℕ → List ℕ
@@ -28,7 +28,7 @@ after k code =
 
 -- the plain byte at a cursor that is within the charstring
 unfoldable pub byteAt : Cursor → List ℕ → ℕ
-byteAt k code = cond (k .encrypted) (plainByte (getD code (k .at) 0) (k .key)) (getD code (k .at) 0)
+byteAt k code = byteOf (getD code (k .at) 0) (k .key) (k .encrypted)
 
 -- the first of the bytes still to come, with the cursor after it; the end where none is to come
 abbrev pub firstOf : List ℕ → Cursor → Read

@@ -1,4 +1,6 @@
 -- Laws: the cipher and the cursor. A loop that reads by a cursor consumes the list `rest`, byte by byte.
+--     part-wraps, step-parts         the key step by operations that each wrap
+--     step-key                       a key is below 65536
 --     rest-start                     the bytes still to come from a new cursor are the plain bytes
 --     rest-length, start-within      how many are to come; a new cursor is within the charstring
 --     read-byte, read-end            what was read says of the bytes still to come and of the next cursor
@@ -21,16 +23,21 @@ use lib.ListN.{length, getD, take, drop, length-take, length-drop, drop-of-lengt
 use lib.Seq.{drop-cons, getD-drop}
 use Rattle.charstring.specs.declared.Cursor.{Cursor}
 use Rattle.charstring.specs.declared.Read.the-variants.{Byte, End}
-use Rattle.charstring.specs.Cipher.{Bytes, startKey, step, plainByte, decrypt, keyAfter, notEncrypted, plain}
+use Rattle.charstring.specs.Cipher.{Bytes, startKey, step, keyPart, plainByte, decrypt, keyAfter, notEncrypted, plain}
 use Rattle.charstring.specs.Cursor.{rest, start, after, byteAt, read, Passed}
 
--- the key step by operations that each wrap
-pub step-wraps : (c r : ℕ) → (((c + r) % 65536 * 52845) % 65536 + 22719) % 65536 ≡ step c r
-unfolding step
-step-wraps c r =
-    let s = c + r in
-    let e : s * 52845 + 22719 ≡ 65536 * (s / 65536 * 52845) + (s % 65536 * 52845 + 22719) = omega arith in
-    mod-add-mod (s % 65536 * 52845) 65536 22719 ∙ sym (ap (λ (x : ℕ). x % 65536) e ∙ mul-add-mod-self-left 65536 (s / 65536 * 52845) (s % 65536 * 52845 + 22719))
+-- the key step by operations that each wrap: the byte's part, and the key's product before it is added
+pub part-wraps : (c : ℕ) → ((c * 52845) % 65536 + 22719) % 65536 ≡ keyPart c
+unfolding keyPart
+part-wraps c = mod-add-mod (c * 52845) 65536 22719
+
+pub step-parts : (c r : ℕ) → ((r * 52845) % 65536 + keyPart c) % 65536 ≡ step c r
+unfolding step keyPart
+step-parts c r =
+    let a = r * 52845 in
+    let b = c * 52845 + 22719 in
+    let e : (c + r) * 52845 + 22719 ≡ 65536 * (a / 65536 + b / 65536) + (a % 65536 + b % 65536) = omega arith in
+    sym (ap (λ (x : ℕ). x % 65536) e ∙ mul-add-mod-self-left 65536 (a / 65536 + b / 65536) (a % 65536 + b % 65536))
 
 pub decrypt-length : (r : ℕ) (l : List ℕ) → length (decrypt r l) ≡ length l
 decrypt-length r [] = refl
@@ -172,7 +179,7 @@ plain-none lenIV bytes other h = rw (ne-eqb lenIV notEncrypted other) (drop-of-l
 pub plain-length : (lenIV : ℕ) (bytes : List ℕ) → length (plain lenIV bytes) ≤ length bytes
 plain-length lenIV bytes = rw (← rest-start lenIV bytes) (omega (arith, rest-length (start lenIV bytes) bytes))
 
-step-key : (c r : ℕ) → step c r < 65536
+pub step-key : (c r : ℕ) → step c r < 65536
 unfolding step
 step-key c r = omega arith
 

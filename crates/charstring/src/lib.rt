@@ -3,7 +3,7 @@ ghost use mathlib.Core.Path.{_≡_};
 ghost use Prim.Native.Nat.{_*_, _%_, _^_, _≤_};
 ghost use lib.ListN.{length, take};
 ghost use mathlib.Core.Bool.{true};
-ghost use Rattle.charstring.specs.Cipher.{startKey, step, plainByte, keyAfter};
+ghost use Rattle.charstring.specs.Cipher.{startKey, step, keyPart, plainByte, byteOf, keyAfter};
 ghost use Rattle.charstring.specs.Cursor.{start, rest, read};
 ghost use Rattle.charstring.specs.Charstring.{Copied, decrypted, written};
 
@@ -29,12 +29,18 @@ fn wrapping_mul_u16(a: u16, b: u16) -> u16
     (wide % 0x1_0000) as u16
 }
 
-// The key after the cipher byte c.
+// What the cipher byte c adds to the next key.
+fn key_part(c: u8) -> u16
+    ensures { λ r. ⌜ r ≡ keyPart c ⌝ }
+{
+    std::num::wrapping_add_u16(wrapping_mul_u16(c as u16, KEY_FACTOR), KEY_TERM)
+}
+
+// The key after the cipher byte c. The key is multiplied before the byte's part is added.
 pub fn next_key(c: u8, key: u16) -> u16
     ensures { λ r. ⌜ r ≡ step c key ⌝ }
 {
-    let sum = std::num::wrapping_add_u16(c as u16, key);
-    std::num::wrapping_add_u16(wrapping_mul_u16(sum, KEY_FACTOR), KEY_TERM)
+    std::num::wrapping_add_u16(wrapping_mul_u16(key, KEY_FACTOR), key_part(c))
 }
 
 // The plain byte of the cipher byte c.
@@ -42,6 +48,13 @@ pub fn plain_byte(c: u8, key: u16) -> u8
     ensures { λ r. ⌜ r ≡ plainByte c key ⌝ }
 {
     c ^ ((key / 256) as u8)
+}
+
+// The plain byte of a charstring's byte c, which may not be encrypted.
+pub fn byte_of(c: u8, key: u16, encrypted: bool) -> u8
+    ensures { λ r. ⌜ r ≡ byteOf c key encrypted ⌝ }
+{
+    if encrypted { plain_byte(c, key) } else { c }
 }
 
 // A place in a charstring, with the key there.
@@ -105,8 +118,9 @@ impl Cursor {
         let c = code[at];
         let key = self.key;
         if self.encrypted {
+            let b = plain_byte(c, key);
             Read::Byte(
-                plain_byte(c, key),
+                b,
                 Cursor {
                     at: at + 1,
                     key: next_key(c, key),

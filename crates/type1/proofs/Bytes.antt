@@ -1,22 +1,20 @@
 -- Laws: reading the bytes of a charstring, by a place and a key.
 use mathlib.Core.Path.{_≡_, refl, sym, ap, ap₂, _∙_, subst}
-use Prim.Native.Nat.{ℕ, zero, suc, _+_, _-_, _*_, _/_, _%_, _≤_, _<_, min}
-use native.Mathlib.Nat.{mul-add-mod-self-left}
+use Prim.Native.Nat.{ℕ, zero, suc, _+_, _-_, _*_, _≤_, _<_, min}
 use native.Mathlib.Numerals.{add-one}
 use native.Mathlib.Omega.{arith}
 use mathlib.Core.Bool.{Bool, true, false, cond, true≢false}
 use mathlib.Core.List.{List, [], _∷_, _++_}
 use borrow.Author.Tests.{lt-ltb, le-ltb, ne-eqb, le-leb, lt-leb, eqb-true, eqb-false}
-use lib.Bits.{bitXor}
 use lib.Dec.{T, eqb, ltb, leb, lit≤}
 use lib.IntN.{ℤ}
 use lib.ListN.{length, getD, take, drop, set, length-set, length-take}
 use lib.Seq.{take-suc-set}
 use lib.Arith.{lt-of-le-ne}
 use lib.Ieee.{Float}
-use Rattle.charstring.specs.Cipher.{Bytes, step, plainByte}
+use Rattle.charstring.specs.Cipher.{Bytes, step, byteOf}
 use Rattle.charstring.specs.Cursor.{after, byteAt, rest}
-use Rattle.charstring.specs.Laws.{rest-more, rest-none, rest-length, rest-bytes}
+use Rattle.charstring.specs.Laws.{step-key, rest-more, rest-none, rest-length, rest-bytes}
 use Rattle.type1.specs.declared.St.{St}
 use Rattle.type1.specs.declared.Tok.{Tok}
 use Rattle.type1.specs.declared.Num.{Num}
@@ -32,28 +30,7 @@ use Rattle.type1.specs.Small.{ranOf, withOpened}
 use Rattle.type1.specs.Sound.{Sound, SoundOut, SmallToken}
 use Rattle.type1.specs.SoundLaws.{sound-stable}
 use Rattle.type1.specs.StableLaws.{token-small}
-use Rattle.type1.specs.Reading.{cursorOf, byteOf, placed, tokOf, left, isRead, isQuick, drawnTo, Draws, ReadsAs, readMem, goesOn, Numbered, Operated, Reads}
-
--- ---- keys of which only the last 16 bits count
-pub key-wide : (c key : ℕ) → c < 256 → (key * 52845 + (3954879 - c * 12691)) % 4294967296 % 65536 ≡ step c (key % 65536)
-unfolding step
-key-wide c key h =
-    let a = key * 52845 + (3954879 - c * 12691) in
-    let q = key / 65536 in
-    let r = key % 65536 in
-    let cut : a ≡ 65536 * (65536 * (a / 4294967296)) + a % 4294967296 = omega arith in
-    let same : 65536 * c + a ≡ 65536 * (q * 52845 + 60) + ((c + r) * 52845 + 22719) = omega arith in
-    sym (ap (λ (x : ℕ). x % 65536) cut ∙ mul-add-mod-self-left 65536 (65536 * (a / 4294967296)) (a % 4294967296))
-    ∙ sym (mul-add-mod-self-left 65536 c a)
-    ∙ ap (λ (x : ℕ). x % 65536) same
-    ∙ mul-add-mod-self-left 65536 (q * 52845 + 60) ((c + r) * 52845 + 22719)
-
-pub byte-wide : (c key : ℕ) (e : Bool) → e ≡ true → bitXor c (key / 256 % 256) ≡ byteOf c (key % 65536) e
-unfolding plainByte
-byte-wide c key e h = ap (bitXor c) (let z : key / 256 % 256 ≡ key % 65536 / 256 = omega arith in z) ∙ sym (simp h)
-
-pub tok-short : {t : Tok} {u : St} {next k k′ flow op : ℕ} → t ≡ tokOf u next k flow op → k ≡ k′ → t ≡ tokOf u next k′ flow op
-tok-short {t} {u} {next} {k} {k′} {flow} {op} p q = p ∙ ap (λ (z : ℕ). tokOf u next z flow op) q
+use Rattle.type1.specs.Reading.{cursorOf, placed, tokOf, left, isRead, isQuick, drawnTo, Draws, ReadsAs, readMem, goesOn, Numbered, Operated, Reads}
 
 -- ---- one byte more; where the bytes are not encrypted, the key does not count
 pub left-more : (code : List ℕ) (i key : ℕ) (e : Bool) → i < length code → left code i key e ≡ byteOf (getD code i 0) key e ∷ left code (i + 1) (step (getD code i 0) key) e
@@ -88,27 +65,27 @@ unfolding operatorOf
 operator-high n = simp (le-ltb (256 + n) 256 (omega arith)) (ap ofEscape (let z : 256 + n - 256 ≡ n = omega arith in z))
 
 module _ (code : List ℕ) (i key : ℕ) (e : Bool) (v : ℕ) (st : St) where
-  pub plain-op : (t : Tok) (w : ℕ) → t ≡ tokOf st i (key % 65536) 0 w → w ≡ v → v < 32 → (v ≡ 12 → ⊥) → i ≤ length code → Operated code i key e v st t
-  plain-op t w p q h ne l = subst (Operated code i key e v st) (sym (p ∙ ap (tokOf st i (key % 65536) 0) q)) (record {
-    operator = λ z. (0, token-op v (left code i (key % 65536) e) h ne ∙ ap (operator 0) (sym (operator-low v (omega arith))), refl);
+  pub plain-op : (t : Tok) (w : ℕ) → t ≡ tokOf st i key 0 w → w ≡ v → v < 32 → (v ≡ 12 → ⊥) → i ≤ length code → Operated code i key e v st t
+  plain-op t w p q h ne l = subst (Operated code i key e v st) (sym (p ∙ ap (tokOf st i key 0) q)) (record {
+    operator = λ z. (0, token-op v (left code i key e) h ne ∙ ap (operator 0) (sym (operator-low v (omega arith))), refl);
     cut = λ z. absurd (z refl);
     state = refl;
     on = (omega arith, l);
   })
 
-  pub cut-op : (t : Tok) → t ≡ tokOf st i (key % 65536) 5 0 → v ≡ 12 → length code ≤ i → i ≤ length code → Operated code i key e v st t
+  pub cut-op : (t : Tok) → t ≡ tokOf st i key 5 0 → v ≡ 12 → length code ≤ i → i ≤ length code → Operated code i key e v st t
   cut-op t p h l m = subst (Operated code i key e v st) (sym p) (record {
     operator = λ z. absurd (let y : ⊥ = omega arith in y);
-    cut = λ z. (refl, token-escape v (left code i (key % 65536) e) h ∙ ap tokenEscape (left-none code i (key % 65536) e l));
+    cut = λ z. (refl, token-escape v (left code i key e) h ∙ ap tokenEscape (left-none code i key e l));
     state = refl;
     on = (omega arith, m);
   })
 
-  pub escape-op : (t : Tok) (c b w k : ℕ) → t ≡ tokOf st (i + 1) (k % 65536) 0 (256 + w) → w ≡ b → v ≡ 12 → i < length code → c ≡ getD code i 0 → b ≡ byteOf c (key % 65536) e → k % 65536 ≡ step c (key % 65536) → Operated code i key e v st t
+  pub escape-op : (t : Tok) (c b w k : ℕ) → t ≡ tokOf st (i + 1) k 0 (256 + w) → w ≡ b → v ≡ 12 → i < length code → c ≡ getD code i 0 → b ≡ byteOf c key e → k ≡ step c key → Operated code i key e v st t
   escape-op t c b w k p q h l a d f =
-      let m = left-read code i (key % 65536) e c b (k % 65536) l a d f in
-      subst (Operated code i key e v st) (sym (p ∙ ap (λ (x : ℕ). tokOf st (i + 1) (k % 65536) 0 (256 + x)) q)) (record {
-        operator = λ z. (1, token-escape v (left code i (key % 65536) e) h ∙ ap tokenEscape m ∙ ap (operator 1) (sym (operator-high b)), ap (drop 1) m);
+      let m = left-read code i key e c b k l a d f in
+      subst (Operated code i key e v st) (sym (p ∙ ap (λ (x : ℕ). tokOf st (i + 1) k 0 (256 + x)) q)) (record {
+        operator = λ z. (1, token-escape v (left code i key e) h ∙ ap tokenEscape m ∙ ap (operator 1) (sym (operator-high b)), ap (drop 1) m);
         cut = λ z. absurd (z refl);
         state = refl;
         on = (omega arith, omega arith);
@@ -140,35 +117,35 @@ five-short (a ∷ b ∷ c ∷ d ∷ l) h = absurd (let z : ⊥ = omega arith in 
 
 module _ (code : List ℕ) (i key : ℕ) (e : Bool) (v : ℕ) where
   pub one-num : (x : Float) → x ≡ double (oneByte v) → 32 ≤ v → v < 247 → i ≤ length code → Numbered code i key e v (numOf x i key false)
-  one-num x p h k l = record { number = λ z. (0, oneByte v, token-one v (left code i (key % 65536) e) h k, p, refl); cut = λ z. absurd (true≢false (sym z)); on = (omega arith, l) }
+  one-num x p h k l = record { number = λ z. (0, oneByte v, token-one v (left code i key e) h k, p, refl); cut = λ z. absurd (true≢false (sym z)); on = (omega arith, l) }
 
   pub two-cut : (x : Float) → 247 ≤ v → v < 255 → length code ≤ i → i ≤ length code → Numbered code i key e v (numOf x i key true)
-  two-cut x h k l m = record { number = λ z. absurd (true≢false z); cut = λ z. token-two v (left code i (key % 65536) e) h k ∙ ap (tokenTwo v) (left-none code i (key % 65536) e l); on = (omega arith, m) }
+  two-cut x h k l m = record { number = λ z. absurd (true≢false z); cut = λ z. token-two v (left code i key e) h k ∙ ap (tokenTwo v) (left-none code i key e l); on = (omega arith, m) }
 
-  pub two-num : (x : Float) (c b k : ℕ) → x ≡ double (cond (ltb v 251) (twoBytes v b) (twoBytesBelow v b)) → 247 ≤ v → v < 255 → i < length code → c ≡ getD code i 0 → b ≡ byteOf c (key % 65536) e → k % 65536 ≡ step c (key % 65536) → Numbered code i key e v (numOf x (i + 1) k false)
+  pub two-num : (x : Float) (c b k : ℕ) → x ≡ double (cond (ltb v 251) (twoBytes v b) (twoBytesBelow v b)) → 247 ≤ v → v < 255 → i < length code → c ≡ getD code i 0 → b ≡ byteOf c key e → k ≡ step c key → Numbered code i key e v (numOf x (i + 1) k false)
   two-num x c b k p h g l q r s =
-      let m = left-read code i (key % 65536) e c b (k % 65536) l q r s in
-      record { number = λ z. (1, cond (ltb v 251) (twoBytes v b) (twoBytesBelow v b), token-two v (left code i (key % 65536) e) h g ∙ ap (tokenTwo v) m, p, ap (drop 1) m); cut = λ z. absurd (true≢false (sym z)); on = (omega arith, omega arith) }
+      let m = left-read code i key e c b k l q r s in
+      record { number = λ z. (1, cond (ltb v 251) (twoBytes v b) (twoBytesBelow v b), token-two v (left code i key e) h g ∙ ap (tokenTwo v) m, p, ap (drop 1) m); cut = λ z. absurd (true≢false (sym z)); on = (omega arith, omega arith) }
 
   pub five-cut : (x : Float) → 255 ≤ v → length code - i < 4 → i ≤ length code → Numbered code i key e v (numOf x i key true)
-  five-cut x h l m = record { number = λ z. absurd (true≢false z); cut = λ z. token-five v (left code i (key % 65536) e) h ∙ five-short (left code i (key % 65536) e) (subst (λ (n : ℕ). n < 4) (sym (rest-length (cursorOf i (key % 65536) e) code)) l); on = (omega arith, m) }
+  five-cut x h l m = record { number = λ z. absurd (true≢false z); cut = λ z. token-five v (left code i key e) h ∙ five-short (left code i key e) (subst (λ (n : ℕ). n < 4) (sym (rest-length (cursorOf i key e) code)) l); on = (omega arith, m) }
 
   pub five-num : (x : Float) (c1 c2 c3 c4 b1 b2 b3 b4 k2 k3 k4 k5 : ℕ) → x ≡ double (fourBytes b1 b2 b3 b4) → 255 ≤ v → 4 ≤ length code - i
       → c1 ≡ getD code i 0 → c2 ≡ getD code (i + 1) 0 → c3 ≡ getD code (i + 2) 0 → c4 ≡ getD code (i + 3) 0
-      → b1 ≡ byteOf c1 (key % 65536) e → b2 ≡ byteOf c2 (k2 % 65536) e → b3 ≡ byteOf c3 (k3 % 65536) e → b4 ≡ byteOf c4 (k4 % 65536) e
-      → k2 % 65536 ≡ step c1 (key % 65536) → k3 % 65536 ≡ step c2 (k2 % 65536) → k4 % 65536 ≡ step c3 (k3 % 65536) → k5 % 65536 ≡ step c4 (k4 % 65536)
+      → b1 ≡ byteOf c1 key e → b2 ≡ byteOf c2 k2 e → b3 ≡ byteOf c3 k3 e → b4 ≡ byteOf c4 k4 e
+      → k2 ≡ step c1 key → k3 ≡ step c2 k2 → k4 ≡ step c3 k3 → k5 ≡ step c4 k4
       → Numbered code i key e v (numOf x (i + 4) k5 false)
   five-num x c1 c2 c3 c4 b1 b2 b3 b4 k2 k3 k4 k5 p h l q1 q2 q3 q4 r1 r2 r3 r4 s2 s3 s4 s5 =
-      let m1 = left-read code i (key % 65536) e c1 b1 (k2 % 65536) (omega arith) q1 r1 s2 in
-      let m2 = left-read code (i + 1) (k2 % 65536) e c2 b2 (k3 % 65536) (omega arith) q2 r2 s3 in
-      let m3 = left-read code (i + 2) (k3 % 65536) e c3 b3 (k4 % 65536) (omega arith) q3 r3 s4 in
-      let m4 = left-read code (i + 3) (k4 % 65536) e c4 b4 (k5 % 65536) (omega arith) q4 r4 s5 in
+      let m1 = left-read code i key e c1 b1 k2 (omega arith) q1 r1 s2 in
+      let m2 = left-read code (i + 1) k2 e c2 b2 k3 (omega arith) q2 r2 s3 in
+      let m3 = left-read code (i + 2) k3 e c3 b3 k4 (omega arith) q3 r3 s4 in
+      let m4 = left-read code (i + 3) k4 e c4 b4 k5 (omega arith) q4 r4 s5 in
       let a2 : i + 1 + 1 ≡ i + 2 = omega arith in
       let a3 : i + 2 + 1 ≡ i + 3 = omega arith in
       let a4 : i + 3 + 1 ≡ i + 4 = omega arith in
-      let m : left code i (key % 65536) e ≡ b1 ∷ b2 ∷ b3 ∷ b4 ∷ left code (i + 4) (k5 % 65536) e =
-      m1 ∙ ap (λ (r : List ℕ). b1 ∷ r) (m2 ∙ ap (λ (r : List ℕ). b2 ∷ r) (ap (λ (j : ℕ). left code j (k3 % 65536) e) a2 ∙ m3 ∙ ap (λ (r : List ℕ). b3 ∷ r) (ap (λ (j : ℕ). left code j (k4 % 65536) e) a3 ∙ m4 ∙ ap (λ (r : List ℕ). b4 ∷ r) (ap (λ (j : ℕ). left code j (k5 % 65536) e) a4)))) in
-      record { number = λ z. (4, fourBytes b1 b2 b3 b4, token-five v (left code i (key % 65536) e) h ∙ ap tokenFive m, p, ap (drop 4) m); cut = λ z. absurd (true≢false (sym z)); on = (omega arith, omega arith) }
+      let m : left code i key e ≡ b1 ∷ b2 ∷ b3 ∷ b4 ∷ left code (i + 4) k5 e =
+      m1 ∙ ap (λ (r : List ℕ). b1 ∷ r) (m2 ∙ ap (λ (r : List ℕ). b2 ∷ r) (ap (λ (j : ℕ). left code j k3 e) a2 ∙ m3 ∙ ap (λ (r : List ℕ). b3 ∷ r) (ap (λ (j : ℕ). left code j k4 e) a3 ∙ m4 ∙ ap (λ (r : List ℕ). b4 ∷ r) (ap (λ (j : ℕ). left code j k5 e) a4)))) in
+      record { number = λ z. (4, fourBytes b1 b2 b3 b4, token-five v (left code i key e) h ∙ ap tokenFive m, p, ap (drop 4) m); cut = λ z. absurd (true≢false (sym z)); on = (omega arith, omega arith) }
 
 -- ---- a run of bytes
 skip : (lim : Limits) (f : Operator → State → Outcome) (l : List ℕ) (m : ℕ) (s : State) → runBytes lim f l m s ≡ runBytes lim f (drop m l) 0 s
@@ -203,8 +180,9 @@ nine-is = refl
 pub record Going (code : List ℕ) (from start : ℕ) (e : Bool) (st : St) (ops₀ : List Float) (cmds₀ : List ℕ) (ops : List Float) (cmds : List ℕ) (i key n : ℕ) (x y : Float) (k : ℕ) (o : Bool) : Type 0 where
   pub fit : (m : Mem) → Fit st (readMem ops₀ cmds₀ m) → Fit (placed n x y k (withOpened o st)) (readMem ops cmds m)
   pub same : (m : Mem) (f : Operator → State → Outcome) → Fit st (readMem ops₀ cmds₀ m) → ReadsAs (within (length (m .stems)) (length cmds₀)) f
-      → runBytes (within (length (m .stems)) (length cmds₀)) f (left code from start e) 0 (abs st (readMem ops₀ cmds₀ m)) ≡ runBytes (within (length (m .stems)) (length cmds₀)) f (left code i (key % 65536) e) 0 (abs (placed n x y k (withOpened o st)) (readMem ops cmds m))
+      → runBytes (within (length (m .stems)) (length cmds₀)) f (left code from start e) 0 (abs st (readMem ops₀ cmds₀ m)) ≡ runBytes (within (length (m .stems)) (length cmds₀)) f (left code i key e) 0 (abs (placed n x y k (withOpened o st)) (readMem ops cmds m))
   pub sound : (m : Mem) → Fit st (readMem ops₀ cmds₀ m) → Bytes code → Sound (abs st (readMem ops₀ cmds₀ m)) → Sound (abs (placed n x y k (withOpened o st)) (readMem ops cmds m))
+  pub short : key < 65536
   pub few : n ≤ 256
   pub space : 14 * k ≤ length cmds
   pub inside : i ≤ length code
@@ -222,25 +200,28 @@ module _ (code : List ℕ) (from start : ℕ) (e : Bool) (st : St) (ops₀ : Lis
   limits m = within (length (m .stems)) (length cmds₀)
 
   -- one token
-  module _ (lim : Limits) (f : Operator → State → Outcome) (s : State) (b : ℕ) (l : List ℕ) (is : left code i (key % 65536) e ≡ b ∷ l) where
-    one : runBytes lim f (left code i (key % 65536) e) 0 s ≡ consume lim f (token b l) s (runBytes lim f l)
+  module _ (lim : Limits) (f : Operator → State → Outcome) (s : State) (b : ℕ) (l : List ℕ) (is : left code i key e ≡ b ∷ l) where
+    one : runBytes lim f (left code i key e) 0 s ≡ consume lim f (token b l) s (runBytes lim f l)
     unfolding runBytes
     one = ap (λ (z : List ℕ). runBytes lim f z 0 s) is
 
-  module _ (c v k′ : ℕ) (h : i < length code) (p : c ≡ getD code i 0) (q : v ≡ byteOf c (key % 65536) e) (q′ : k′ % 65536 ≡ step c (key % 65536)) where
+  module _ (c v k′ : ℕ) (h : i < length code) (p : c ≡ getD code i 0) (q : v ≡ byteOf c key e) (q′ : k′ ≡ step c key) where
     abbrev after-it : List ℕ
-    after-it = left code (i + 1) (k′ % 65536) e
+    after-it = left code (i + 1) k′ e
 
     -- the bytes from here on, by the next token
-    next : (m : Mem) (f : Operator → State → Outcome) → runBytes (limits m) f (left code i (key % 65536) e) 0 (state m) ≡ consume (limits m) f (token v after-it) (state m) (runBytes (limits m) f after-it)
-    next m f = one (limits m) f (state m) v after-it (left-read code i (key % 65536) e c v (k′ % 65536) h p q q′)
+    next : (m : Mem) (f : Operator → State → Outcome) → runBytes (limits m) f (left code i key e) 0 (state m) ≡ consume (limits m) f (token v after-it) (state m) (runBytes (limits m) f after-it)
+    next m f = one (limits m) f (state m) v after-it (left-read code i key e c v k′ h p q q′)
+
+    short-after : k′ < 65536
+    short-after = subst (λ (z : ℕ). z < 65536) (sym q′) (step-key c key)
 
     -- the first byte, and the rest, are bytes
     byte-here : Bytes code → v < 256
-    byte-here b = subst Bytes (left-read code i (key % 65536) e c v (k′ % 65536) h p q q′) (rest-bytes (cursorOf i (key % 65536) e) code (omega arith) b) 0
+    byte-here b = subst Bytes (left-read code i key e c v k′ h p q q′) (rest-bytes (cursorOf i key e) code (G .short) b) 0
 
     bytes-after : Bytes code → Bytes after-it
-    bytes-after b = rest-bytes (cursorOf (i + 1) (k′ % 65536) e) code (omega arith) b
+    bytes-after b = rest-bytes (cursorOf (i + 1) k′ e) code short-after b
 
     pub at-operator : (u : St) (t : Tok) (d : List ℕ) → d ≡ cmds → u ≡ here → Operated code (i + 1) k′ e v u t → Reads code from start e st ops₀ cmds₀ t ops d
     at-operator u t d ed eu O = subst (λ (z : List ℕ). Reads code from start e st ops₀ cmds₀ t ops z) (sym ed) (record {
@@ -266,7 +247,7 @@ module _ (code : List ℕ) (from start : ℕ) (e : Bool) (st : St) (ops₀ : Lis
             ap (λ (a : Token). consume (limits m) f a (state m) (runBytes (limits m) f after-it)) (w .1) ∙ sym (simp (w .0))
 
     -- an operator was done
-    did-so : (m : Mem) (f : Operator → State → Outcome) (op : Operator) → ReadsAs (limits m) f → T (isRead op) → token v after-it ≡ operator 0 op → runBytes (limits m) f (left code i (key % 65536) e) 0 (state m) ≡ andThen (operate (limits m) (refused 6) op (state m)) (runBytes (limits m) f after-it 0)
+    did-so : (m : Mem) (f : Operator → State → Outcome) (op : Operator) → ReadsAs (limits m) f → T (isRead op) → token v after-it ≡ operator 0 op → runBytes (limits m) f (left code i key e) 0 (state m) ≡ andThen (operate (limits m) (refused 6) op (state m)) (runBytes (limits m) f after-it 0)
     did-so m f op w r is = next m f ∙ ap (λ (a : Token). consume (limits m) f a (state m) (runBytes (limits m) f after-it)) is ∙ ap (λ (a : Outcome). andThen a (runBytes (limits m) f after-it 0)) (w op (state m) r)
 
     -- a line or a curve was listed
@@ -287,6 +268,7 @@ module _ (code : List ℕ) (from start : ℕ) (e : Bool) (st : St) (ops₀ : Lis
         same = λ m f F w.
             G .same m f F w ∙ did-so m f (operatorOf v) w (D .drawn z .0) (token-op v after-it low (D .drawn z .1) ∙ ap (operator 0) (sym (operator-low v (omega arith))))
             ∙ after-did m (runBytes (limits m) f after-it 0) F .0;
+        short = short-after;
         few = lit≤ tt;
         space = (let a = D .space z in let b = D .same in omega arith);
         inside = omega arith;
@@ -323,6 +305,7 @@ module _ (code : List ℕ) (from start : ℕ) (e : Bool) (st : St) (ops₀ : Lis
         same = λ m f F w.
             G .same m f F w ∙ did-so m f closepath w tt (token-op v after-it (omega arith) (λ t. let z : ⊥ = omega arith in z) ∙ ap (operator 0) (ap ofByte nine ∙ nine-is))
             ∙ ap (λ (a : Outcome). andThen a (runBytes (limits m) f after-it 0)) (closed-is m);
+        short = short-after;
         few = lit≤ tt;
         space = G .space;
         inside = omega arith;
@@ -332,8 +315,8 @@ module _ (code : List ℕ) (from start : ℕ) (e : Bool) (st : St) (ops₀ : Lis
 
     module _ (r : Num) (N : Numbered code (i + 1) k′ e v r) where
       -- a cut number
-      pub at-cut : (u : St) (t : Tok) → r .cut ≡ true → u ≡ here → t ≡ tokOf u (i + 1) (k′ % 65536) 5 0 → Reads code from start e st ops₀ cmds₀ t ops cmds
-      at-cut u t z eu et = subst (λ (a : Tok). Reads code from start e st ops₀ cmds₀ a ops cmds) (sym (et ∙ ap (λ (a : St). tokOf a (i + 1) (k′ % 65536) 5 0) eu)) (record {
+      pub at-cut : (u : St) (t : Tok) → r .cut ≡ true → u ≡ here → t ≡ tokOf u (i + 1) k′ 5 0 → Reads code from start e st ops₀ cmds₀ t ops cmds
+      at-cut u t z eu et = subst (λ (a : Tok). Reads code from start e st ops₀ cmds₀ a ops cmds) (sym (et ∙ ap (λ (a : St). tokOf a (i + 1) k′ 5 0) eu)) (record {
         fit = G .fit;
         sound = G .sound;
         same = λ m f F w. G .same m f F w ∙ next m f ∙ ap (λ (a : Token). consume (limits m) f a (state m) (runBytes (limits m) f after-it)) (N .cut z);
@@ -356,10 +339,10 @@ module _ (code : List ℕ) (from start : ℕ) (e : Bool) (st : St) (ops₀ : Lis
           → consume (limits m) f (number j z) (state m) (runBytes (limits m) f after-it) ≡ andThen (check b 15 (going (withOperands (take n ops ++ (r .x ∷ [])) (state m)))) (runBytes (limits m) f after-it j)
       pushing m f j z w b is eq = ap (λ (a : Outcome). andThen a (runBytes (limits m) f after-it j)) (push-is m z w b is eq)
 
-      pub at-full : (u : St) (t : Tok) → r .cut ≡ false → n ≡ 256 → u ≡ here → t ≡ tokOf u (i + 1) (k′ % 65536) 15 0 → Reads code from start e st ops₀ cmds₀ t ops cmds
+      pub at-full : (u : St) (t : Tok) → r .cut ≡ false → n ≡ 256 → u ≡ here → t ≡ tokOf u (i + 1) k′ 15 0 → Reads code from start e st ops₀ cmds₀ t ops cmds
       at-full u t z full eu et =
           let (j, w, tk, is, dr) = N .number z in
-          subst (λ (a : Tok). Reads code from start e st ops₀ cmds₀ a ops cmds) (sym (et ∙ ap (λ (a : St). tokOf a (i + 1) (k′ % 65536) 15 0) eu)) (record {
+          subst (λ (a : Tok). Reads code from start e st ops₀ cmds₀ a ops cmds) (sym (et ∙ ap (λ (a : St). tokOf a (i + 1) k′ 15 0) eu)) (record {
             fit = G .fit;
             sound = G .sound;
             same = λ m f F W. G .same m f F W ∙ next m f ∙ ap (λ (a : Token). consume (limits m) f a (state m) (runBytes (limits m) f after-it)) tk ∙ pushing m f j w (G .fit m F .ops) false (lt-leb (n + 1) 256 (omega arith)) is;
@@ -389,9 +372,9 @@ module _ (code : List ℕ) (from start : ℕ) (e : Bool) (st : St) (ops₀ : Lis
         last = F .last;
       }
 
-      pub pushed : r .cut ≡ false → (n ≡ 256 → ⊥) → Going code from start e st ops₀ cmds₀ (set ops n (r .x)) cmds (r .next) (r .key) (n + 1) x y k o
+      pub pushed : r .cut ≡ false → (n ≡ 256 → ⊥) → r .key < 65536 → Going code from start e st ops₀ cmds₀ (set ops n (r .x)) cmds (r .next) (r .key) (n + 1) x y k o
       unfolding abs
-      pushed z full =
+      pushed z full small =
           let (j, w, tk, is, dr) = N .number z in
           record {
             fit = λ m F. more-fit m below (G .fit m F);
@@ -403,6 +386,7 @@ module _ (code : List ℕ) (from start : ℕ) (e : Bool) (st : St) (ops₀ : Lis
                 ∙ pushing m f j w (G .fit m F .ops) true (le-leb (n + 1) 256 below) is
                 ∙ skip (limits m) f after-it j (withOperands (take n ops ++ (r .x ∷ [])) (state m))
                 ∙ ap₂ (λ (a : List ℕ) (d : State). runBytes (limits m) f a 0 d) dr (more-state m (let a = G .fit m F .ops in let b = below in omega arith));
+            short = small;
             few = below;
             space = G .space;
             inside = N .on .1;
@@ -414,16 +398,16 @@ module _ (code : List ℕ) (from start : ℕ) (e : Bool) (st : St) (ops₀ : Lis
           below = let g = G .few in let y = lt-of-le-ne g full in omega arith
 
   -- the end of the bytes
-  pub at-end : (u : St) (t : Tok) → length code ≤ i → from < length code → u ≡ here → t ≡ tokOf u i (key % 65536) 1 0 → Reads code from start e st ops₀ cmds₀ t ops cmds
+  pub at-end : (u : St) (t : Tok) → length code ≤ i → from < length code → u ≡ here → t ≡ tokOf u i key 1 0 → Reads code from start e st ops₀ cmds₀ t ops cmds
   unfolding runBytes
-  at-end u t h h' eu et = subst (λ (a : Tok). Reads code from start e st ops₀ cmds₀ a ops cmds) (sym (et ∙ ap (λ (a : St). tokOf a i (key % 65536) 1 0) eu)) (record {
+  at-end u t h h' eu et = subst (λ (a : Tok). Reads code from start e st ops₀ cmds₀ a ops cmds) (sym (et ∙ ap (λ (a : St). tokOf a i key 1 0) eu)) (record {
     fit = G .fit;
     sound = G .sound;
-    same = λ m f F w. G .same m f F w ∙ ap (λ (a : List ℕ). runBytes (limits m) f a 0 (state m)) (left-none code i (key % 65536) e h);
+    same = λ m f F w. G .same m f F w ∙ ap (λ (a : List ℕ). runBytes (limits m) f a 0 (state m)) (left-none code i key e h);
     on = omega arith;
     whole = G .whole;
     number = λ a b. absurd (b refl);
   })
 
 pub begins : (code : List ℕ) (from start : ℕ) (e : Bool) (st : St) (ops : List Float) (cmds : List ℕ) → start < 65536 → from < length code → st .operands ≤ 256 → 14 * st .entries ≤ length cmds → Going code from start e st ops cmds ops cmds from start (st .operands) (st .x) (st .y) (st .entries) (st .opened)
-begins code from start e st ops cmds q h n k = record { fit = λ m F. F; sound = λ m F b s. s; same = λ m f F w. ap (λ (a : ℕ). runBytes (within (length (m .stems)) (length cmds)) f (left code from a e) 0 (abs st (readMem ops cmds m))) (let z : start ≡ start % 65536 = omega arith in z); few = n; space = k; inside = omega arith; on = omega arith; whole = refl }
+begins code from start e st ops cmds q h n k = record { fit = λ m F. F; sound = λ m F b s. s; same = λ m f F w. refl; short = q; few = n; space = k; inside = omega arith; on = omega arith; whole = refl }

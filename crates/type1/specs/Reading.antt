@@ -1,5 +1,5 @@
 -- Definitions: what the functions that read bytes and call bodies say of the run (document 01, "Reading", "Bytes run"; T1, 6.2 and 6.4).
-use Prim.Native.Nat.{ℕ, _+_, _-_, _*_, _%_, _≤_, _<_}
+use Prim.Native.Nat.{ℕ, _+_, _-_, _*_, _≤_, _<_}
 use mathlib.Core.Path.{_≡_}
 use mathlib.Core.Bool.{Bool, true, false, cond}
 use mathlib.Core.List.{List}
@@ -8,7 +8,7 @@ use lib.ListN.{length, drop}
 use lib.IntN.{ℤ}
 use lib.Ieee.{Float}
 use Rattle.charstring.specs.declared.Cursor.{Cursor}
-use Rattle.charstring.specs.Cipher.{Bytes, plainByte}
+use Rattle.charstring.specs.Cipher.{Bytes}
 use Rattle.charstring.specs.Cursor.{rest}
 use Rattle.bank.specs.Bank.{bytesAt, found}
 use Rattle.type1.specs.declared.St.{St}
@@ -29,10 +29,6 @@ use Rattle.type1.specs.Sound.{Sound}
 abbrev pub cursorOf : ℕ → ℕ → Bool → Cursor
 cursorOf at key encrypted = record { at = at; key = key; encrypted = encrypted }
 
--- the plain byte of the byte c
-abbrev pub byteOf : ℕ → ℕ → Bool → ℕ
-byteOf c key encrypted = cond encrypted (plainByte c key) c
-
 -- the state with another number of operands
 abbrev pub withCount : ℕ → St → St
 withCount n t = record { operands = n; postscript = t .postscript; x = t .x; y = t .y; opened = t .opened; flexing = t .flexing; points = t .points; hints = t .hints; changed = t .changed; last = t .last; groups = t .groups; stems = t .stems; entries = t .entries; divided = t .divided; ran = t .ran }
@@ -48,16 +44,16 @@ tokOf t next key flow op = record { st = t; next = next; key = key; flow = flow;
 abbrev pub left : List ℕ → ℕ → ℕ → Bool → List ℕ
 left code at key encrypted = rest (cursorOf at key encrypted) code
 
--- the number that starts with the byte v, with the bytes from i on after it; of a key only the last 16 bits count
+-- the number that starts with the byte v, with the bytes from i on after it
 pub record Numbered (code : List ℕ) (i key : ℕ) (encrypted : Bool) (v : ℕ) (r : Num) : Type 0 where
-  pub number : r .cut ≡ false → (m : ℕ) × (z : ℤ) × (token v (left code i (key % 65536) encrypted) ≡ number m z) × (r .x ≡ double z) × (drop m (left code i (key % 65536) encrypted) ≡ left code (r .next) (r .key % 65536) encrypted)
-  pub cut : r .cut ≡ true → token v (left code i (key % 65536) encrypted) ≡ cut
+  pub number : r .cut ≡ false → (m : ℕ) × (z : ℤ) × (token v (left code i key encrypted) ≡ number m z) × (r .x ≡ double z) × (drop m (left code i key encrypted) ≡ left code (r .next) (r .key) encrypted)
+  pub cut : r .cut ≡ true → token v (left code i key encrypted) ≡ cut
   pub on : (i ≤ r .next) × (r .next ≤ length code)
 
 -- the operator that starts with the byte v, likewise
 pub record Operated (code : List ℕ) (i key : ℕ) (encrypted : Bool) (v : ℕ) (st : St) (t : Tok) : Type 0 where
-  pub operator : t .flow ≡ 0 → (m : ℕ) × (token v (left code i (key % 65536) encrypted) ≡ operator m (operatorOf (t .op))) × (drop m (left code i (key % 65536) encrypted) ≡ left code (t .next) (t .key) encrypted)
-  pub cut : (t .flow ≡ 0 → ⊥) → (t .flow ≡ 5) × (token v (left code i (key % 65536) encrypted) ≡ cut)
+  pub operator : t .flow ≡ 0 → (m : ℕ) × (token v (left code i key encrypted) ≡ operator m (operatorOf (t .op))) × (drop m (left code i key encrypted) ≡ left code (t .next) (t .key) encrypted)
+  pub cut : (t .flow ≡ 0 → ⊥) → (t .flow ≡ 5) × (token v (left code i key encrypted) ≡ cut)
   pub state : t .st ≡ st
   pub on : (i ≤ t .next) × (t .next ≤ length code)
 

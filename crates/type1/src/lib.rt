@@ -10,7 +10,7 @@ ghost use lib.Seq.{paste};
 ghost use lib.Dec.{T, eqb, ltb};
 ghost use lib.Ieee.{Float, nan};
 ghost use lib.Ieee.Scale.{finite};
-ghost use Rattle.charstring.specs.Cipher.{step, maxCharstringBytes};
+ghost use Rattle.charstring.specs.Cipher.{maxCharstringBytes};
 ghost use Rattle.charstring.specs.Cursor.{start};
 ghost use Rattle.bank.specs.Bank.{Valid};
 ghost use Rattle.type1.specs.declared.Reading.{Reading};
@@ -20,7 +20,7 @@ ghost use Rattle.type1.specs.Operator as Op;
 ghost use Rattle.type1.specs.Run as Run;
 ghost use Rattle.type1.specs.Run.{pick, readingOf, within, stemOf, pointAt, isFinite, operate};
 ghost use Rattle.type1.specs.Memory.{Mem, stemAt, stemsAt, Bounds, Good, Holds, Meets, operatorOf, withOps, withPs, withCells, withCmds, withHints, withPath, after, Told, Plain, Path, pointCommand};
-ghost use Rattle.type1.specs.Reading.{cursorOf, byteOf, withCount, placed, tokOf, Numbered, Operated, Stores, Adds, Draws, isQuick, Reads, Calls};
+ghost use Rattle.type1.specs.Reading.{cursorOf, withCount, placed, tokOf, Numbered, Operated, Stores, Adds, Draws, isQuick, Reads, Calls};
 ghost use Rattle.type1.specs.Small as Small;
 ghost use Rattle.type1.specs.Cycle.{memOf, Ready, opD, runD};
 ghost use Rattle.type1.specs.Entry.{zeroSt, startFlow, numberOf, answerOf, Cleared};
@@ -136,31 +136,6 @@ fn wider(b: u8) -> u64
     b as u64
 }
 
-// The plain byte of the byte c. Only the last 16 bits of a key count.
-fn plain_of(c: u8, key: u32, encrypted: bool) -> u8
-    ensures { λ r. ⌜ r ≡ byteOf c (key % 65536) encrypted ⌝ }
-{
-    if encrypted {
-        c ^ ((key / 256 % 256) as u8)
-    } else {
-        c
-    }
-}
-
-// The key after the byte c: 12691 is 65536 - 52845, and 3954879 is 22719 + 60 * 65536. The key's product stands apart, so that it need not wait for the byte.
-fn key_after(c: u8, key: u32) -> u32
-    ensures { λ r. ⌜ r % 65536 ≡ step c (key % 65536) ⌝ }
-{
-    (((key as u64) * 52845 + (3954879 - (c as u64) * 12691)) % 4294967296) as u32
-}
-
-// The last 16 bits of a key.
-fn short(key: u32) -> u16
-    ensures { λ r. ⌜ r ≡ key % 65536 ⌝ }
-{
-    (key % 65536) as u16
-}
-
 // 32 to 246.
 fn one_byte(v: u8) -> f64
     ensures { λ r. ⌜ r ≡ Number.double (Number.oneByte v) ⌝ }
@@ -219,12 +194,12 @@ fn found(st: St, next: usize, key: u16, flow: u8, op: u16) -> Tok
 struct Num {
     x: f64,
     next: usize,
-    key: u32,
+    key: u16,
     cut: bool,
 }
 
 // The number whose first byte v was read, with the bytes from a place on.
-fn number_at(code: &[u8], i: usize, key: u32, encrypted: bool, v: u8) -> Num
+fn number_at(code: &[u8], i: usize, key: u16, encrypted: bool, v: u8) -> Num
     requires { ⌜ (32 ≤ v) × (i ≤ length (now code)) ⌝ }
     ensures { λ r. ⌜ Numbered (now (code .entry)) i key encrypted v r ⌝ }
 {
@@ -247,9 +222,9 @@ fn number_at(code: &[u8], i: usize, key: u32, encrypted: bool, v: u8) -> Num
         }
         let c = code[i];
         return Num {
-            x: two_bytes(v, plain_of(c, key, encrypted)),
+            x: two_bytes(v, charstring::byte_of(c, key, encrypted)),
             next: i + 1,
-            key: key_after(c, key),
+            key: charstring::next_key(c, key),
             cut: false,
         };
     }
@@ -265,37 +240,37 @@ fn number_at(code: &[u8], i: usize, key: u32, encrypted: bool, v: u8) -> Num
     let c2 = code[i + 1];
     let c3 = code[i + 2];
     let c4 = code[i + 3];
-    let k2 = key_after(c1, key);
-    let k3 = key_after(c2, k2);
-    let k4 = key_after(c3, k3);
+    let k2 = charstring::next_key(c1, key);
+    let k3 = charstring::next_key(c2, k2);
+    let k4 = charstring::next_key(c3, k3);
     let x = four_bytes(
-        plain_of(c1, key, encrypted),
-        plain_of(c2, k2, encrypted),
-        plain_of(c3, k3, encrypted),
-        plain_of(c4, k4, encrypted),
+        charstring::byte_of(c1, key, encrypted),
+        charstring::byte_of(c2, k2, encrypted),
+        charstring::byte_of(c3, k3, encrypted),
+        charstring::byte_of(c4, k4, encrypted),
     );
     Num {
         x,
         next: i + 4,
-        key: key_after(c4, k4),
+        key: charstring::next_key(c4, k4),
         cut: false,
     }
 }
 
 // The operator whose first byte v was read, with the bytes from a place on.
-fn operator_at(code: &[u8], i: usize, key: u32, encrypted: bool, v: u8, st: St) -> Tok
+fn operator_at(code: &[u8], i: usize, key: u16, encrypted: bool, v: u8, st: St) -> Tok
     requires { ⌜ (v < 32) × (i ≤ length (now code)) ⌝ }
     ensures { λ r. ⌜ Operated (now (code .entry)) i key encrypted v st r ⌝ }
 {
     if v != 12 {
-        return found(st, i, short(key), 0, wide(v));
+        return found(st, i, key, 0, wide(v));
     }
     if code.len() - i < 1 {
-        return found(st, i, short(key), 5, 0);
+        return found(st, i, key, 5, 0);
     }
     let c = code[i];
-    let e = plain_of(c, key, encrypted);
-    found(st, i + 1, short(key_after(c, key)), 0, 256 + wide(e))
+    let e = charstring::byte_of(c, key, encrypted);
+    found(st, i + 1, charstring::next_key(c, key), 0, 256 + wide(e))
 }
 
 // ---- lines and curves of an open subpath, drawn as they are read
@@ -524,7 +499,7 @@ fn token(
     ensures { λ r. ⌜ Reads (now (code .entry)) from start encrypted st (now (ops .entry)) (now (cmds .entry)) r (now (ops .exit)) (now (cmds .exit)) ⌝ }
 {
     let mut i = from;
-    let mut key = start as u32;
+    let mut key = start;
     let mut n = st.operands;
     let mut x = st.x;
     let mut y = st.y;
@@ -532,8 +507,8 @@ fn token(
     let mut opened = st.opened;
     while i < code.len() {
         let c = code[i];
-        let v = plain_of(c, key, encrypted);
-        let k = key_after(c, key);
+        let v = charstring::byte_of(c, key, encrypted);
+        let k = charstring::next_key(c, key);
         if v < 32 {
             if v == 9 {
                 n = 0;
@@ -572,10 +547,10 @@ fn token(
         } else {
             let w = number_at(code, i + 1, k, encrypted, v);
             if w.cut {
-                return found(place(st, n, x, y, entries, opened), i + 1, short(k), 5, 0);
+                return found(place(st, n, x, y, entries, opened), i + 1, k, 5, 0);
             }
             if n == 256 {
-                return found(place(st, n, x, y, entries, opened), i + 1, short(k), 15, 0);
+                return found(place(st, n, x, y, entries, opened), i + 1, k, 15, 0);
             }
             ops[n] = w.x;
             n += 1;
@@ -583,7 +558,7 @@ fn token(
             key = w.key;
         }
     }
-    found(place(st, n, x, y, entries, opened), i, short(key), 1, 0)
+    found(place(st, n, x, y, entries, opened), i, key, 1, 0)
 }
 
 // ---- answers

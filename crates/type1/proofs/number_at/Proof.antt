@@ -4,13 +4,6 @@ use native.Mathlib.Omega.{arith}
 use borrow.Author.Needs.{needs}
 use Rattle.type1.proofs.number_at.Statement.{statement}
 use Rattle.type1.proofs.number_at.Tie as tie
-use Rattle.type1.proofs.number_at.Reads as reads
-use Rattle.type1.proofs.number_at.Lts as lts
-use Rattle.type1.proofs.four_bytes.Reads as four-bytes-reads
-use Rattle.type1.proofs.key_after.Reads as key-after-reads
-use Rattle.type1.proofs.one_byte.Reads as one-byte-reads
-use Rattle.type1.proofs.plain_of.Reads as plain-of-reads
-use Rattle.type1.proofs.two_bytes.Reads as two-bytes-reads
 
 -- src/lib.rt:204:16
 one-byte-requires : tie.Need-one-byte-requires
@@ -35,8 +28,8 @@ shared-slice-read-c : tie.Need-shared-slice-read-c
 shared-slice-read-c c = search needs
 
 -- src/lib.rt:221:29
-plain-of-requires : tie.Need-plain-of-requires
-plain-of-requires c κs = search needs
+byte-of-requires : tie.Need-byte-of-requires
+byte-of-requires c κs = search needs
 
 -- src/lib.rt:221:16
 two-bytes-requires : tie.Need-two-bytes-requires
@@ -47,13 +40,13 @@ add-t17 : tie.Need-add-t17
 add-t17 c = search needs
 
 -- src/lib.rt:223:18
-key-after-requires : tie.Need-key-after-requires
-key-after-requires c κs = search needs
+next-key-requires : tie.Need-next-key-requires
+next-key-requires c κs = search needs
 
 -- src/lib.rt:220:9
 returns-3 : tie.Need-returns-3
 returns-3 c =
-    two-num _ _ _ _ _ _ _ _ _ (c .before .two-bytes .ensures) (c .before .before .before .before .before .before .if1 .left) (c .before .before .before .before .before .if2 .taken) (omega arith) refl (c .before .before .plain-of .ensures) (c .key-after .ensures)
+    two-num _ _ _ _ _ _ _ _ _ (c .before .two-bytes .ensures) (c .before .before .before .before .before .before .if1 .left) (c .before .before .before .before .before .if2 .taken) (omega arith) refl (c .before .before .byte-of .ensures) (c .next-key .ensures)
 
 -- src/lib.rt:227:8
 sub-if4 : tie.Need-sub-if4
@@ -93,32 +86,32 @@ shared-slice-read-c4 : tie.Need-shared-slice-read-c4
 shared-slice-read-c4 c = search needs
 
 -- src/lib.rt:239:9
-key-after-requires-2 : tie.Need-key-after-requires-2
-key-after-requires-2 c κs = search needs
+next-key-requires-2 : tie.Need-next-key-requires-2
+next-key-requires-2 c κs = search needs
 
 -- src/lib.rt:240:9
-key-after-requires-3 : tie.Need-key-after-requires-3
-key-after-requires-3 c κs = search needs
+next-key-requires-3 : tie.Need-next-key-requires-3
+next-key-requires-3 c κs = search needs
 
 -- src/lib.rt:241:9
-key-after-requires-4 : tie.Need-key-after-requires-4
-key-after-requires-4 c κs = search needs
+next-key-requires-4 : tie.Need-next-key-requires-4
+next-key-requires-4 c κs = search needs
 
 -- src/lib.rt:243:9
-plain-of-requires-2 : tie.Need-plain-of-requires-2
-plain-of-requires-2 c κs = search needs
+byte-of-requires-2 : tie.Need-byte-of-requires-2
+byte-of-requires-2 c κs = search needs
 
 -- src/lib.rt:244:9
-plain-of-requires-3 : tie.Need-plain-of-requires-3
-plain-of-requires-3 c κs = search needs
+byte-of-requires-3 : tie.Need-byte-of-requires-3
+byte-of-requires-3 c κs = search needs
 
 -- src/lib.rt:245:9
-plain-of-requires-4 : tie.Need-plain-of-requires-4
-plain-of-requires-4 c κs = search needs
+byte-of-requires-4 : tie.Need-byte-of-requires-4
+byte-of-requires-4 c κs = search needs
 
 -- src/lib.rt:246:9
-plain-of-requires-5 : tie.Need-plain-of-requires-5
-plain-of-requires-5 c κs = search needs
+byte-of-requires-5 : tie.Need-byte-of-requires-5
+byte-of-requires-5 c κs = search needs
 
 -- src/lib.rt:242:9
 four-bytes-requires : tie.Need-four-bytes-requires
@@ -129,13 +122,13 @@ add-t25 : tie.Need-add-t25
 add-t25 c = search needs
 
 -- src/lib.rt:251:14
-key-after-requires-5 : tie.Need-key-after-requires-5
-key-after-requires-5 c κs = search needs
+next-key-requires-5 : tie.Need-next-key-requires-5
+next-key-requires-5 c κs = search needs
 
 -- src/lib.rt:198:1
 returns-5 : tie.Need-returns-5
 returns-5 c =
-    five-num _ _ _ _ _ _ _ _ _ _ _ _ _ _ _ _ _ _ (c .before .four-bytes .ensures) (c .before .before .before .before .before .before .before .before .before .before .before .before .before .before .if2 .left) (c .before .before .before .before .before .before .before .before .before .before .before .before .before .if4 .left) refl refl refl refl (c .before .before .before .before .before .plain-of2 .ensures) (c .before .before .before .before .plain-of3 .ensures) (c .before .before .before .plain-of4 .ensures) (c .before .before .plain-of5 .ensures) (c .before .before .before .before .before .before .before .before .key-after2 .ensures) (c .before .before .before .before .before .before .before .key-after3 .ensures) (c .before .before .before .before .before .before .key-after4 .ensures) (c .key-after5 .ensures)
+    five-num _ _ _ _ _ _ _ _ _ _ _ _ _ _ _ _ _ _ (c .before .four-bytes .ensures) (c .before .before .before .before .before .before .before .before .before .before .before .before .before .before .if2 .left) (c .before .before .before .before .before .before .before .before .before .before .before .before .before .if4 .left) refl refl refl refl (c .before .before .before .before .before .byte-of2 .ensures) (c .before .before .before .before .byte-of3 .ensures) (c .before .before .before .byte-of4 .ensures) (c .before .before .byte-of5 .ensures) (c .before .before .before .before .before .before .before .before .next-key2 .ensures) (c .before .before .before .before .before .before .before .next-key3 .ensures) (c .before .before .before .before .before .before .next-key4 .ensures) (c .next-key5 .ensures)
 
 pub number-at-spec : {M : Type 1} → statement M
 number-at-spec =
@@ -146,10 +139,10 @@ number-at-spec =
     sub-if3
     returns-2
     shared-slice-read-c
-    plain-of-requires
+    byte-of-requires
     two-bytes-requires
     add-t17
-    key-after-requires
+    next-key-requires
     returns-3
     sub-if4
     returns-4
@@ -160,14 +153,14 @@ number-at-spec =
     shared-slice-read-c3
     add-c4
     shared-slice-read-c4
-    key-after-requires-2
-    key-after-requires-3
-    key-after-requires-4
-    plain-of-requires-2
-    plain-of-requires-3
-    plain-of-requires-4
-    plain-of-requires-5
+    next-key-requires-2
+    next-key-requires-3
+    next-key-requires-4
+    byte-of-requires-2
+    byte-of-requires-3
+    byte-of-requires-4
+    byte-of-requires-5
     four-bytes-requires
     add-t25
-    key-after-requires-5
+    next-key-requires-5
     returns-5)

@@ -4,7 +4,7 @@ use borrow.Author.Tests.{not-true, not-false}
 use borrow.Author.Needs.{needs}
 use Prim.Native.Nat.{_-_}
 use lib.ListN.{length}
-use Rattle.type1.proofs.Bytes.{Going, begins, quick-is, at-operator, listed, closed, at-cut, at-full, pushed, at-end, tok-short}
+use Rattle.type1.proofs.Bytes.{Going, begins, quick-is, at-operator, listed, closed, at-cut, at-full, pushed, at-end}
 use Rattle.type1.proofs.token.Statement.{statement}
 use Rattle.type1.proofs.token.Tie as tie
 
@@ -26,12 +26,12 @@ shared-slice-read-c : tie.Need-shared-slice-read-c Inv-loop μ-loop
 shared-slice-read-c c = search needs
 
 -- src/lib.rt:520:13
-plain-of-requires : tie.Need-plain-of-requires Inv-loop μ-loop
-plain-of-requires c κs = search needs
+byte-of-requires : tie.Need-byte-of-requires Inv-loop μ-loop
+byte-of-requires c κs = search needs
 
 -- src/lib.rt:521:13
-key-after-requires : tie.Need-key-after-requires Inv-loop μ-loop
-key-after-requires c κs = search needs
+next-key-requires : tie.Need-next-key-requires Inv-loop μ-loop
+next-key-requires c κs = search needs
 
 -- src/lib.rt:526:17
 add-i : tie.Need-add-i Inv-loop μ-loop
@@ -46,7 +46,7 @@ loop-less c =
 -- src/lib.rt:518:5
 loop-again : tie.Need-loop-again Inv-loop μ-loop
 loop-again c =
-    closed _ _ _ _ _ _ _ _ _ _ _ _ _ _ _ _ (c .before .before .before .before .before .before .loop .inv) _ _ _ (search needs) refl (c .before .before .before .plain-of .ensures) (c .before .before .key-after .ensures) (c .if2 .taken)
+    closed _ _ _ _ _ _ _ _ _ _ _ _ _ _ _ _ (c .before .before .before .before .before .before .loop .inv) _ _ _ (search needs) refl (c .before .before .before .byte-of .ensures) (c .before .before .next-key .ensures) (c .if2 .taken)
 
 -- src/lib.rt:529:21
 is-quick-requires : tie.Need-is-quick-requires Inv-loop μ-loop
@@ -73,7 +73,7 @@ same-length c = search needs
 -- src/lib.rt:530:21
 returns : tie.Need-returns Inv-loop μ-loop
 returns c =
-    at-operator _ _ _ _ _ _ _ _ _ _ _ _ _ _ _ _ (c .before .before .before .before .before .before .before .before .before .before .loop .inv) _ _ _ (search needs) refl (c .before .before .before .before .before .before .before .plain-of .ensures) (c .before .before .before .before .before .before .key-after .ensures) _ _ _ refl (c .before .place .ensures) (c .operator-at .ensures)
+    at-operator _ _ _ _ _ _ _ _ _ _ _ _ _ _ _ _ (c .before .before .before .before .before .before .before .before .before .before .loop .inv) _ _ _ (search needs) refl (c .before .before .before .before .before .before .before .byte-of .ensures) (c .before .before .before .before .before .before .next-key .ensures) _ _ _ refl (c .before .place .ensures) (c .operator-at .ensures)
 
 -- src/lib.rt:532:21
 draw-requires : tie.Need-draw-requires Inv-loop μ-loop
@@ -102,7 +102,7 @@ same-length-2 c =
 -- src/lib.rt:534:21
 returns-2 : tie.Need-returns-2 Inv-loop μ-loop
 returns-2 c =
-    at-operator _ _ _ _ _ _ _ _ _ _ _ _ _ _ _ _ (c .before .before .before .before .before .before .before .before .before .before .before .before .before .before .before .before .before .loop .inv) _ _ _ (search needs) refl (c .before .before .before .before .before .before .before .before .before .before .before .before .before .before .plain-of .ensures) (c .before .before .before .before .before .before .before .before .before .before .before .before .before .key-after .ensures) _ _ _ (c .before .before .before .before .before .before .draw .ensures .none (not-true _ (c .before .before .if4 .taken))) (c .before .place2 .ensures) (c .operator-at2 .ensures)
+    at-operator _ _ _ _ _ _ _ _ _ _ _ _ _ _ _ _ (c .before .before .before .before .before .before .before .before .before .before .before .before .before .before .before .before .before .loop .inv) _ _ _ (search needs) refl (c .before .before .before .before .before .before .before .before .before .before .before .before .before .before .byte-of .ensures) (c .before .before .before .before .before .before .before .before .before .before .before .before .before .next-key .ensures) _ _ _ (c .before .before .before .before .before .before .draw .ensures .none (not-true _ (c .before .before .if4 .taken))) (c .before .place2 .ensures) (c .operator-at2 .ensures)
 
 -- src/lib.rt:539:17
 add-entries : tie.Need-add-entries Inv-loop μ-loop
@@ -122,7 +122,7 @@ loop-less-2 c =
 -- src/lib.rt:518:5
 loop-again-2 : tie.Need-loop-again-2 Inv-loop μ-loop
 loop-again-2 c =
-    listed _ _ _ _ _ _ _ _ _ _ _ _ _ _ _ _ (c .before .before .before .before .before .before .before .before .before .before .before .before .before .before .before .loop .inv) _ _ _ (search needs) refl (c .before .before .before .before .before .before .before .before .before .before .before .before .plain-of .ensures) (c .before .before .before .before .before .before .before .before .before .before .before .key-after .ensures) _ _ (quick-is (c .before .before .before .before .before .before .before .before .before .before .before .before .before .before .before .before .before .before .args .st .changed) _ _ (c .before .before .before .before .before .before .before .before .is-quick .ensures) (not-false _ (c .before .before .before .before .before .before .before .if3 .left)) .0) (quick-is (c .before .before .before .before .before .before .before .before .before .before .before .before .before .before .before .before .before .before .args .st .changed) _ _ (c .before .before .before .before .before .before .before .before .is-quick .ensures) (not-false _ (c .before .before .before .before .before .before .before .if3 .left)) .1) (c .before .before .before .before .before .before .before .before .before .before .if1 .taken) (c .before .before .before .before .draw .ensures) (not-false _ (c .if4 .left))
+    listed _ _ _ _ _ _ _ _ _ _ _ _ _ _ _ _ (c .before .before .before .before .before .before .before .before .before .before .before .before .before .before .before .loop .inv) _ _ _ (search needs) refl (c .before .before .before .before .before .before .before .before .before .before .before .before .byte-of .ensures) (c .before .before .before .before .before .before .before .before .before .before .before .next-key .ensures) _ _ (quick-is (c .before .before .before .before .before .before .before .before .before .before .before .before .before .before .before .before .before .before .args .st .changed) _ _ (c .before .before .before .before .before .before .before .before .is-quick .ensures) (not-false _ (c .before .before .before .before .before .before .before .if3 .left)) .0) (quick-is (c .before .before .before .before .before .before .before .before .before .before .before .before .before .before .before .before .before .before .args .st .changed) _ _ (c .before .before .before .before .before .before .before .before .is-quick .ensures) (not-false _ (c .before .before .before .before .before .before .before .if3 .left)) .1) (c .before .before .before .before .before .before .before .before .before .before .if1 .taken) (c .before .before .before .before .draw .ensures) (not-false _ (c .if4 .left))
 
 -- src/lib.rt:544:37
 add-number-at : tie.Need-add-number-at Inv-loop μ-loop
@@ -143,10 +143,6 @@ add-found : tie.Need-add-found Inv-loop μ-loop
 add-found c =
     omega arith
 
--- src/lib.rt:546:74
-short-requires : tie.Need-short-requires Inv-loop μ-loop
-short-requires c κs = search needs
-
 -- src/lib.rt:546:17
 found-requires : tie.Need-found-requires Inv-loop μ-loop
 found-requires c κs = search needs
@@ -154,12 +150,12 @@ found-requires c κs = search needs
 -- src/lib.rt:546:17
 same-length-3 : tie.Need-same-length-3 Inv-loop μ-loop
 same-length-3 c =
-    c .before .before .before .before .before .before .before .before .before .before .loop .inv .whole
+    c .before .before .before .before .before .before .before .before .before .loop .inv .whole
 
 -- src/lib.rt:546:17
 returns-3 : tie.Need-returns-3 Inv-loop μ-loop
 returns-3 c =
-    at-cut _ _ _ _ _ _ _ _ _ _ _ _ _ _ _ _ (c .before .before .before .before .before .before .before .before .before .before .loop .inv) _ _ _ (search needs) refl (c .before .before .before .before .before .before .before .plain-of .ensures) (c .before .before .before .before .before .before .key-after .ensures) _ (c .before .before .before .before .number-at .ensures) _ _ (c .before .before .before .if5 .taken) (c .before .before .place3 .ensures) (tok-short (c .found .ensures) (c .before .short .ensures))
+    at-cut _ _ _ _ _ _ _ _ _ _ _ _ _ _ _ _ (c .before .before .before .before .before .before .before .before .before .loop .inv) _ _ _ (search needs) refl (c .before .before .before .before .before .before .byte-of .ensures) (c .before .before .before .before .before .next-key .ensures) _ (c .before .before .before .number-at .ensures) _ _ (c .before .before .if5 .taken) (c .before .place3 .ensures) (c .found .ensures)
 
 -- src/lib.rt:549:30
 place-requires-4 : tie.Need-place-requires-4 Inv-loop μ-loop
@@ -170,10 +166,6 @@ add-found-2 : tie.Need-add-found-2 Inv-loop μ-loop
 add-found-2 c =
     omega arith
 
--- src/lib.rt:549:74
-short-requires-2 : tie.Need-short-requires-2 Inv-loop μ-loop
-short-requires-2 c κs = search needs
-
 -- src/lib.rt:549:17
 found-requires-2 : tie.Need-found-requires-2 Inv-loop μ-loop
 found-requires-2 c κs = search needs
@@ -181,12 +173,12 @@ found-requires-2 c κs = search needs
 -- src/lib.rt:549:17
 same-length-4 : tie.Need-same-length-4 Inv-loop μ-loop
 same-length-4 c =
-    c .before .before .before .before .before .before .before .before .before .before .before .loop .inv .whole
+    c .before .before .before .before .before .before .before .before .before .before .loop .inv .whole
 
 -- src/lib.rt:549:17
 returns-4 : tie.Need-returns-4 Inv-loop μ-loop
 returns-4 c =
-    at-full _ _ _ _ _ _ _ _ _ _ _ _ _ _ _ _ (c .before .before .before .before .before .before .before .before .before .before .before .loop .inv) _ _ _ (search needs) refl (c .before .before .before .before .before .before .before .before .plain-of .ensures) (c .before .before .before .before .before .before .before .key-after .ensures) _ (c .before .before .before .before .before .number-at .ensures) _ _ (c .before .before .before .before .if5 .left) (c .before .before .before .if6 .taken) (c .before .before .place4 .ensures) (tok-short (c .found2 .ensures) (c .before .short2 .ensures))
+    at-full _ _ _ _ _ _ _ _ _ _ _ _ _ _ _ _ (c .before .before .before .before .before .before .before .before .before .before .loop .inv) _ _ _ (search needs) refl (c .before .before .before .before .before .before .before .byte-of .ensures) (c .before .before .before .before .before .before .next-key .ensures) _ (c .before .before .before .before .number-at .ensures) _ _ (c .before .before .before .if5 .left) (c .before .before .if6 .taken) (c .before .place4 .ensures) (c .found2 .ensures)
 
 -- src/lib.rt:551:13
 mul-ops : tie.Need-mul-ops Inv-loop μ-loop
@@ -209,15 +201,11 @@ loop-less-3 c =
 -- src/lib.rt:518:5
 loop-again-3 : tie.Need-loop-again-3 Inv-loop μ-loop
 loop-again-3 c =
-    pushed _ _ _ _ _ _ _ _ _ _ _ _ _ _ _ _ (c .before .before .before .before .before .before .before .before .loop .inv) _ _ _ (search needs) refl (c .before .before .before .before .before .plain-of .ensures) (c .before .before .before .before .key-after .ensures) _ (c .before .before .number-at .ensures) (c .before .if5 .left) (c .if6 .left)
+    pushed _ _ _ _ _ _ _ _ _ _ _ _ _ _ _ _ (c .before .before .before .before .before .before .before .before .loop .inv) _ _ _ (search needs) refl (c .before .before .before .before .before .byte-of .ensures) (c .before .before .before .before .next-key .ensures) _ (c .before .before .number-at .ensures) (c .before .if5 .left) (c .if6 .left) (omega arith)
 
 -- src/lib.rt:557:11
 place-requires-5 : tie.Need-place-requires-5 Inv-loop μ-loop
 place-requires-5 c κs = search needs
-
--- src/lib.rt:557:51
-short-requires-3 : tie.Need-short-requires-3 Inv-loop μ-loop
-short-requires-3 c κs = search needs
 
 -- src/lib.rt:557:5
 found-requires-3 : tie.Need-found-requires-3 Inv-loop μ-loop
@@ -230,7 +218,7 @@ same-length-5 c = search needs
 -- src/lib.rt:499:1
 returns-5 : tie.Need-returns-5 Inv-loop μ-loop
 returns-5 c =
-    at-end _ _ _ _ _ _ _ _ _ _ _ _ _ _ _ _ (c .before .before .before .before .loop .inv) _ _ (search needs) (c .before .before .before .before .before .before .before .pre .0) (c .before .before .place5 .ensures) (tok-short (c .found3 .ensures) (c .before .short3 .ensures))
+    at-end _ _ _ _ _ _ _ _ _ _ _ _ _ _ _ _ (c .before .before .before .loop .inv) _ _ (search needs) (c .before .before .before .before .before .before .pre .0) (c .before .place5 .ensures) (c .found3 .ensures)
 
 pub token-spec : {M : Type 1} → statement M
 token-spec =
@@ -240,8 +228,8 @@ token-spec =
     μ-loop
     loop-holds
     shared-slice-read-c
-    plain-of-requires
-    key-after-requires
+    byte-of-requires
+    next-key-requires
     add-i
     loop-less
     loop-again
@@ -265,13 +253,11 @@ token-spec =
     number-at-requires
     place-requires-3
     add-found
-    short-requires
     found-requires
     same-length-3
     returns-3
     place-requires-4
     add-found-2
-    short-requires-2
     found-requires-2
     same-length-4
     returns-4
@@ -281,7 +267,6 @@ token-spec =
     loop-less-3
     loop-again-3
     place-requires-5
-    short-requires-3
     found-requires-3
     same-length-5
     returns-5)
