@@ -22,7 +22,7 @@ use Rattle.type2.specs.Instruction.{numbers, bytes, allFine}
 use Rattle.renderer.specs.Machine as Machine
 use Rattle.renderer.specs.Machine.{machine}
 use Rattle.type2.specs.Bools.{and-both}
-use Rattle.folding.specs.Folding.{foldedList, foldedGroups, foldedWidth, foldsFinite, finiteList, finiteGroups}
+use Rattle.folding.specs.Folding.{foldOf, foldedList, foldedGroups, foldedWidth, foldsFinite, finiteList, finiteGroups}
 use Rattle.type1_to_type2.specs.Stems.{stemsOf}
 use Rattle.type1_to_type2.specs.Emission.{pointsOf, program}
 use Rattle.type1_to_type2.specs.Writing.{wrote}
@@ -41,22 +41,22 @@ use Rattle.agreement.specs.Converted.{ends-so, converts}
 instructions-are : (m : Matrix) (s : State) → instructions m s ≡ program (left m s) (commandsOf m s)
 instructions-are m s = unfold instructions in refl
 
-list-finite : (m : Matrix) (s : State) → foldsFinite m s ≡ true → T (finiteList (foldedList m (s .drawn)))
+list-finite : (m : Matrix) (s : State) → foldsFinite m s ≡ true → T (finiteList (foldedList (foldOf m) (s .drawn)))
 unfolding foldsFinite
 list-finite m s e =
     let w = and-both (finite (foldedWidth m (s .width))) _ (subst T (sym e) tt) in
-    and-both (finiteList (foldedList m (s .drawn))) (finiteGroups (foldedGroups m (s .groups))) (w .1) .0
+    and-both (finiteList (foldedList (foldOf m) (s .drawn))) (finiteGroups (foldedGroups (foldOf m) (s .groups))) (w .1) .0
 
 -- the machine's run of the finished bytes: with b, each coordinate exactly
 finished-run : (b : Bool) (m : Matrix) (s : State) (room room′ : ℕ) (prog : List ℕ) (w default nominal : Float) (out : List ℕ)
-    → Folds m room s prog w → Sound.pointsOf (s .drawn) ≤ 1048576 → All (λ c. ListCoordinates b (pointsOf c)) (foldedList m (s .drawn)) → finish w prog default nominal room′ ≡ wrote out
+    → Folds m room s prog w → Sound.pointsOf (s .drawn) ≤ 1048576 → All (λ c. ListCoordinates b (pointsOf c)) (foldedList (foldOf m) (s .drawn)) → finish w prog default nominal room′ ≡ wrote out
     → (out ≡ numbers (first (widthFor w default nominal)) ++ bytes (program (left m s) (commandsOf m s))) × Ran b (widthFor w default nominal) (left m s) (commandsOf m s)
 finished-run b m s room room′ prog w default nominal out f short coordinates h =
     let (o, t) = finish-is w prog default nominal room′ out h in
     let (e, a) = write-is (instructions m s) room prog (f .wrote) in
-    let gs = foldedGroups m (s .groups) in
-    let cs = foldedList m (s .drawn) in
-    let few : pointCount (commandsOf m s) ≤ 4194303 = le-trans (le-of-eq (commands-points 0 gs cs ∙ folded-points m (s .drawn))) (le-trans short (lit≤ tt)) in (
+    let gs = foldedGroups (foldOf m) (s .groups) in
+    let cs = foldedList (foldOf m) (s .drawn) in
+    let few : pointCount (commandsOf m s) ≤ 4194303 = le-trans (le-of-eq (commands-points 0 gs cs ∙ folded-points (foldOf m) (s .drawn))) (le-trans short (lit≤ tt)) in (
       o ∙ ap (λ (l : List ℕ). numbers (first (widthFor w default nominal)) ++ l) (e ∙ ap bytes (instructions-are m s)),
       program-run b (widthFor w default nominal) (left m s) (commandsOf m s) (few-stems gs) few (commands-coordinates b 0 gs cs coordinates) t (subst (λ x. T (allFine x)) (instructions-are m s) a),
     )
@@ -70,7 +70,7 @@ group-masks m s r = go (left m s .masked)
   where
     go : (b : Bool) → masksOf b (stemsOf (left m s)) 0 (commandsOf m s) ≡ cond b (masksFor m (stemsOf (left m s)) (s .groups)) []
     go true =
-        commands-masks (stemsOf (left m s)) 0 (foldedGroups m (s .groups)) (foldedList m (s .drawn)) (subst (Sound.Rising 0 (foldedGroups m (s .groups))) (let e = folded-length m (s .drawn) in let z : length (s .drawn) ≡ 0 + length (foldedList m (s .drawn)) = omega arith in z) (folded-rising m 0 (s .groups) (length (s .drawn)) r))
+        commands-masks (stemsOf (left m s)) 0 (foldedGroups (foldOf m) (s .groups)) (foldedList (foldOf m) (s .drawn)) (subst (Sound.Rising 0 (foldedGroups (foldOf m) (s .groups))) (let e = folded-length (foldOf m) (s .drawn) in let z : length (s .drawn) ≡ 0 + length (foldedList (foldOf m) (s .drawn)) = omega arith in z) (folded-rising (foldOf m) 0 (s .groups) (length (s .drawn)) r))
         ∙ folded-masks m (stemsOf (left m s)) (s .groups)
     go false = refl
 
@@ -89,10 +89,10 @@ demand3 charstring bank lenIV m records words room program width ran default nom
     let whole = ends-so (λ t. t .divided ≡ false → Numbers (Whole binary64) t) outcome (run-whole unlimited font charstring bodies code) s (U .run) in
     let short : Sound.pointsOf (s .drawn) ≤ 1048576 = let a = counted .0 in let b = counted .1 in omega arith in
     let listed = list-finite m s (U .folds .finite) in
-    let (o, A) = finished-run false m s room room′ program width default nominal out (U .folds) short (near-list m (s .drawn) (sound .drawn) listed) h in
+    let (o, A) = finished-run false m s room room′ program width default nominal out (U .folds) short (near-list (foldOf m) (s .drawn) (sound .drawn) listed) h in
     let is-machine : machine out ≡ Machine.ended (A .end) [] = ap machine o ∙ A .ran in
     let (front, last) = ends-at-14 out 0 Machine.start (A .end) is-machine in
-    let entries = commands-entries 0 (foldedGroups m (s .groups)) (foldedList m (s .drawn)) in
+    let entries = commands-entries 0 (foldedGroups (foldOf m) (s .groups)) (foldedList (foldOf m) (s .drawn)) in
     record {
       state = s;
       run = U .run;
@@ -106,7 +106,7 @@ demand3 charstring bank lenIV m records words room program width ran default nom
       stems = A .stems;
       drawn = subst (SameDrawing (Meets false) (A .end .drawn)) entries (A .drawn);
       exact = λ i d.
-          let (p, E) = finished-run true m s room room′ program width default nominal out (U .folds) short (exact-list m i (s .drawn) (sound .drawn) (whole d .drawn) listed) h in
-          subst (λ (x : Machine.State). SameDrawing Is (x .drawn) (foldedList m (s .drawn))) (same-end out (E .end) (A .end) (ap machine p ∙ E .ran) is-machine) (subst (SameDrawing (Meets true) (E .end .drawn)) entries (E .drawn));
+          let (p, E) = finished-run true m s room room′ program width default nominal out (U .folds) short (exact-list (foldOf m) i (s .drawn) (sound .drawn) (whole d .drawn) listed) h in
+          subst (λ (x : Machine.State). SameDrawing Is (x .drawn) (foldedList (foldOf m) (s .drawn))) (same-end out (E .end) (A .end) (ap machine p ∙ E .ran) is-machine) (subst (SameDrawing (Meets true) (E .end .drawn)) entries (E .drawn));
       masks = A .masks ∙ group-masks m s placed;
     }

@@ -18,7 +18,7 @@ use Rattle.type1.specs.Sound.{All}
 use Rattle.type2.specs.Number.{zp, zm, Is}
 use Rattle.renderer.specs.Machine as Machine
 use Rattle.renderer.specs.Machine.{Entry, Mask, Step, fault, stop, on, step, ended, machine}
-use Rattle.folding.specs.Folding.{isIdentity, foldedList, foldedStems, foldedGroups, foldedWidth}
+use Rattle.folding.specs.Folding.{isIdentity, foldOf, foldedList, foldedStems, foldedGroups, foldedWidth}
 use Rattle.type1_to_type2.specs.Stems.{Declared, declared, stemsOf, maskOf}
 use Rattle.type1_to_type2.specs.Emission.{kindOf, pointsOf}
 use Rattle.type1_to_type2.specs.Finish.{widthFor}
@@ -56,7 +56,7 @@ SameDrawing R (d ∷ ds) (c ∷ cs) = SameEntry R d c × SameDrawing R ds cs
 
 unfoldable pub masksFor : Matrix → List Stem → List Group → List Mask
 masksFor m ss [] = []
-masksFor m ss (g ∷ gs) = record { bits = maskOf (foldedStems m (g .stems)) ss; before = g .before } ∷ masksFor m ss gs
+masksFor m ss (g ∷ gs) = record { bits = maskOf (foldedStems (foldOf m) (g .stems)) ss; before = g .before } ∷ masksFor m ss gs
 
 -- ---- the states that the machine goes through: the first, and that after each number and each operator. Document 01, "Type 2 machine"
 
@@ -78,7 +78,7 @@ unlimitedRun charstring bank lenIV = Run.run Run.unlimited (record { bank = bank
 
 -- the stems that document 01 leaves ("Stems and masks")
 abbrev pub left : Matrix → State.State → Declared
-left m s = declared (foldedGroups m (s .groups))
+left m s = declared (foldedGroups (foldOf m) (s .groups))
 
 -- ---- the claim: of a charstring, a bank and lenIV that convert under the matrix m with the advance width w; and of the finished bytes, by a default and a nominal width
 pub record Demand3 (charstring bank : List ℕ) (lenIV : ℕ) (m : Matrix) (w default nominal : Float) (bytes : List ℕ) : Type 0 where
@@ -99,8 +99,8 @@ pub record Demand3 (charstring bank : List ℕ) (lenIV : ℕ) (m : Matrix) (w de
   -- "and it counts as many stems as document 01 leaves."
   pub stems : end .stems ≡ length (stemsOf (left m state))
   -- "It draws the same moves, lines, curves and flexes as document 01's Type 1 run of that input: as many, in the same order, each of the same kind. However long the path, each coordinate lies within 1/65536 of the folded one"
-  pub drawn : SameDrawing Near (end .drawn) (foldedList m (state .drawn))
+  pub drawn : SameDrawing Near (end .drawn) (foldedList (foldOf m) (state .drawn))
   -- "and exactly on it if the matrix is the identity and no div ran."
-  pub exact : isIdentity m ≡ true → state .divided ≡ false → SameDrawing Is (end .drawn) (foldedList m (state .drawn))
+  pub exact : isIdentity m ≡ true → state .divided ≡ false → SameDrawing Is (end .drawn) (foldedList (foldOf m) (state .drawn))
   -- "Where hints need masks, the machine records one for each group of the run, in order, each with as many drawn entries before it as the group has, and a bit is set exactly when its stem is one of the group's once folded; otherwise it records none."
   pub masks : end .masks ≡ cond (left m state .masked) (masksFor m (stemsOf (left m state)) (state .groups)) []

@@ -13,6 +13,7 @@ use lib.Ieee.Scale.{finite}
 use Rattle.binary64.specs.Value.{Multiple, Whole}
 use Rattle.geometry.specs.declared.Point.{Point}
 use Rattle.geometry.specs.declared.Matrix.{Matrix}
+use Rattle.folding.specs.declared.Fold.{Fold}
 use Rattle.geometry.specs.Transform as Transform
 use Rattle.type1.specs.declared.Stem.{Stem}
 use Rattle.type1.specs.State.{Command, move, line, curve, flex, Group}
@@ -20,7 +21,7 @@ use Rattle.type1.specs.Memory.{Good}
 use Rattle.type1.specs.Sound as Sound
 use Rattle.type1.specs.Sound.{All, OfPoint, OfCommand, Rising, points}
 use Rattle.type2.specs.Bools.{choose, and-both}
-use Rattle.folding.specs.Folding.{isIdentity, foldedPoint, foldedCommand, foldedList, foldedGroups, finitePoint, finiteCommand, finiteList}
+use Rattle.folding.specs.Folding.{foldOf, foldedPoint, foldedCommand, foldedList, foldedGroups, finitePoint, finiteCommand, finiteList}
 use Rattle.type1_to_type2.specs.Stems.{declared, stemsOf, inOrder}
 use Rattle.type1_to_type2.specs.Emission.{pointsOf}
 use Rattle.agreement.specs.Demand3.{masksFor}
@@ -28,14 +29,14 @@ use Rattle.agreement.specs.Simulation.{GoodWhole, Fixed, PointCoordinate
 
 -- ---- points
 
-fits-point : (m : Matrix) (p : Point) → OfPoint Good p → T (fits binary64 (foldedPoint m p .x)) × T (fits binary64 (foldedPoint m p .y))
+fits-point : (fold : Fold) (p : Point) → OfPoint Good p → T (fits binary64 (foldedPoint fold p .x)) × T (fits binary64 (foldedPoint fold p .y))
 unfolding foldedPoint Transform.point Transform.rounded10
-fits-point m p g = choose (isIdentity m) (λ (q : Point). T (fits binary64 (q .x)) × T (fits binary64 (q .y))) p (Transform.point m (p .x) (p .y)) (λ t. (g .0 .fit, g .1 .fit)) (λ t. (div-fits binary64 _ _, div-fits binary64 _ _))
+fits-point fold p g = choose (fold .identity) (λ (q : Point). T (fits binary64 (q .x)) × T (fits binary64 (q .y))) p (Transform.point (fold .matrix) (p .x) (p .y)) (λ t. (g .0 .fit, g .1 .fit)) (λ t. (div-fits binary64 _ _, div-fits binary64 _ _))
 
-near-point : (m : Matrix) (p : Point) → OfPoint Good p → T (finitePoint (foldedPoint m p)) → PointCoordinates false (foldedPoint m p)
-near-point m p g t =
-    let q = foldedPoint m p in
-    let f = fits-point m p g in
+near-point : (fold : Fold) (p : Point) → OfPoint Good p → T (finitePoint (foldedPoint fold p)) → PointCoordinates false (foldedPoint fold p)
+near-point fold p g t =
+    let q = foldedPoint fold p in
+    let f = fits-point fold p g in
     let w = and-both (finite (q .x)) (finite (q .y)) t in
     ((f .0, w .0, tt), (f .1, w .1, tt))
 
@@ -44,25 +45,25 @@ whole-fixed : (x : Float) → Whole binary64 x → Fixed true x
 unfolding Multiple
 whole-fixed x (k, e) = (k * 2 ^ 16, e ∙ sym (mul-assoc k (2 ^ 16) (2 ^ 1058)))
 
-exact-point : (m : Matrix) → isIdentity m ≡ true → (p : Point) → OfPoint GoodWhole p → T (finitePoint (foldedPoint m p)) → PointCoordinates true (foldedPoint m p)
+exact-point : (fold : Fold) → fold .identity ≡ true → (p : Point) → OfPoint GoodWhole p → T (finitePoint (foldedPoint fold p)) → PointCoordinates true (foldedPoint fold p)
 unfolding foldedPoint
-exact-point m i p g t =
-    subst (λ (b : Bool). PointCoordinates true (cond b p (Transform.point m (p .x) (p .y)))) (sym i)
+exact-point fold i p g t =
+    subst (λ (b : Bool). PointCoordinates true (cond b p (Transform.point (fold .matrix) (p .x) (p .y)))) (sym i)
     ((g .0 .0 .fit, g .0 .0 .fine, whole-fixed (p .x) (g .0 .1)), (g .1 .0 .fit, g .1 .0 .fine, whole-fixed (p .y) (g .1 .1)))
 
 -- ---- drawn lists
 
-module _ (b : Bool) (P : Float → Type 0) (m : Matrix) (coordinates : (p : Point) → OfPoint P p → T (finitePoint (foldedPoint m p)) → PointCoordinates b (foldedPoint m p)) where
-  command-coordinates : (c : Command) → OfCommand P c → T (finiteCommand (foldedCommand m c)) → ListCoordinates b (pointsOf (foldedCommand m c))
+module _ (b : Bool) (P : Float → Type 0) (fold : Fold) (coordinates : (p : Point) → OfPoint P p → T (finitePoint (foldedPoint fold p)) → PointCoordinates b (foldedPoint fold p)) where
+  command-coordinates : (c : Command) → OfCommand P c → T (finiteCommand (foldedCommand fold c)) → ListCoordinates b (pointsOf (foldedCommand fold c))
   command-coordinates (move p) g t = (coordinates p g t, tt)
   command-coordinates (line p) g t = (coordinates p g t, tt)
   command-coordinates (curve p q r) g t =
-      let f : Point → Bool = λ p. finitePoint (foldedPoint m p) in
+      let f : Point → Bool = λ p. finitePoint (foldedPoint fold p) in
       let u = and-both (f p) (f q && f r) t in
       let v = and-both (f q) (f r) (u .1) in
       (coordinates p (g .0) (u .0), (coordinates q (g .1 .0) (v .0), (coordinates r (g .1 .1) (v .1), tt)))
   command-coordinates (flex p q r s t u h) g k =
-      let f : Point → Bool = λ p. finitePoint (foldedPoint m p) in
+      let f : Point → Bool = λ p. finitePoint (foldedPoint fold p) in
       let a = and-both (f p) (f q && (f r && (f s && (f t && f u)))) k in
       let b = and-both (f q) (f r && (f s && (f t && f u))) (a .1) in
       let c = and-both (f r) (f s && (f t && f u)) (b .1) in
@@ -70,15 +71,15 @@ module _ (b : Bool) (P : Float → Type 0) (m : Matrix) (coordinates : (p : Poin
       let e = and-both (f t) (f u) (d .1) in
       (coordinates p (g .0) (a .0), (coordinates q (g .1 .0) (b .0), (coordinates r (g .1 .1 .0) (c .0), (coordinates s (g .1 .1 .1 .0) (d .0), (coordinates t (g .1 .1 .1 .1 .0) (e .0), (coordinates u (g .1 .1 .1 .1 .1 .0) (e .1), tt))))))
 
-  list-coordinates : (cs : List Command) → All (OfCommand P) cs → T (finiteList (foldedList m cs)) → All (λ c. ListCoordinates b (pointsOf c)) (foldedList m cs)
+  list-coordinates : (cs : List Command) → All (OfCommand P) cs → T (finiteList (foldedList fold cs)) → All (λ c. ListCoordinates b (pointsOf c)) (foldedList fold cs)
   unfolding foldedList finiteList All
   list-coordinates [] g t = tt
   list-coordinates (c ∷ cs) g t =
-      let w = and-both (finiteCommand (foldedCommand m c)) (finiteList (foldedList m cs)) t in
+      let w = and-both (finiteCommand (foldedCommand fold c)) (finiteList (foldedList fold cs)) t in
       (command-coordinates c (g .0) (w .0), list-coordinates cs (g .1) (w .1))
 
-pub near-list : (m : Matrix) (cs : List Command) → All (OfCommand Good) cs → T (finiteList (foldedList m cs)) → All (λ c. ListCoordinates false (pointsOf c)) (foldedList m cs)
-near-list m = list-coordinates false Good m (near-point m)
+pub near-list : (fold : Fold) (cs : List Command) → All (OfCommand Good) cs → T (finiteList (foldedList fold cs)) → All (λ c. ListCoordinates false (pointsOf c)) (foldedList fold cs)
+near-list fold = list-coordinates false Good fold (near-point fold)
 
 both-commands : (P R : Float → Type 0) (c : Command) → OfCommand P c → OfCommand R c → OfCommand (λ x. P x × R x) c
 both-commands P R c = go c
@@ -98,33 +99,33 @@ unfolding All
 both-list P R [] a b = tt
 both-list P R (c ∷ cs) a b = (both-commands P R c (a .0) (b .0), both-list P R cs (a .1) (b .1))
 
-pub exact-list : (m : Matrix) → isIdentity m ≡ true → (cs : List Command) → All (OfCommand Good) cs → All (OfCommand (Whole binary64)) cs → T (finiteList (foldedList m cs)) → All (λ c. ListCoordinates true (pointsOf c)) (foldedList m cs)
-exact-list m i cs g w = list-coordinates true GoodWhole m (exact-point m i) cs (both-list Good (Whole binary64) cs g w)
+pub exact-list : (fold : Fold) → fold .identity ≡ true → (cs : List Command) → All (OfCommand Good) cs → All (OfCommand (Whole binary64)) cs → T (finiteList (foldedList fold cs)) → All (λ c. ListCoordinates true (pointsOf c)) (foldedList fold cs)
+exact-list fold i cs g w = list-coordinates true GoodWhole fold (exact-point fold i) cs (both-list Good (Whole binary64) cs g w)
 
-folded-command-points : (m : Matrix) (c : Command) → points (foldedCommand m c) ≡ points c
-folded-command-points m (move p) = refl
-folded-command-points m (line p) = refl
-folded-command-points m (curve p q r) = refl
-folded-command-points m (flex p q r s t u h) = refl
+folded-command-points : (fold : Fold) (c : Command) → points (foldedCommand fold c) ≡ points c
+folded-command-points fold (move p) = refl
+folded-command-points fold (line p) = refl
+folded-command-points fold (curve p q r) = refl
+folded-command-points fold (flex p q r s t u h) = refl
 
-pub folded-points : (m : Matrix) (cs : List Command) → Sound.pointsOf (foldedList m cs) ≡ Sound.pointsOf cs
+pub folded-points : (fold : Fold) (cs : List Command) → Sound.pointsOf (foldedList fold cs) ≡ Sound.pointsOf cs
 unfolding foldedList Sound.pointsOf
-folded-points m [] = refl
-folded-points m (c ∷ cs) = ap₂ _+_ (folded-command-points m c) (folded-points m cs)
+folded-points fold [] = refl
+folded-points fold (c ∷ cs) = ap₂ _+_ (folded-command-points fold c) (folded-points fold cs)
 
-pub folded-length : (m : Matrix) (cs : List Command) → length (foldedList m cs) ≡ length cs
+pub folded-length : (fold : Fold) (cs : List Command) → length (foldedList fold cs) ≡ length cs
 unfolding foldedList
-folded-length m [] = refl
-folded-length m (c ∷ cs) = ap suc (folded-length m cs)
+folded-length fold [] = refl
+folded-length fold (c ∷ cs) = ap suc (folded-length fold cs)
 
 -- ---- groups
 
-pub folded-rising : (m : Matrix) (from : ℕ) (gs : List Group) (end : ℕ) → Rising from gs end → Rising from (foldedGroups m gs) end
+pub folded-rising : (fold : Fold) (from : ℕ) (gs : List Group) (end : ℕ) → Rising from gs end → Rising from (foldedGroups fold gs) end
 unfolding foldedGroups Rising
-folded-rising m from [] end r = tt
-folded-rising m from (g ∷ gs) end r = (r .0, r .1, folded-rising m (suc (g .before)) gs end (r .2))
+folded-rising fold from [] end r = tt
+folded-rising fold from (g ∷ gs) end r = (r .0, r .1, folded-rising fold (suc (g .before)) gs end (r .2))
 
-pub folded-masks : (m : Matrix) (ss : List Stem) (gs : List Group) → groupMasks ss (foldedGroups m gs) ≡ masksFor m ss gs
+pub folded-masks : (m : Matrix) (ss : List Stem) (gs : List Group) → groupMasks ss (foldedGroups (foldOf m) gs) ≡ masksFor m ss gs
 unfolding foldedGroups groupMasks masksFor
 folded-masks m ss [] = refl
 folded-masks m ss (g ∷ gs) = rw (folded-masks m ss gs)

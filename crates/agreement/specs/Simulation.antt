@@ -26,7 +26,7 @@ use Rattle.renderer.specs.Machine.{Entry, Mask, State, Step, fault, stop, on, w
 use Rattle.renderer.specs.Operators.{Ready, settledWith, acted}
 use Rattle.type1_to_type2.specs.Stems.{Declared, stemsOf, maskOf}
 use Rattle.type1_to_type2.specs.Emission.{program, commands, pack, deltas, arrives, pointsOf, Cmd, hints, shape, Item, mask, go, Waiting, idle, held, flush}
-use Rattle.folding.specs.Folding.{foldedList, foldedGroups, foldedWidth, foldsFinite}
+use Rattle.folding.specs.Folding.{foldOf, foldedList, foldedGroups, foldedWidth, foldsFinite}
 use Rattle.type1_to_type2.specs.Writing as Writing
 use Rattle.type1_to_type2.specs.Writing.{write}
 use Rattle.type1_to_type2.specs.Convert.{instructions}
@@ -207,7 +207,7 @@ Stops b (on m s) = Unit {0}
 
 -- the commands of what a run has left
 abbrev pub commandsOf : Matrix → Type1.State → List Cmd
-commandsOf m s = commands 0 (foldedGroups m (s .groups)) (foldedList m (s .drawn))
+commandsOf m s = commands 0 (foldedGroups (foldOf m) (s .groups)) (foldedList (foldOf m) (s .drawn))
 
 abbrev pub GoodWhole : Float → Type 0
 GoodWhole x = Type1Memory.Good x × Whole binary64 x

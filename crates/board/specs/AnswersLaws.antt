@@ -14,7 +14,7 @@ use Rattle.type1.specs.Run as Run
 use Rattle.type1.specs.Run.{Outcome, pick}
 use Rattle.type1.specs.Interpret.{outcome}
 use Rattle.type1_to_type2.specs.declared.Type2Glyph.{Type2Glyph}
-use Rattle.folding.specs.Folding.{finiteMatrix, foldedList, foldedGroups, foldedWidth, finiteList, finiteGroups, foldsFinite}
+use Rattle.folding.specs.Folding.{finiteMatrix, foldOf, foldedList, foldedGroups, foldedWidth, finiteList, finiteGroups, foldsFinite}
 use Rattle.type1_to_type2.specs.Writing as Writing
 use Rattle.type1_to_type2.specs.Writing.{Written, write}
 use Rattle.type1_to_type2.specs.Convert.{Conversion, refused, converted, convert, ended, folded, instructions, writes, answer}
@@ -41,7 +41,7 @@ module _ (m : Matrix) (room : ℕ) where
   folded-finite s = go (foldsFinite m s) refl
     where
       width-finite : foldsFinite m s ≡ true → T (finite (foldedWidth m (s .width)))
-      width-finite e = both (finite (foldedWidth m (s .width))) (finiteList (foldedList m (s .drawn)) && finiteGroups (foldedGroups m (s .groups))) e
+      width-finite e = both (finite (foldedWidth m (s .width))) (finiteList (foldedList (foldOf m) (s .drawn)) && finiteGroups (foldedGroups (foldOf m) (s .groups))) e
 
       go : (c : Bool) → foldsFinite m s ≡ c → Finite (pick c (writes (foldedWidth m (s .width)) (s .ran) (write (instructions m s) room)) (refused 14))
       go true e = writes-finite (foldedWidth m (s .width)) (s .ran) (write (instructions m s) room) (width-finite e)

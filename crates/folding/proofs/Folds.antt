@@ -7,7 +7,8 @@ use Rattle.geometry.specs.declared.Matrix.{Matrix}
 use Rattle.geometry.specs.Transform as Transform
 use Rattle.type1.specs.declared.Stem.{Stem}
 use Rattle.type1.specs.State.{plusZero}
-use Rattle.folding.specs.Folding.{pointWith, stemWith, staysWith, edge, scaled, twentyOne, minus21, minus20, foldedStem}
+use Rattle.folding.specs.declared.Fold.{Fold}
+use Rattle.folding.specs.Folding.{foldedPoint, stemStays, foldedStem, edge, scaled, twentyOne, minus21, minus20, transformedStem}
 
 -- ---- six tests, each before the next
 module _ (a b c d e f : Bool) where
@@ -33,37 +34,39 @@ module _ (a b c d e f : Bool) where
   six-6 g p q r s t u = cc
 
 -- ---- a point
-module _ (identity : Bool) (m : Matrix) (x y : Float) where
+module _ (fold : Fold) (x y : Float) where
   abbrev at : Point
   at = record { x = x; y = y }
 
-  pub point-left : identity ≡ true → at ≡ pointWith identity m at
-  point-left h = sym (ap (λ (b : Bool). pointWith b m at) h)
+  pub point-left : fold .identity ≡ true → at ≡ foldedPoint fold at
+  unfolding foldedPoint
+  point-left h = cc
 
-  pub point-moved : identity ≡ false → Transform.point m x y ≡ pointWith identity m at
-  point-moved h = sym (ap (λ (b : Bool). pointWith b m at) h)
+  pub point-moved : fold .identity ≡ false → Transform.point (fold .matrix) x y ≡ foldedPoint fold at
+  unfolding foldedPoint
+  point-moved h = cc
 
 -- ---- a stem
-module _ (identity : Bool) (m : Matrix) (s : Stem) where
-  pub one-left : identity ≡ true → s ≡ stemWith identity m s
-  one-left h = sym (ap (λ (b : Bool). stemWith b m s) h)
+module _ (fold : Fold) (s : Stem) where
+  pub stem-left : fold .identity ≡ true → s ≡ foldedStem fold s
+  stem-left h = cc
 
-  pub one-moved : identity ≡ false → foldedStem m s ≡ stemWith identity m s
-  one-moved h = sym (ap (λ (b : Bool). stemWith b m s) h)
+  pub stem-moved : fold .identity ≡ false → transformedStem (fold .matrix) s ≡ foldedStem fold s
+  stem-moved h = cc
 
-  pub keeps-all : identity ≡ true → true ≡ staysWith identity m s
-  keeps-all h = sym (ap (λ (b : Bool). staysWith b m s) h)
+  pub keeps-all : fold .identity ≡ true → true ≡ stemStays fold s
+  keeps-all h = cc
 
-  pub keeps-across : identity ≡ false → s .horizontal ≡ true → eq (m .b) plusZero ≡ true → lt plusZero (m .d) ≡ staysWith identity m s
+  pub keeps-across : fold .identity ≡ false → s .horizontal ≡ true → eq (fold .matrix .b) plusZero ≡ true → lt plusZero (fold .matrix .d) ≡ stemStays fold s
   keeps-across h k z = cc
 
-  pub loses-across : identity ≡ false → s .horizontal ≡ true → eq (m .b) plusZero ≡ false → false ≡ staysWith identity m s
+  pub loses-across : fold .identity ≡ false → s .horizontal ≡ true → eq (fold .matrix .b) plusZero ≡ false → false ≡ stemStays fold s
   loses-across h k z = cc
 
-  pub keeps-upright : identity ≡ false → s .horizontal ≡ false → eq (m .c) plusZero ≡ true → lt plusZero (m .a) ≡ staysWith identity m s
+  pub keeps-upright : fold .identity ≡ false → s .horizontal ≡ false → eq (fold .matrix .c) plusZero ≡ true → lt plusZero (fold .matrix .a) ≡ stemStays fold s
   keeps-upright h k z = cc
 
-  pub loses-upright : identity ≡ false → s .horizontal ≡ false → eq (m .c) plusZero ≡ false → false ≡ staysWith identity m s
+  pub loses-upright : fold .identity ≡ false → s .horizontal ≡ false → eq (fold .matrix .c) plusZero ≡ false → false ≡ stemStays fold s
   loses-upright h k z = cc
 
 pub edge-across : (m : Matrix) (h : Bool) (e : Float) → h ≡ true → add binary64 (mul binary64 (m .d) e) (m .ty) ≡ edge m h e
@@ -85,14 +88,14 @@ module _ (m : Matrix) (s : Stem) (p : Float) where
   abbrev stemOf : Float → Float → Stem
   stemOf pos width = record { horizontal = h; pos = pos; width = width }
 
-  pub stem-21 : eq (s .width) minus21 ≡ true → p ≡ edge m h (sub binary64 (s .pos) twentyOne) → stemOf (add binary64 p twentyOne) minus21 ≡ foldedStem m s
-  unfolding foldedStem
+  pub stem-21 : eq (s .width) minus21 ≡ true → p ≡ edge m h (sub binary64 (s .pos) twentyOne) → stemOf (add binary64 p twentyOne) minus21 ≡ transformedStem m s
+  unfolding transformedStem
   stem-21 a q = cc
 
-  pub stem-20 : eq (s .width) minus21 ≡ false → eq (s .width) minus20 ≡ true → p ≡ edge m h (s .pos) → stemOf p minus20 ≡ foldedStem m s
-  unfolding foldedStem
+  pub stem-20 : eq (s .width) minus21 ≡ false → eq (s .width) minus20 ≡ true → p ≡ edge m h (s .pos) → stemOf p minus20 ≡ transformedStem m s
+  unfolding transformedStem
   stem-20 a b q = cc
 
-  pub stem-other : (w : Float) → eq (s .width) minus21 ≡ false → eq (s .width) minus20 ≡ false → p ≡ edge m h (s .pos) → w ≡ scaled m h (s .width) → stemOf p w ≡ foldedStem m s
-  unfolding foldedStem
+  pub stem-other : (w : Float) → eq (s .width) minus21 ≡ false → eq (s .width) minus20 ≡ false → p ≡ edge m h (s .pos) → w ≡ scaled m h (s .width) → stemOf p w ≡ transformedStem m s
+  unfolding transformedStem
   stem-other w a b q v = cc

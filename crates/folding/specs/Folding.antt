@@ -9,6 +9,7 @@ use lib.Ieee.Scale.{finite}
 use Rattle.geometry.specs.declared.Point.{Point}
 use Rattle.geometry.specs.declared.Matrix.{Matrix}
 use Rattle.geometry.specs.Transform as Transform
+use Rattle.folding.specs.declared.Fold.{Fold}
 use Rattle.type1.specs.declared.Stem.{Stem}
 use Rattle.type1.specs.State.{Command, move, line, curve, flex, Group, State, plusZero}
 
@@ -23,23 +24,23 @@ one = fin false 1 (pos 0)
 unfoldable pub isIdentity : Matrix → Bool
 isIdentity m = eq (m .a) one && (eq (m .b) plusZero && (eq (m .c) plusZero && (eq (m .d) one && (eq (m .tx) plusZero && eq (m .ty) plusZero))))
 
--- left alone, or not
-abbrev pub pointWith : Bool → Matrix → Point → Point
-pointWith identity m p = cond identity p (Transform.point m (p .x) (p .y))
+-- what is folded by: the matrix, and whether it leaves points alone
+abbrev pub foldOf : Matrix → Fold
+foldOf m = record { matrix = m; identity = isIdentity m }
 
-unfoldable pub foldedPoint : Matrix → Point → Point
-foldedPoint m p = pointWith (isIdentity m) m p
+unfoldable pub foldedPoint : Fold → Point → Point
+foldedPoint fold p = cond (fold .identity) p (Transform.point (fold .matrix) (p .x) (p .y))
 
 -- each point of an entry; a flex height is no coordinate
-abbrev pub foldedCommand : Matrix → Command → Command
-foldedCommand m (move p) = move (foldedPoint m p)
-foldedCommand m (line p) = line (foldedPoint m p)
-foldedCommand m (curve p q r) = curve (foldedPoint m p) (foldedPoint m q) (foldedPoint m r)
-foldedCommand m (flex p q r s t u h) = flex (foldedPoint m p) (foldedPoint m q) (foldedPoint m r) (foldedPoint m s) (foldedPoint m t) (foldedPoint m u) h
+abbrev pub foldedCommand : Fold → Command → Command
+foldedCommand fold (move p) = move (foldedPoint fold p)
+foldedCommand fold (line p) = line (foldedPoint fold p)
+foldedCommand fold (curve p q r) = curve (foldedPoint fold p) (foldedPoint fold q) (foldedPoint fold r)
+foldedCommand fold (flex p q r s t u h) = flex (foldedPoint fold p) (foldedPoint fold q) (foldedPoint fold r) (foldedPoint fold s) (foldedPoint fold t) (foldedPoint fold u) h
 
-unfoldable pub foldedList : Matrix → List Command → List Command
-foldedList m [] = []
-foldedList m (c ∷ l) = foldedCommand m c ∷ foldedList m l
+unfoldable pub foldedList : Fold → List Command → List Command
+foldedList fold [] = []
+foldedList fold (c ∷ l) = foldedCommand fold c ∷ foldedList fold l
 
 -- "The width passes `round10` always."
 unfoldable pub foldedWidth : Matrix → Float → Float
@@ -71,35 +72,32 @@ minus21 = fin true 21 (pos 0)
 abbrev pub minus20 : Float
 minus20 = fin true 5 (pos 2)
 
-unfoldable pub foldedStem : Matrix → Stem → Stem
-foldedStem m s =
+unfoldable pub transformedStem : Matrix → Stem → Stem
+transformedStem m s =
     let h = s .horizontal in
     cond (eq (s .width) minus21) (record { horizontal = h; pos = add binary64 (edge m h (sub binary64 (s .pos) twentyOne)) twentyOne; width = minus21 })
     (cond (eq (s .width) minus20) (record { horizontal = h; pos = edge m h (s .pos); width = minus20 })
     (record { horizontal = h; pos = edge m h (s .pos); width = scaled m h (s .width) }))
 
--- one stem, where the entries are those of the identity, or not: it is then left alone, and stays
-abbrev pub stemWith : Bool → Matrix → Stem → Stem
-stemWith identity m s = cond identity s (foldedStem m s)
+-- the identity leaves a stem alone, and it stays
+abbrev pub stemStays : Fold → Stem → Bool
+stemStays fold s = fold .identity || stays (fold .matrix) (s .horizontal)
 
-abbrev pub staysWith : Bool → Matrix → Stem → Bool
-staysWith identity m s = identity || stays m (s .horizontal)
+abbrev pub foldedStem : Fold → Stem → Stem
+foldedStem fold s = cond (fold .identity) s (transformedStem (fold .matrix) s)
 
 -- the stems that stay, folded
-unfoldable pub keptStems : Matrix → List Stem → List Stem
-keptStems m [] = []
-keptStems m (s ∷ l) = cond (stays m (s .horizontal)) (foldedStem m s ∷ keptStems m l) (keptStems m l)
-
-unfoldable pub foldedStems : Matrix → List Stem → List Stem
-foldedStems m l = cond (isIdentity m) l (keptStems m l)
+unfoldable pub foldedStems : Fold → List Stem → List Stem
+foldedStems fold [] = []
+foldedStems fold (s ∷ l) = cond (stemStays fold s) (foldedStem fold s ∷ foldedStems fold l) (foldedStems fold l)
 
 -- "in the folded groups each stem" ("Type 1 run")
-abbrev pub foldedGroup : Matrix → Group → Group
-foldedGroup m g = record { stems = foldedStems m (g .stems); before = g .before }
+abbrev pub foldedGroup : Fold → Group → Group
+foldedGroup fold g = record { stems = foldedStems fold (g .stems); before = g .before }
 
-unfoldable pub foldedGroups : Matrix → List Group → List Group
-foldedGroups m [] = []
-foldedGroups m (g ∷ l) = foldedGroup m g ∷ foldedGroups m l
+unfoldable pub foldedGroups : Fold → List Group → List Group
+foldedGroups fold [] = []
+foldedGroups fold (g ∷ l) = foldedGroup fold g ∷ foldedGroups fold l
 
 -- ---- document 01, "Numbers the board logs", 14: a folded value is not finite
 abbrev pub finitePoint : Point → Bool
@@ -125,8 +123,8 @@ finiteGroups (g ∷ l) = finiteStems (g .stems) && finiteGroups l
 
 -- of what a run has left
 unfoldable pub foldsFinite : Matrix → State → Bool
-foldsFinite m s = finite (foldedWidth m (s .width)) && (finiteList (foldedList m (s .drawn)) && finiteGroups (foldedGroups m (s .groups)))
+foldsFinite m s = finite (foldedWidth m (s .width)) && (finiteList (foldedList (foldOf m) (s .drawn)) && finiteGroups (foldedGroups (foldOf m) (s .groups)))
 
--- the number of a refusal in writing, with the number before it, or 0. Document 01, "Numbers the board logs": "folding, writing in byte order", so that 14 for a folded point comes before what writing is refused for
+-- the number that is answered where writing was refused. Document 01, "Numbers the board logs": "folding, writing in byte order". So a number from before writing comes first (0 is none), then 14 for a folded point, then what writing was refused with
 unfoldable pub refusal : ℕ → ℕ → Bool → ℕ
-refusal before written points = cond (eqb before 0) (cond points written 14) written
+refusal before written points = cond (eqb before 0) (cond points written 14) before

@@ -28,7 +28,7 @@ pub fn finite_matrix(m: Matrix) -> bool
 }
 
 // Whether the matrix leaves points alone.
-pub fn is_identity(m: Matrix) -> bool
+fn is_identity(m: Matrix) -> bool
     ensures { λ r. ⌜ r ≡ Folding.isIdentity m ⌝ }
 {
     if m.a != 1.0 {
@@ -49,6 +49,24 @@ pub fn is_identity(m: Matrix) -> bool
     m.ty == 0.0
 }
 
+// A matrix, and whether it is the identity, which leaves points and stems alone.
+pub struct Fold {
+    pub matrix: Matrix,
+    pub identity: bool,
+}
+
+impl Fold {
+    // A matrix, with the test of it done once.
+    pub fn new(m: Matrix) -> Fold
+        ensures { λ r. ⌜ r ≡ Folding.foldOf m ⌝ }
+    {
+        Fold {
+            matrix: m,
+            identity: is_identity(m),
+        }
+    }
+}
+
 // The advance width under the matrix.
 pub fn fold_width(m: Matrix, w: f64) -> f64
     ensures { λ r. ⌜ r ≡ Folding.foldedWidth m w ⌝ }
@@ -57,31 +75,31 @@ pub fn fold_width(m: Matrix, w: f64) -> f64
     p.x
 }
 
-// A point under the matrix, which is or is not the identity.
-pub fn fold_point(m: Matrix, identity: bool, x: f64, y: f64) -> Point
-    ensures { λ r. ⌜ r ≡ Folding.pointWith identity m (record { x = x; y = y }) ⌝ }
+// A folded point.
+pub fn fold_point(fold: Fold, x: f64, y: f64) -> Point
+    ensures { λ r. ⌜ r ≡ Folding.foldedPoint fold (record { x = x; y = y }) ⌝ }
 {
-    if identity {
+    if fold.identity {
         return Point { x, y };
     }
-    m.transform_point(x, y)
+    fold.matrix.transform_point(x, y)
 }
 
-// Whether a stem stays under the matrix, which is or is not the identity.
-pub fn stem_stays(m: Matrix, identity: bool, s: Stem) -> bool
-    ensures { λ r. ⌜ r ≡ Folding.staysWith identity m s ⌝ }
+// Whether a stem stays.
+pub fn stem_stays(fold: Fold, s: Stem) -> bool
+    ensures { λ r. ⌜ r ≡ Folding.stemStays fold s ⌝ }
 {
-    if identity {
+    if fold.identity {
         return true;
     }
     if s.horizontal {
-        if m.b == 0.0 {
-            return 0.0 < m.d;
+        if fold.matrix.b == 0.0 {
+            return 0.0 < fold.matrix.d;
         }
         return false;
     }
-    if m.c == 0.0 {
-        return 0.0 < m.a;
+    if fold.matrix.c == 0.0 {
+        return 0.0 < fold.matrix.a;
     }
     false
 }
@@ -105,8 +123,8 @@ fn scale_width(m: Matrix, horizontal: bool, w: f64) -> f64
 }
 
 // A stem under the matrix. Widths -21 and -20 are markers, and stay.
-fn fold_stem(m: Matrix, s: Stem) -> Stem
-    ensures { λ r. ⌜ r ≡ Folding.foldedStem m s ⌝ }
+fn transform_stem(m: Matrix, s: Stem) -> Stem
+    ensures { λ r. ⌜ r ≡ Folding.transformedStem m s ⌝ }
 {
     let h = s.horizontal;
     if s.width == -21.0 {
@@ -130,23 +148,23 @@ fn fold_stem(m: Matrix, s: Stem) -> Stem
     }
 }
 
-// A stem as it is declared: under the identity it is left alone.
-pub fn folded(m: Matrix, identity: bool, s: Stem) -> Stem
-    ensures { λ r. ⌜ r ≡ Folding.stemWith identity m s ⌝ }
+// A folded stem, as it is declared.
+pub fn fold_stem(fold: Fold, s: Stem) -> Stem
+    ensures { λ r. ⌜ r ≡ Folding.foldedStem fold s ⌝ }
 {
-    if identity {
+    if fold.identity {
         return s;
     }
-    fold_stem(m, s)
+    transform_stem(fold.matrix, s)
 }
 
-// The number where writing was refused with `written`, or there was one before it: a folded point that is not finite
-// comes before what writing is refused for.
+// The number that is answered where writing was refused with `written`: the one before it, if there was one, else 14
+// where a folded point is not finite, since folding comes before writing.
 pub fn refusal(before: u64, written: u64, finite: bool) -> u64
     ensures { λ r. ⌜ r ≡ Folding.refusal before written finite ⌝ }
 {
     if before != 0 {
-        return written;
+        return before;
     }
     if finite { written } else { 14 }
 }

@@ -12,6 +12,7 @@ use lib.Ieee.{Float}
 use lib.Ieee.Scale.{finite}
 use Rattle.geometry.specs.declared.Point.{Point}
 use Rattle.geometry.specs.declared.Matrix.{Matrix}
+use Rattle.folding.specs.declared.Fold.{Fold}
 use Rattle.type1.specs.State.{Command, move, line, curve, flex}
 use Rattle.type1.specs.Run.{pick}
 use Rattle.type1.specs.Memory.{Good, word, commandIn, drawnIn}
@@ -19,7 +20,7 @@ use Rattle.type1.specs.Sound.{All, OfPoint, OfCommand}
 use Rattle.type1_to_type2.specs.declared.Collected.{Collected}
 use Rattle.type1_to_type2.specs.declared.Plan.{Plan}
 use Rattle.type2.specs.Bools.{yes}
-use Rattle.folding.specs.Folding.{finiteMatrix, isIdentity, foldedPoint, foldedCommand, foldedList, foldedWidth, finitePoint, finiteCommand, finiteList, refusal}
+use Rattle.folding.specs.Folding.{finiteMatrix, foldedPoint, foldedCommand, foldedList, foldedWidth, finitePoint, finiteCommand, finiteList, refusal}
 use Rattle.type1_to_type2.specs.Stems.{Declared, stemsOf}
 use Rattle.type1_to_type2.specs.Table.{tableStems}
 use Rattle.type1_to_type2.specs.Collecting.{Counted, droppedCounts, needsMasks}
@@ -46,32 +47,32 @@ finite-end [] k = refl
 finite-end (x ∷ l) k = ap (λ (b : Bool). finiteCommand x && b) (finite-end l k) ∙ and-assoc (finiteCommand x) (finiteList l) (finiteList k)
 
 -- under the identity a point is itself
-alone : (m : Matrix) (p : Point) → isIdentity m ≡ true → OfPoint Good p → finitePoint (foldedPoint m p) ≡ true
+alone : (fold : Fold) (p : Point) → fold .identity ≡ true → OfPoint Good p → finitePoint (foldedPoint fold p) ≡ true
 unfolding foldedPoint
-alone m p i g = rw i (ap₂ _&&_ (yes (finite (p .x)) (g .0 .fine)) (yes (finite (p .y)) (g .1 .fine)))
+alone fold p i g = rw i (ap₂ _&&_ (yes (finite (p .x)) (g .0 .fine)) (yes (finite (p .y)) (g .1 .fine)))
 
-all-alone : (m : Matrix) (k : Command) → isIdentity m ≡ true → OfCommand Good k → finiteCommand (foldedCommand m k) ≡ true
-all-alone m (move p) i g = alone m p i g
-all-alone m (line p) i g = alone m p i g
-all-alone m (curve p q r) i g = ap₂ _&&_ (alone m p i (g .0)) (ap₂ _&&_ (alone m q i (g .1 .0)) (alone m r i (g .1 .1)))
-all-alone m (flex p q r s t u h) i g =
-    ap₂ _&&_ (alone m p i (g .0)) (ap₂ _&&_ (alone m q i (g .1 .0)) (ap₂ _&&_ (alone m r i (g .1 .1 .0)) (ap₂ _&&_ (alone m s i (g .1 .1 .1 .0)) (ap₂ _&&_ (alone m t i (g .1 .1 .1 .1 .0)) (alone m u i (g .1 .1 .1 .1 .1 .0))))))
+all-alone : (fold : Fold) (k : Command) → fold .identity ≡ true → OfCommand Good k → finiteCommand (foldedCommand fold k) ≡ true
+all-alone fold (move p) i g = alone fold p i g
+all-alone fold (line p) i g = alone fold p i g
+all-alone fold (curve p q r) i g = ap₂ _&&_ (alone fold p i (g .0)) (ap₂ _&&_ (alone fold q i (g .1 .0)) (alone fold r i (g .1 .1)))
+all-alone fold (flex p q r s t u h) i g =
+    ap₂ _&&_ (alone fold p i (g .0)) (ap₂ _&&_ (alone fold q i (g .1 .0)) (ap₂ _&&_ (alone fold r i (g .1 .1 .0)) (ap₂ _&&_ (alone fold s i (g .1 .1 .1 .0)) (ap₂ _&&_ (alone fold t i (g .1 .1 .1 .1 .0)) (alone fold u i (g .1 .1 .1 .1 .1 .0))))))
 
-pub identity-finite : (m : Matrix) (l : List Command) → isIdentity m ≡ true → All (OfCommand Good) l → true ≡ finiteList (foldedList m l)
+pub identity-finite : (fold : Fold) (l : List Command) → fold .identity ≡ true → All (OfCommand Good) l → true ≡ finiteList (foldedList fold l)
 unfolding All foldedList finiteList
-identity-finite m [] i g = refl
-identity-finite m (k ∷ l) i g = ap₂ _&&_ (sym (all-alone m k i (g .0))) (identity-finite m l i (g .1))
+identity-finite fold [] i g = refl
+identity-finite fold (k ∷ l) i g = ap₂ _&&_ (sym (all-alone fold k i (g .0))) (identity-finite fold l i (g .1))
 
-module _ (m : Matrix) (c : List ℕ) where
-  pub points-none : true ≡ finiteList (foldedList m (drawnIn 0 c))
+module _ (fold : Fold) (c : List ℕ) where
+  pub points-none : true ≡ finiteList (foldedList fold (drawnIn 0 c))
   unfolding drawnIn foldedList finiteList
   points-none = refl
 
-  pub points-more : (e : ℕ) (f b d : Bool) → f ≡ finiteList (foldedList m (drawnIn e c)) → b ≡ finiteList (foldedList m (commandIn c e)) → d ≡ (f && b) → d ≡ finiteList (foldedList m (drawnIn (e + 1) c))
+  pub points-more : (e : ℕ) (f b d : Bool) → f ≡ finiteList (foldedList fold (drawnIn e c)) → b ≡ finiteList (foldedList fold (commandIn c e)) → d ≡ (f && b) → d ≡ finiteList (foldedList fold (drawnIn (e + 1) c))
   unfolding drawnIn
   points-more e f b d ef eb ed =
-      ed ∙ ap₂ _&&_ ef eb ∙ sym (finite-end (foldedList m (drawnIn e c)) (foldedList m (commandIn c e))) ∙ ap finiteList (sym (list-end m (drawnIn e c) (commandIn c e)))
-      ∙ ap (λ (k : ℕ). finiteList (foldedList m (drawnIn k c))) (sym (add-one e))
+      ed ∙ ap₂ _&&_ ef eb ∙ sym (finite-end (foldedList fold (drawnIn e c)) (foldedList fold (commandIn c e))) ∙ ap finiteList (sym (list-end fold (drawnIn e c) (commandIn c e)))
+      ∙ ap (λ (k : ℕ). finiteList (foldedList fold (drawnIn k c))) (sym (add-one e))
 
 pub groups-none : (c : List ℕ) → 0 ≡ groupCount 0 c
 unfolding groupCount
@@ -81,8 +82,8 @@ pub groups-more : (c : List ℕ) (e g k : ℕ) → g ≡ groupCount e c → k �
 unfolding groupCount
 groups-more c e g k eg ek = ap₂ _+_ eg ek ∙ ap (λ (n : ℕ). groupCount n c) (sym (add-one e))
 
-pub points-all : (m : Matrix) (c : List ℕ) (n e : ℕ) (f : Bool) → e ≡ n → f ≡ finiteList (foldedList m (drawnIn e c)) → f ≡ finiteList (foldedList m (drawnIn n c))
-points-all m c n e f q ef = ef ∙ ap (λ (k : ℕ). finiteList (foldedList m (drawnIn k c))) q
+pub points-all : (fold : Fold) (c : List ℕ) (n e : ℕ) (f : Bool) → e ≡ n → f ≡ finiteList (foldedList fold (drawnIn e c)) → f ≡ finiteList (foldedList fold (drawnIn n c))
+points-all fold c n e f q ef = ef ∙ ap (λ (k : ℕ). finiteList (foldedList fold (drawnIn k c))) q
 
 pub groups-all : (c : List ℕ) (n e g : ℕ) → e ≡ n → g ≡ groupCount e c → g ≡ groupCount n c
 groups-all c n e g q eg = eg ∙ ap (λ (k : ℕ). groupCount k c) q

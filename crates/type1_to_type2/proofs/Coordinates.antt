@@ -11,7 +11,7 @@ use lib.Ieee.{Float, nan, inf, fin, binary64, ofBits, nanBits, isNan}
 use lib.Ieee.Scale.{finite}
 use lib.Ieee.Bits.{nanBits-is}
 use Rattle.geometry.specs.declared.Point.{Point}
-use Rattle.geometry.specs.declared.Matrix.{Matrix}
+use Rattle.folding.specs.declared.Fold.{Fold}
 use Rattle.type1.specs.State.{Command, move, line, curve, flex}
 use Rattle.type1.specs.Memory.{Good, word, coordinate, pointIn, commandIn}
 use Rattle.type1.specs.Sound.{All, OfPoint, OfCommand}
@@ -151,29 +151,29 @@ module _ (c : List ℕ) (e : ℕ) where
     good-flex h = subst (All (OfCommand Good)) (in-flex h) G .0
 
   -- its folded points are finite
-  module _ (m : Matrix) where
+  module _ (fold : Fold) where
     abbrev pub fine : ℕ → Bool
-    fine i = finitePoint (foldedPoint m (pointFrom i))
+    fine i = finitePoint (foldedPoint fold (pointFrom i))
 
     abbrev pub entry : Bool
-    entry = finiteList (foldedList m (commandIn c e))
+    entry = finiteList (foldedList fold (commandIn c e))
 
     pub fine-move : kind ≡ 1 → fine 1 ≡ entry
     unfolding foldedList finiteList
-    fine-move h = sym (ap (λ (l : List Command). finiteList (foldedList m l)) (in-move h) ∙ and-true (fine 1))
+    fine-move h = sym (ap (λ (l : List Command). finiteList (foldedList fold l)) (in-move h) ∙ and-true (fine 1))
 
     pub fine-line : kind ≡ 2 → fine 1 ≡ entry
     unfolding foldedList finiteList
-    fine-line h = sym (ap (λ (l : List Command). finiteList (foldedList m l)) (in-line h) ∙ and-true (fine 1))
+    fine-line h = sym (ap (λ (l : List Command). finiteList (foldedList fold l)) (in-line h) ∙ and-true (fine 1))
 
     pub fine-curve : kind ≡ 3 → (fine 1 && (fine 3 && fine 5)) ≡ entry
     unfolding foldedList finiteList
-    fine-curve h = sym (ap (λ (l : List Command). finiteList (foldedList m l)) (in-curve h) ∙ and-true (fine 1 && (fine 3 && fine 5)))
+    fine-curve h = sym (ap (λ (l : List Command). finiteList (foldedList fold l)) (in-curve h) ∙ and-true (fine 1 && (fine 3 && fine 5)))
 
     pub fine-flex : kind ≡ 4 → (fine 1 && (fine 3 && (fine 5 && (fine 7 && (fine 9 && fine 11))))) ≡ entry
     unfolding foldedList finiteList
-    fine-flex h = sym (ap (λ (l : List Command). finiteList (foldedList m l)) (in-flex h) ∙ and-true (fine 1 && (fine 3 && (fine 5 && (fine 7 && (fine 9 && fine 11))))))
+    fine-flex h = sym (ap (λ (l : List Command). finiteList (foldedList fold l)) (in-flex h) ∙ and-true (fine 1 && (fine 3 && (fine 5 && (fine 7 && (fine 9 && fine 11))))))
 
     pub fine-none : (kind ≡ 1 → ⊥) → (kind ≡ 2 → ⊥) → (kind ≡ 3 → ⊥) → (kind ≡ 4 → ⊥) → true ≡ entry
     unfolding foldedList finiteList
-    fine-none h1 h2 h3 h4 = sym (ap (λ (l : List Command). finiteList (foldedList m l)) (in-none h1 h2 h3 h4))
+    fine-none h1 h2 h3 h4 = sym (ap (λ (l : List Command). finiteList (foldedList fold l)) (in-none h1 h2 h3 h4))

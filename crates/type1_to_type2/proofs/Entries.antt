@@ -10,7 +10,7 @@ use lib.Dec.{eqb}
 use lib.Ieee.{Float}
 use borrow.Author.Tests.{ne-eqb, eqb-true, eqb-false}
 use Rattle.geometry.specs.declared.Point.{Point}
-use Rattle.geometry.specs.declared.Matrix.{Matrix}
+use Rattle.folding.specs.declared.Fold.{Fold}
 use Rattle.type1.specs.declared.Stem.{Stem}
 use Rattle.type1.specs.State.{Command, move, line, curve, flex}
 use Rattle.type1.specs.Run.{pick}
@@ -109,43 +109,43 @@ pub draws-as : {w r : Writer} {b a : List ℕ} (x y : Command) → x ≡ y → (
 draws-as {w} {r} {b} {a} x y e d masked ss = subst (λ (z : Command). Draws masked ss (shape z ∷ []) w b r a) e (d masked ss)
 
 -- ---- an entry is written
-pub entry-drawn : {w r : Writer} {b a : List ℕ} (m : Matrix) (c : List ℕ) (e k : ℕ) (x : Command) → getD c (14 * e) 0 ≡ k → eqb k 5 ≡ false → commandIn c e ≡ x ∷ [] → ((masked : Bool) (ss : List Stem) → Draws masked ss (shape (foldedCommand m x) ∷ []) w b r a) →
-    (masked : Bool) (ss g : List Stem) (cs : List Cmd) → resumedAll masked ss r a cs ≡ resumedAll masked ss w b (cmdsIn m c e g ++ cs)
+pub entry-drawn : {w r : Writer} {b a : List ℕ} (fold : Fold) (c : List ℕ) (e k : ℕ) (x : Command) → getD c (14 * e) 0 ≡ k → eqb k 5 ≡ false → commandIn c e ≡ x ∷ [] → ((masked : Bool) (ss : List Stem) → Draws masked ss (shape (foldedCommand fold x) ∷ []) w b r a) →
+    (masked : Bool) (ss g : List Stem) (cs : List Cmd) → resumedAll masked ss r a cs ≡ resumedAll masked ss w b (cmdsIn fold c e g ++ cs)
 unfolding cmdsIn
-entry-drawn m c e k x h five q d masked ss g cs = rw (kind-word c e k h, five, q) (d masked ss .then cs)
+entry-drawn fold c e k x h five q d masked ss g cs = rw (kind-word c e k h, five, q) (d masked ss .then cs)
 
-pub mask-drawn : {w r : Writer} {b a : List ℕ} (m : Matrix) (c : List ℕ) (e : ℕ) (bits : List Bool) (masked : Bool) → getD c (14 * e) 0 ≡ 5 → masked ≡ true → Masks bits w b r a →
-    (ss g : List Stem) (cs : List Cmd) → bits ≡ maskOf g ss → resumedAll masked ss r a cs ≡ resumedAll masked ss w b (cmdsIn m c e g ++ cs)
+pub mask-drawn : {w r : Writer} {b a : List ℕ} (fold : Fold) (c : List ℕ) (e : ℕ) (bits : List Bool) (masked : Bool) → getD c (14 * e) 0 ≡ 5 → masked ≡ true → Masks bits w b r a →
+    (ss g : List Stem) (cs : List Cmd) → bits ≡ maskOf g ss → resumedAll masked ss r a cs ≡ resumedAll masked ss w b (cmdsIn fold c e g ++ cs)
 unfolding cmdsIn items
-mask-drawn {w} {r} {b} {a} m c e bits masked h t d ss g cs f =
+mask-drawn {w} {r} {b} {a} fold c e bits masked h t d ss g cs f =
     rw (kind-word c e 5 h, t) (ap (λ (p : Point). resumedItems r a (items true ss p cs)) (d .at) ∙ d .then (items true ss (pointOf w) cs) ∙ ap (λ (l : List Bool). resumedItems w b (Emission.mask l ∷ items true ss (pointOf w) cs)) f)
 
-pub mask-left : (w : Writer) (b : List ℕ) (m : Matrix) (c : List ℕ) (e : ℕ) (masked : Bool) → getD c (14 * e) 0 ≡ 5 → masked ≡ false → (ss g : List Stem) (cs : List Cmd) → resumedAll masked ss w b cs ≡ resumedAll masked ss w b (cmdsIn m c e g ++ cs)
+pub mask-left : (w : Writer) (b : List ℕ) (fold : Fold) (c : List ℕ) (e : ℕ) (masked : Bool) → getD c (14 * e) 0 ≡ 5 → masked ≡ false → (ss g : List Stem) (cs : List Cmd) → resumedAll masked ss w b cs ≡ resumedAll masked ss w b (cmdsIn fold c e g ++ cs)
 unfolding cmdsIn items
-mask-left w b m c e masked h t ss g cs = rw (kind-word c e 5 h, t)
+mask-left w b fold c e masked h t ss g cs = rw (kind-word c e 5 h, t)
 
-entry-none : (w : Writer) (b : List ℕ) (m : Matrix) (c : List ℕ) (e k : ℕ) (masked : Bool) → getD c (14 * e) 0 ≡ k → (k ≡ 1 → ⊥) → (k ≡ 2 → ⊥) → (k ≡ 3 → ⊥) → (k ≡ 4 → ⊥) → (k ≡ 5 → ⊥) → (ss g : List Stem) (cs : List Cmd) → resumedAll masked ss w b cs ≡ resumedAll masked ss w b (cmdsIn m c e g ++ cs)
+entry-none : (w : Writer) (b : List ℕ) (fold : Fold) (c : List ℕ) (e k : ℕ) (masked : Bool) → getD c (14 * e) 0 ≡ k → (k ≡ 1 → ⊥) → (k ≡ 2 → ⊥) → (k ≡ 3 → ⊥) → (k ≡ 4 → ⊥) → (k ≡ 5 → ⊥) → (ss g : List Stem) (cs : List Cmd) → resumedAll masked ss w b cs ≡ resumedAll masked ss w b (cmdsIn fold c e g ++ cs)
 unfolding cmdsIn commandIn
-entry-none w b m c e k masked h n1 n2 n3 n4 n5 ss g cs = rw (kind-word c e k h, ne-eqb k 1 n1, ne-eqb k 2 n2, ne-eqb k 3 n3, ne-eqb k 4 n4, ne-eqb k 5 n5)
+entry-none w b fold c e k masked h n1 n2 n3 n4 n5 ss g cs = rw (kind-word c e k h, ne-eqb k 1 n1, ne-eqb k 2 n2, ne-eqb k 3 n3, ne-eqb k 4 n4, ne-eqb k 5 n5)
 
 -- a line, a curve, a flex, or no entry that is drawn
-pub entry-written : {w r s t : Writer} {b a z y : List ℕ} (m : Matrix) (c : List ℕ) (e kind n : ℕ) → getD c (14 * e) 0 ≡ kind → (kind ≡ 1 → ⊥) → (kind ≡ 5 → ⊥) → n ≡ pointCount kind →
-    EntryBegins kind w b r a → Goes (foldedPoints m (pointsIn c e 1 n)) r a s z → EntryEnds kind (coordinate c e 13) s z t y →
-    (masked : Bool) (k : ℕ) (bits : List Bool) → Writes masked m c e k bits w b t y
+pub entry-written : {w r s t : Writer} {b a z y : List ℕ} (fold : Fold) (c : List ℕ) (e kind n : ℕ) → getD c (14 * e) 0 ≡ kind → (kind ≡ 1 → ⊥) → (kind ≡ 5 → ⊥) → n ≡ pointCount kind →
+    EntryBegins kind w b r a → Goes (foldedPoints fold (pointsIn c e 1 n)) r a s z → EntryEnds kind (coordinate c e 13) s z t y →
+    (masked : Bool) (k : ℕ) (bits : List Bool) → Writes masked fold c e k bits w b t y
 unfolding pointsIn foldedPoints
-entry-written {w} {r} {s} {t} {b} {a} {z} {y} m c e kind n h n1 n5 u x gs q masked k bits =
-    by-kind kind (λ (i : ℕ). Goes (foldedPoints m (pointsIn c e 1 i)) r a s z → Writes masked m c e k bits w b t y)
+entry-written {w} {r} {s} {t} {b} {a} {z} {y} fold c e kind n h n1 n5 u x gs q masked k bits =
+    by-kind kind (λ (i : ℕ). Goes (foldedPoints fold (pointsIn c e 1 i)) r a s z → Writes masked fold c e k bits w b t y)
     (λ e3 g. left-so (λ e4. let v : ⊥ = omega arith in v) (drawn 3 e3 refl _ (is-curve c e (h ∙ e3)) (curve-drawn _ _ _ (x .curve e3) g)))
     (λ e2 g. left-so (λ e4. let v : ⊥ = omega arith in v) (drawn 2 e2 refl _ (is-line c e (h ∙ e2)) (line-drawn _ (x .line e2) g)))
     (λ e4 g. drawn 4 e4 refl _ (is-flex c e (h ∙ e4)) (flex-drawn _ _ _ _ _ _ _ (x .flex e4) g (q .flex e4)))
     (λ n3 n2 n4 g.
     let p = x .other n3 n2 n4 in
-    left-so n4 (λ ss gr cs f. nothing-drawn g masked ss cs ∙ ap₂ (λ (v : Writer) (o : List ℕ). resumedAll masked ss v o cs) (p .0) (p .1) ∙ entry-none w b m c e kind masked h n1 n2 n3 n4 n5 ss gr cs, g .puts .same ∙ ap length (p .1)))
-    (subst (λ (i : ℕ). Goes (foldedPoints m (pointsIn c e 1 i)) r a s z) u gs)
+    left-so n4 (λ ss gr cs f. nothing-drawn g masked ss cs ∙ ap₂ (λ (v : Writer) (o : List ℕ). resumedAll masked ss v o cs) (p .0) (p .1) ∙ entry-none w b fold c e kind masked h n1 n2 n3 n4 n5 ss gr cs, g .puts .same ∙ ap length (p .1)))
+    (subst (λ (i : ℕ). Goes (foldedPoints fold (pointsIn c e 1 i)) r a s z) u gs)
   where
-    drawn : {v : Writer} {o : List ℕ} (i : ℕ) → kind ≡ i → eqb i 5 ≡ false → (d : Command) → commandIn c e ≡ d ∷ [] → ((masked : Bool) (ss : List Stem) → Draws masked ss (shape (foldedCommand m d) ∷ []) w b v o) → Writes masked m c e k bits w b v o
-    drawn i j five d l f = (λ ss gr cs _. entry-drawn m c e i d (h ∙ j) five l f masked ss gr cs, f true [] .same)
+    drawn : {v : Writer} {o : List ℕ} (i : ℕ) → kind ≡ i → eqb i 5 ≡ false → (d : Command) → commandIn c e ≡ d ∷ [] → ((masked : Bool) (ss : List Stem) → Draws masked ss (shape (foldedCommand fold d) ∷ []) w b v o) → Writes masked fold c e k bits w b v o
+    drawn i j five d l f = (λ ss gr cs _. entry-drawn fold c e i d (h ∙ j) five l f masked ss gr cs, f true [] .same)
 
     -- nothing comes after the points
-    left-so : (kind ≡ 4 → ⊥) → Writes masked m c e k bits w b s z → Writes masked m c e k bits w b t y
+    left-so : (kind ≡ 4 → ⊥) → Writes masked fold c e k bits w b s z → Writes masked fold c e k bits w b t y
     left-so n4 f = let p = q .other n4 in (λ ss gr cs v. ap₂ (λ (d : Writer) (o : List ℕ). resumedAll masked ss d o cs) (p .0) (p .1) ∙ f .0 ss gr cs v, ap length (p .1) ∙ f .1)

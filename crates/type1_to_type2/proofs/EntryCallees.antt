@@ -32,6 +32,7 @@ use Rattle.type1.specs.declared.Reading.{Reading}
 use Rattle.type1.proofs.Reading as Y
 use Rattle.type1.proofs.Reading.Laws as Y′
 use Rattle.geometry.specs.declared.Matrix.{Matrix}
+use Rattle.folding.specs.declared.Fold.{Fold}
 use Rattle.type1_to_type2.specs.declared.Collected.{Collected}
 use Rattle.type1_to_type2.specs.declared.Writer.{Writer}
 use Rattle.type1.specs.declared.Interpreted.{Interpreted}
@@ -39,6 +40,8 @@ use Rattle.type1_to_type2.specs.declared.Plan.{Plan}
 use Rattle.type1.proofs.Stem as T
 use Rattle.geometry.proofs.Matrix as Z
 use Rattle.geometry.proofs.Matrix.Laws as Z′
+use Rattle.folding.proofs.Fold as F
+use Rattle.folding.proofs.Fold.Laws as F′
 use Rattle.type1_to_type2.proofs.Collected as K
 use Rattle.type1_to_type2.proofs.Collected.Laws as K′
 use Rattle.type1_to_type2.proofs.Writer as R
@@ -51,12 +54,11 @@ use Rattle.type1_to_type2.proofs.Plan.Laws as Q′
 use Rattle.type1.proofs.Lent.{at-list, Own}
 use Rattle.type1.proofs.Many.{at-one, OwnR, GotAll}
 use Rattle.type1.proofs.Locals.{machI, machY}
-use Rattle.type1_to_type2.proofs.Locals.{machZ, machK, machR, machQ}
+use Rattle.type1_to_type2.proofs.Locals.{machZ, machF, machK, machR, machQ}
 use Prim.Native.Nat.{_*_}
 use Rattle.type1.specs.Small.{zeroStem}
 use Rattle.type1.specs.Sound.{All, OfCommand}
-use Rattle.type1.specs.Memory.{Good, commandIn, drawnIn}
-use Rattle.folding.specs.Folding.{isIdentity, foldedList, finiteList}
+use Rattle.type1.specs.Memory.{Good, commandIn}
 use Rattle.type1_to_type2.specs.Streaming.{resumedAll}
 use Rattle.type1_to_type2.specs.Collecting.{Counted}
 use Rattle.type1_to_type2.specs.Passes.{Gathers, both, stemsTo, cmdsFrom, Stored}
@@ -64,8 +66,10 @@ use Rattle.geometry.specs.Transform.{identity}
 use Rattle.type1.specs.Interpret.{sourceOf, outcome, Leaves}
 use Rattle.type1_to_type2.specs.Convert.{glyphOf, writes, roomsOf}
 use Rattle.type1_to_type2.specs.Entry.{Blank, groupCount, noneOf, Planned, Opens, firstNumber, fromRun, settles, Answers, ConvertsFrom}
-use Rattle.folding.proofs.is_identity as is-identity-f
-use Rattle.folding.proofs.is_identity.Symbol.{name as #folding·is-identity}
+use Rattle.folding.specs.Folding.{foldOf, foldedList, finiteList}
+use Rattle.type1.specs.Memory.{drawnIn}
+use Rattle.folding.proofs.Fold.new as Fold·new-f
+use Rattle.folding.proofs.Fold.new.Symbol.{name as #folding·Fold·new}
 use Rattle.type1_to_type2.proofs.count_groups as count-groups-f
 use Rattle.type1_to_type2.proofs.count_groups.Symbol.{name as #type1-to-type2·count-groups}
 use Rattle.type1_to_type2.proofs.none_collected as none-collected-f
@@ -98,8 +102,8 @@ use Rattle.type1_to_type2.proofs.convert_charstring_transformed as conv
 use Rattle.type1_to_type2.proofs.convert_charstring_transformed.Symbol.{name as #type1-to-type2·convert-charstring-transformed}
 
 module _ {M : Type 1} (𝓤 : URA M) (H : Heap 𝓤) (A : Atoms 𝓤) (mem : Memory → SProp 𝓤) (run′ : Routine → Fun 𝓤) where
-  abbrev pub IsIdentityC : Contract 𝓤
-  IsIdentityC = tripleOf 𝓤 H A is-identity-f.signature (is-identity-f.spec 𝓤 H A mem run′)
+  abbrev pub FoldNewC : Contract 𝓤
+  FoldNewC = tripleOf 𝓤 H A Fold·new-f.signature (Fold·new-f.spec 𝓤 H A mem run′)
 
   abbrev pub CountGroupsC : Contract 𝓤
   CountGroupsC = tripleOf 𝓤 H A count-groups-f.signature (count-groups-f.spec 𝓤 H A mem run′)
@@ -147,11 +151,11 @@ module _ {M : Type 1} (𝓤 : URA M) (H : Heap 𝓤) (A : Atoms 𝓤) (mem : Mem
   ConvertCharstringTransformedC = tripleOf 𝓤 H A convert-charstring-transformed-f.signature (convert-charstring-transformed-f.spec 𝓤 H A mem run′)
 
 module _ {M : Type 1} (𝓤 : URA M) (H : Heap 𝓤) (A : Atoms 𝓤) (mem : Memory → SProp 𝓤) (run′ : Routine → Fun 𝓤) (W : Given 𝓤 H A) (C : Calls 𝓤 H) where
-  pub is-identity-as : Triple 𝓤 (C #folding·is-identity) (IsIdentityC 𝓤 H A mem run′) → (m : Matrix) → Is Z.the-row m (machZ m ∷ [])
-      → ent 𝓤 (mean 𝓤 H A (‵ ftrue)) (C #folding·is-identity (machZ m ∷ []) (λ w. mean 𝓤 H A (GotAll 𝓤 bool (Unit {0} × Unit {0}) (λ (r : bool .Denot) (lasts : (Unit {0} × Unit {0})). r ≡ isIdentity m) (λ (lasts : (Unit {0} × Unit {0})). (fsep ftrue ftrue)) (‵ ftrue) w)))
-  is-identity-as known m m-fits =
-      let y : IsIdentityC 𝓤 H A mem run′ .Ghost = ((tt, tt, tt, (m, tt), (machZ m ∷ [], tt)), tt) in
-      via 𝓤 (IsIdentityC 𝓤 H A mem run′ .pre y) (qed W ((‵ ftrue) ∷ []) ∵ nothing ! $ owned ! Z.the-row (Is Z.the-row) (LL.makes Z.the-type Z′.the-plain 𝓤 H A) m _ m-fits $ fjoin ! $ nothing ! $ join ! $ frame ! $ done !) (known y)
+  pub Fold·new-as : Triple 𝓤 (C #folding·Fold·new) (FoldNewC 𝓤 H A mem run′) → (m : Matrix) → Is Z.the-row m (machZ m ∷ [])
+      → ent 𝓤 (mean 𝓤 H A (‵ ftrue)) (C #folding·Fold·new (machZ m ∷ []) (λ w. mean 𝓤 H A (GotAll 𝓤 F.the-row (Unit {0} × Unit {0}) (λ (r : F.the-row .Denot) (lasts : (Unit {0} × Unit {0})). r ≡ foldOf m) (λ (lasts : (Unit {0} × Unit {0})). (fsep ftrue ftrue)) (‵ ftrue) w)))
+  Fold·new-as known m m-fits =
+      let y : FoldNewC 𝓤 H A mem run′ .Ghost = ((tt, tt, tt, (m, tt), (machZ m ∷ [], tt)), tt) in
+      via 𝓤 (FoldNewC 𝓤 H A mem run′ .pre y) (qed W ((‵ ftrue) ∷ []) ∵ nothing ! $ owned ! Z.the-row (Is Z.the-row) (LL.makes Z.the-type Z′.the-plain 𝓤 H A) m _ m-fits $ fjoin ! $ nothing ! $ join ! $ frame ! $ done !) (known y)
 
   pub count-groups-as : Triple 𝓤 (C #type1-to-type2·count-groups) (CountGroupsC 𝓤 H A mem run′) → (κcommands : Lft) (qcommands : Share) (xcommands : RefT (List ℕ)) (entries : ℕ) → entries < 2 ^ 64 → 14 * entries ≤ length (xcommands .now)
       → ent 𝓤 (mean 𝓤 H A (‵ (flft κcommands qcommands) ⊛ ‵ (ShrSlice (named 0) κcommands u64 .own xcommands (sliceVal (xcommands .ptr) (length (xcommands .now)) ∷ [])))) (C #type1-to-type2·count-groups (sliceVal (xcommands .ptr) (length (xcommands .now)) ∷ vint w64 entries ∷ []) (λ w. mean 𝓤 H A (GotAll 𝓤 usize (Unit {0} × (Unit {0} × Unit {0})) (λ (r : usize .Denot) (lasts : (Unit {0} × (Unit {0} × Unit {0}))). r ≡ groupCount entries (xcommands .now)) (λ (lasts : (Unit {0} × (Unit {0} × Unit {0}))). (fsep ftrue (fsep ftrue ftrue))) (‵ (flft κcommands qcommands) ⊛ ‵ ftrue) w)))
@@ -165,11 +169,11 @@ module _ {M : Type 1} (𝓤 : URA M) (H : Heap 𝓤) (A : Atoms 𝓤) (mem : Mem
       let y : NoneCollectedC 𝓤 H A mem run′ .Ghost = ((tt, tt, tt, (groups, tt), (vint w64 groups ∷ [], tt)), tt) in
       via 𝓤 (NoneCollectedC 𝓤 H A mem run′ .pre y) (qed W ((‵ ftrue) ∷ []) ∵ nothing ! $ owned ! usize (Is usize) (uint-makes 𝓤 H A W w64) groups _ (refl, groups-fits) $ fjoin ! $ nothing ! $ join ! $ frame ! $ done !) (known y)
 
-  pub collect-all-as : Triple 𝓤 (C #type1-to-type2·collect-all) (CollectAllC 𝓤 H A mem run′) → (κstems : Lft) (qstems : Share) (mstems bstems ostems : ℕ) (γstems : GName) (ysstems : List Stem) (κcommands : Lft) (qcommands : Share) (xcommands : RefT (List ℕ)) (κacross : Lft) (qacross : Share) (bacross oacross : ℕ) (γacross : GName) (ysacross : List Float) (κupright : Lft) (qupright : Share) (bupright oupright : ℕ) (γupright : GName) (ysupright : List Float) (entries : ℕ) (m : Matrix) (identity : Bool) (c : Collected) → entries < 2 ^ 64 → Is Z.the-row m (machZ m ∷ []) → Is K.the-row c (machK c ∷ []) → Stored entries (xcommands .now) ysstems × ((identity ≡ isIdentity m) × Counted c)
-      → ent 𝓤 (mean 𝓤 H A ((‵ (flft κstems qstems) ⊛ ‵ (Own T.the-row mstems bstems ostems κstems γstems ysstems)) ⊛ ((‵ (flft κcommands qcommands) ⊛ ‵ (ShrSlice (named 0) κcommands u64 .own xcommands (sliceVal (xcommands .ptr) (length (xcommands .now)) ∷ []))) ⊛ ((‵ (flft κacross qacross) ⊛ ‵ (OwnR (Array f64 192) bacross oacross κacross γacross ysacross)) ⊛ (‵ (flft κupright qupright) ⊛ ‵ (OwnR (Array f64 192) bupright oupright κupright γupright ysupright)))))) (C #type1-to-type2·collect-all (sliceVal (bstems, ostems) mstems ∷ sliceVal (xcommands .ptr) (length (xcommands .now)) ∷ vint w64 entries ∷ machZ m ∷ vbool identity ∷ machK c ∷ vptr bacross oacross ∷ vptr bupright oupright ∷ []) (λ w. mean 𝓤 H A (GotAll 𝓤 K.the-row (List Stem × (Unit {0} × (Unit {0} × (Unit {0} × (Unit {0} × (Unit {0} × (List Float × (List Float × Unit {0})))))))) (λ (r : K.the-row .Denot) (lasts : (List Stem × (Unit {0} × (Unit {0} × (Unit {0} × (Unit {0} × (Unit {0} × (List Float × (List Float × Unit {0}))))))))). (lasts .0 ≡ ysstems) × Gathers (stemsTo m (xcommands .now) ysstems entries) c ysacross ysupright r (lasts .1 .1 .1 .1 .1 .1 .0) (lasts .1 .1 .1 .1 .1 .1 .1 .0)) (λ (lasts : (List Stem × (Unit {0} × (Unit {0} × (Unit {0} × (Unit {0} × (Unit {0} × (List Float × (List Float × Unit {0}))))))))). (fsep (fsep (finally T.the-row γstems (lasts .0)) (feq ℕ (length (lasts .0)) (length ysstems))) (fsep ftrue (fsep ftrue (fsep ftrue (fsep ftrue (fsep ftrue (fsep (fres γacross ((Array f64 192) .coded .code (lasts .1 .1 .1 .1 .1 .1 .0))) (fsep (fres γupright ((Array f64 192) .coded .code (lasts .1 .1 .1 .1 .1 .1 .1 .0))) ftrue))))))))) (‵ (flft κstems qstems) ⊛ (‵ (flft κcommands qcommands) ⊛ (‵ (flft κacross qacross) ⊛ (‵ (flft κupright qupright) ⊛ ‵ ftrue)))) w)))
-  collect-all-as known κstems qstems mstems bstems ostems γstems ysstems κcommands qcommands xcommands κacross qacross bacross oacross γacross ysacross κupright qupright bupright oupright γupright ysupright entries m identity c entries-fits m-fits c-fits need =
-      let y : CollectAllC 𝓤 H A mem run′ .Ghost = (((κstems, (κcommands, (κacross, (κupright, tt)))), (qstems, (qcommands, (qacross, (qupright, tt)))), tt, (at-list T.the-row mstems bstems ostems γstems ysstems, (xcommands, (entries, (m, (identity, (c, (at-one (Array f64 192) bacross oacross γacross ysacross, (at-one (Array f64 192) bupright oupright γupright ysupright, tt)))))))), (sliceVal (bstems, ostems) mstems ∷ [], (sliceVal (xcommands .ptr) (length (xcommands .now)) ∷ [], (vint w64 entries ∷ [], (machZ m ∷ [], (vbool identity ∷ [], (machK c ∷ [], (vptr bacross oacross ∷ [], (vptr bupright oupright ∷ [], tt))))))))), tt) in
-      via 𝓤 (CollectAllC 𝓤 H A mem run′ .pre y) (qed W (((‵ (flft κstems qstems) ⊛ ‵ (Own T.the-row mstems bstems ostems κstems γstems ysstems)) ⊛ ((‵ (flft κcommands qcommands) ⊛ ‵ (ShrSlice (named 0) κcommands u64 .own xcommands (sliceVal (xcommands .ptr) (length (xcommands .now)) ∷ []))) ⊛ ((‵ (flft κacross qacross) ⊛ ‵ (OwnR (Array f64 192) bacross oacross κacross γacross ysacross)) ⊛ (‵ (flft κupright qupright) ⊛ ‵ (OwnR (Array f64 192) bupright oupright κupright γupright ysupright))))) ∷ []) ∵ says ! need $ split ! $ move ! (1 ∷ []) $ split ! $ move ! (1 ∷ []) $ split ! $ move ! (3 ∷ []) $ split ! $ move ! (4 ∷ []) $ split ! $ move ! (4 ∷ []) $ split ! $ move ! (6 ∷ []) $ split ! $ nothing ! $ move ! (2 ∷ 0 ∷ []) $ fjoin ! $ move ! (3 ∷ 0 ∷ []) $ fjoin ! $ owned ! K.the-row (Is K.the-row) (LL.makes K.the-type K′.the-plain 𝓤 H A) c _ c-fits $ fjoin ! $ owned ! bool (Is bool) (bool-makes 𝓤 H A W) identity _ refl $ fjoin ! $ owned ! Z.the-row (Is Z.the-row) (LL.makes Z.the-type Z′.the-plain 𝓤 H A) m _ m-fits $ fjoin ! $ owned ! usize (Is usize) (uint-makes 𝓤 H A W w64) entries _ (refl, entries-fits) $ fjoin ! $ move ! (4 ∷ 0 ∷ []) $ fjoin ! $ move ! (5 ∷ 0 ∷ []) $ fjoin ! $ nothing ! $ move ! (2 ∷ 0 ∷ []) $ join ! $ move ! (2 ∷ 0 ∷ []) $ join ! $ move ! (2 ∷ 0 ∷ []) $ join ! $ move ! (2 ∷ 0 ∷ []) $ join ! $ frame ! $ done !) (known y)
+  pub collect-all-as : Triple 𝓤 (C #type1-to-type2·collect-all) (CollectAllC 𝓤 H A mem run′) → (κstems : Lft) (qstems : Share) (mstems bstems ostems : ℕ) (γstems : GName) (ysstems : List Stem) (κcommands : Lft) (qcommands : Share) (xcommands : RefT (List ℕ)) (κacross : Lft) (qacross : Share) (bacross oacross : ℕ) (γacross : GName) (ysacross : List Float) (κupright : Lft) (qupright : Share) (bupright oupright : ℕ) (γupright : GName) (ysupright : List Float) (entries : ℕ) (fold : Fold) (c : Collected) → entries < 2 ^ 64 → Is F.the-row fold (machF fold ∷ []) → Is K.the-row c (machK c ∷ []) → Stored entries (xcommands .now) ysstems × Counted c
+      → ent 𝓤 (mean 𝓤 H A ((‵ (flft κstems qstems) ⊛ ‵ (Own T.the-row mstems bstems ostems κstems γstems ysstems)) ⊛ ((‵ (flft κcommands qcommands) ⊛ ‵ (ShrSlice (named 0) κcommands u64 .own xcommands (sliceVal (xcommands .ptr) (length (xcommands .now)) ∷ []))) ⊛ ((‵ (flft κacross qacross) ⊛ ‵ (OwnR (Array f64 192) bacross oacross κacross γacross ysacross)) ⊛ (‵ (flft κupright qupright) ⊛ ‵ (OwnR (Array f64 192) bupright oupright κupright γupright ysupright)))))) (C #type1-to-type2·collect-all (sliceVal (bstems, ostems) mstems ∷ sliceVal (xcommands .ptr) (length (xcommands .now)) ∷ vint w64 entries ∷ machF fold ∷ machK c ∷ vptr bacross oacross ∷ vptr bupright oupright ∷ []) (λ w. mean 𝓤 H A (GotAll 𝓤 K.the-row (List Stem × (Unit {0} × (Unit {0} × (Unit {0} × (Unit {0} × (List Float × (List Float × Unit {0}))))))) (λ (r : K.the-row .Denot) (lasts : (List Stem × (Unit {0} × (Unit {0} × (Unit {0} × (Unit {0} × (List Float × (List Float × Unit {0})))))))). (lasts .0 ≡ ysstems) × Gathers (stemsTo fold (xcommands .now) ysstems entries) c ysacross ysupright r (lasts .1 .1 .1 .1 .1 .0) (lasts .1 .1 .1 .1 .1 .1 .0)) (λ (lasts : (List Stem × (Unit {0} × (Unit {0} × (Unit {0} × (Unit {0} × (List Float × (List Float × Unit {0})))))))). (fsep (fsep (finally T.the-row γstems (lasts .0)) (feq ℕ (length (lasts .0)) (length ysstems))) (fsep ftrue (fsep ftrue (fsep ftrue (fsep ftrue (fsep (fres γacross ((Array f64 192) .coded .code (lasts .1 .1 .1 .1 .1 .0))) (fsep (fres γupright ((Array f64 192) .coded .code (lasts .1 .1 .1 .1 .1 .1 .0))) ftrue)))))))) (‵ (flft κstems qstems) ⊛ (‵ (flft κcommands qcommands) ⊛ (‵ (flft κacross qacross) ⊛ (‵ (flft κupright qupright) ⊛ ‵ ftrue)))) w)))
+  collect-all-as known κstems qstems mstems bstems ostems γstems ysstems κcommands qcommands xcommands κacross qacross bacross oacross γacross ysacross κupright qupright bupright oupright γupright ysupright entries fold c entries-fits fold-fits c-fits need =
+      let y : CollectAllC 𝓤 H A mem run′ .Ghost = (((κstems, (κcommands, (κacross, (κupright, tt)))), (qstems, (qcommands, (qacross, (qupright, tt)))), tt, (at-list T.the-row mstems bstems ostems γstems ysstems, (xcommands, (entries, (fold, (c, (at-one (Array f64 192) bacross oacross γacross ysacross, (at-one (Array f64 192) bupright oupright γupright ysupright, tt))))))), (sliceVal (bstems, ostems) mstems ∷ [], (sliceVal (xcommands .ptr) (length (xcommands .now)) ∷ [], (vint w64 entries ∷ [], (machF fold ∷ [], (machK c ∷ [], (vptr bacross oacross ∷ [], (vptr bupright oupright ∷ [], tt)))))))), tt) in
+      via 𝓤 (CollectAllC 𝓤 H A mem run′ .pre y) (qed W (((‵ (flft κstems qstems) ⊛ ‵ (Own T.the-row mstems bstems ostems κstems γstems ysstems)) ⊛ ((‵ (flft κcommands qcommands) ⊛ ‵ (ShrSlice (named 0) κcommands u64 .own xcommands (sliceVal (xcommands .ptr) (length (xcommands .now)) ∷ []))) ⊛ ((‵ (flft κacross qacross) ⊛ ‵ (OwnR (Array f64 192) bacross oacross κacross γacross ysacross)) ⊛ (‵ (flft κupright qupright) ⊛ ‵ (OwnR (Array f64 192) bupright oupright κupright γupright ysupright))))) ∷ []) ∵ says ! need $ split ! $ move ! (1 ∷ []) $ split ! $ move ! (1 ∷ []) $ split ! $ move ! (3 ∷ []) $ split ! $ move ! (4 ∷ []) $ split ! $ move ! (4 ∷ []) $ split ! $ move ! (6 ∷ []) $ split ! $ nothing ! $ move ! (2 ∷ 0 ∷ []) $ fjoin ! $ move ! (3 ∷ 0 ∷ []) $ fjoin ! $ owned ! K.the-row (Is K.the-row) (LL.makes K.the-type K′.the-plain 𝓤 H A) c _ c-fits $ fjoin ! $ owned ! F.the-row (Is F.the-row) (LL.makes F.the-type F′.the-plain 𝓤 H A) fold _ fold-fits $ fjoin ! $ owned ! usize (Is usize) (uint-makes 𝓤 H A W w64) entries _ (refl, entries-fits) $ fjoin ! $ move ! (4 ∷ 0 ∷ []) $ fjoin ! $ move ! (5 ∷ 0 ∷ []) $ fjoin ! $ nothing ! $ move ! (2 ∷ 0 ∷ []) $ join ! $ move ! (2 ∷ 0 ∷ []) $ join ! $ move ! (2 ∷ 0 ∷ []) $ join ! $ move ! (2 ∷ 0 ∷ []) $ join ! $ frame ! $ done !) (known y)
 
   pub make-plan-as : Triple 𝓤 (C #type1-to-type2·make-plan) (MakePlanC 𝓤 H A mem run′) → (number : ℕ) (c : Collected) (m : Matrix) (ri : Interpreted) → number < 2 ^ 64 → Is K.the-row c (machK c ∷ []) → Is Z.the-row m (machZ m ∷ []) → Is I.the-row ri (machI ri ∷ []) → Counted c
       → ent 𝓤 (mean 𝓤 H A (‵ ftrue)) (C #type1-to-type2·make-plan (vint w64 number ∷ machK c ∷ machZ m ∷ machI ri ∷ []) (λ w. mean 𝓤 H A (GotAll 𝓤 Q.the-row (Unit {0} × (Unit {0} × (Unit {0} × (Unit {0} × Unit {0})))) (λ (r : Q.the-row .Denot) (lasts : (Unit {0} × (Unit {0} × (Unit {0} × (Unit {0} × Unit {0}))))). Planned number c m (ri .width) r) (λ (lasts : (Unit {0} × (Unit {0} × (Unit {0} × (Unit {0} × Unit {0}))))). (fsep ftrue (fsep ftrue (fsep ftrue (fsep ftrue ftrue))))) (‵ ftrue) w)))
@@ -183,17 +187,17 @@ module _ {M : Type 1} (𝓤 : URA M) (H : Heap 𝓤) (A : Atoms 𝓤) (mem : Mem
       let y : BeginProgramC 𝓤 H A mem run′ .Ghost = (((κacross, (κupright, (κout, tt))), (qacross, (qupright, (qout, tt))), tt, (p, (xacross, (xupright, (at-list u8 mout bout oout γout ysout, tt)))), (machQ p ∷ [], (vptr (xacross .ptr .0) (xacross .ptr .1) ∷ [], (vptr (xupright .ptr .0) (xupright .ptr .1) ∷ [], (sliceVal (bout, oout) mout ∷ [], tt))))), tt) in
       via 𝓤 (BeginProgramC 𝓤 H A mem run′ .pre y) (qed W (((‵ (flft κacross qacross) ⊛ ‵ (ShrRef (named 0) κacross (Array f64 192) .own xacross (vptr (xacross .ptr .0) (xacross .ptr .1) ∷ []))) ⊛ ((‵ (flft κupright qupright) ⊛ ‵ (ShrRef (named 0) κupright (Array f64 192) .own xupright (vptr (xupright .ptr .0) (xupright .ptr .1) ∷ []))) ⊛ (‵ (flft κout qout) ⊛ ‵ (Own u8 mout bout oout κout γout ysout)))) ∷ []) ∵ says ! need $ split ! $ move ! (1 ∷ []) $ split ! $ move ! (2 ∷ []) $ split ! $ move ! (2 ∷ []) $ split ! $ move ! (4 ∷ []) $ split ! $ nothing ! $ move ! (2 ∷ 0 ∷ []) $ fjoin ! $ move ! (3 ∷ 0 ∷ []) $ fjoin ! $ move ! (4 ∷ 0 ∷ []) $ fjoin ! $ owned ! Q.the-row (Is Q.the-row) (LL.makes Q.the-type Q′.the-plain 𝓤 H A) p _ p-fits $ fjoin ! $ nothing ! $ move ! (2 ∷ 0 ∷ []) $ join ! $ move ! (2 ∷ 0 ∷ []) $ join ! $ move ! (2 ∷ 0 ∷ []) $ join ! $ frame ! $ done !) (known y)
 
-  pub write-all-as : Triple 𝓤 (C #type1-to-type2·write-all) (WriteAllC 𝓤 H A mem run′) → (κstems : Lft) (qstems : Share) (mstems bstems ostems : ℕ) (γstems : GName) (ysstems : List Stem) (κcommands : Lft) (qcommands : Share) (xcommands : RefT (List ℕ)) (κacross : Lft) (qacross : Share) (xacross : RefT (List Float)) (κupright : Lft) (qupright : Share) (xupright : RefT (List Float)) (κmask : Lft) (qmask : Share) (bmask omask : ℕ) (γmask : GName) (ysmask : List Bool) (κout : Lft) (qout : Share) (mout bout oout : ℕ) (γout : GName) (ysout : List ℕ) (entries : ℕ) (m : Matrix) (identity : Bool) (masked : Bool) (na : ℕ) (nu : ℕ) (wr : Writer) → entries < 2 ^ 64 → Is Z.the-row m (machZ m ∷ []) → na < 2 ^ 64 → nu < 2 ^ 64 → Is R.the-row wr (machR wr ∷ []) → Stored entries (xcommands .now) ysstems × ((identity ≡ isIdentity m) × ((na + nu ≤ 96) × (length ysmask ≡ 96)))
-      → ent 𝓤 (mean 𝓤 H A ((‵ (flft κstems qstems) ⊛ ‵ (Own T.the-row mstems bstems ostems κstems γstems ysstems)) ⊛ ((‵ (flft κcommands qcommands) ⊛ ‵ (ShrSlice (named 0) κcommands u64 .own xcommands (sliceVal (xcommands .ptr) (length (xcommands .now)) ∷ []))) ⊛ ((‵ (flft κacross qacross) ⊛ ‵ (ShrRef (named 0) κacross (Array f64 192) .own xacross (vptr (xacross .ptr .0) (xacross .ptr .1) ∷ []))) ⊛ ((‵ (flft κupright qupright) ⊛ ‵ (ShrRef (named 0) κupright (Array f64 192) .own xupright (vptr (xupright .ptr .0) (xupright .ptr .1) ∷ []))) ⊛ ((‵ (flft κmask qmask) ⊛ ‵ (OwnR (Array bool 96) bmask omask κmask γmask ysmask)) ⊛ (‵ (flft κout qout) ⊛ ‵ (Own u8 mout bout oout κout γout ysout)))))))) (C #type1-to-type2·write-all (sliceVal (bstems, ostems) mstems ∷ sliceVal (xcommands .ptr) (length (xcommands .now)) ∷ vint w64 entries ∷ machZ m ∷ vbool identity ∷ vbool masked ∷ vint w64 na ∷ vint w64 nu ∷ vptr (xacross .ptr .0) (xacross .ptr .1) ∷ vptr (xupright .ptr .0) (xupright .ptr .1) ∷ vptr bmask omask ∷ machR wr ∷ sliceVal (bout, oout) mout ∷ []) (λ w. mean 𝓤 H A (GotAll 𝓤 R.the-row (List Stem × (Unit {0} × (Unit {0} × (Unit {0} × (Unit {0} × (Unit {0} × (Unit {0} × (Unit {0} × (Unit {0} × (Unit {0} × (List Bool × (Unit {0} × (List ℕ × Unit {0}))))))))))))) (λ (r : R.the-row .Denot) (lasts : (List Stem × (Unit {0} × (Unit {0} × (Unit {0} × (Unit {0} × (Unit {0} × (Unit {0} × (Unit {0} × (Unit {0} × (Unit {0} × (List Bool × (Unit {0} × (List ℕ × Unit {0})))))))))))))). (lasts .0 ≡ ysstems) × (resumedAll masked (both na nu (xacross .now) (xupright .now)) r (lasts .1 .1 .1 .1 .1 .1 .1 .1 .1 .1 .1 .1 .0) [] ≡ resumedAll masked (both na nu (xacross .now) (xupright .now)) wr ysout (cmdsFrom m (xcommands .now) ysstems 0 entries))) (λ (lasts : (List Stem × (Unit {0} × (Unit {0} × (Unit {0} × (Unit {0} × (Unit {0} × (Unit {0} × (Unit {0} × (Unit {0} × (Unit {0} × (List Bool × (Unit {0} × (List ℕ × Unit {0})))))))))))))). (fsep (fsep (finally T.the-row γstems (lasts .0)) (feq ℕ (length (lasts .0)) (length ysstems))) (fsep ftrue (fsep ftrue (fsep ftrue (fsep ftrue (fsep ftrue (fsep ftrue (fsep ftrue (fsep ftrue (fsep ftrue (fsep (fres γmask ((Array bool 96) .coded .code (lasts .1 .1 .1 .1 .1 .1 .1 .1 .1 .1 .0))) (fsep ftrue (fsep (fsep (finally u8 γout (lasts .1 .1 .1 .1 .1 .1 .1 .1 .1 .1 .1 .1 .0)) (feq ℕ (length (lasts .1 .1 .1 .1 .1 .1 .1 .1 .1 .1 .1 .1 .0)) (length ysout))) ftrue)))))))))))))) (‵ (flft κstems qstems) ⊛ (‵ (flft κcommands qcommands) ⊛ (‵ (flft κacross qacross) ⊛ (‵ (flft κupright qupright) ⊛ (‵ (flft κmask qmask) ⊛ (‵ (flft κout qout) ⊛ ‵ ftrue)))))) w)))
-  write-all-as known κstems qstems mstems bstems ostems γstems ysstems κcommands qcommands xcommands κacross qacross xacross κupright qupright xupright κmask qmask bmask omask γmask ysmask κout qout mout bout oout γout ysout entries m identity masked na nu wr entries-fits m-fits na-fits nu-fits wr-fits need =
-      let y : WriteAllC 𝓤 H A mem run′ .Ghost = (((κstems, (κcommands, (κacross, (κupright, (κmask, (κout, tt)))))), (qstems, (qcommands, (qacross, (qupright, (qmask, (qout, tt)))))), tt, (at-list T.the-row mstems bstems ostems γstems ysstems, (xcommands, (entries, (m, (identity, (masked, (na, (nu, (xacross, (xupright, (at-one (Array bool 96) bmask omask γmask ysmask, (wr, (at-list u8 mout bout oout γout ysout, tt))))))))))))), (sliceVal (bstems, ostems) mstems ∷ [], (sliceVal (xcommands .ptr) (length (xcommands .now)) ∷ [], (vint w64 entries ∷ [], (machZ m ∷ [], (vbool identity ∷ [], (vbool masked ∷ [], (vint w64 na ∷ [], (vint w64 nu ∷ [], (vptr (xacross .ptr .0) (xacross .ptr .1) ∷ [], (vptr (xupright .ptr .0) (xupright .ptr .1) ∷ [], (vptr bmask omask ∷ [], (machR wr ∷ [], (sliceVal (bout, oout) mout ∷ [], tt)))))))))))))), tt) in
-      via 𝓤 (WriteAllC 𝓤 H A mem run′ .pre y) (qed W (((‵ (flft κstems qstems) ⊛ ‵ (Own T.the-row mstems bstems ostems κstems γstems ysstems)) ⊛ ((‵ (flft κcommands qcommands) ⊛ ‵ (ShrSlice (named 0) κcommands u64 .own xcommands (sliceVal (xcommands .ptr) (length (xcommands .now)) ∷ []))) ⊛ ((‵ (flft κacross qacross) ⊛ ‵ (ShrRef (named 0) κacross (Array f64 192) .own xacross (vptr (xacross .ptr .0) (xacross .ptr .1) ∷ []))) ⊛ ((‵ (flft κupright qupright) ⊛ ‵ (ShrRef (named 0) κupright (Array f64 192) .own xupright (vptr (xupright .ptr .0) (xupright .ptr .1) ∷ []))) ⊛ ((‵ (flft κmask qmask) ⊛ ‵ (OwnR (Array bool 96) bmask omask κmask γmask ysmask)) ⊛ (‵ (flft κout qout) ⊛ ‵ (Own u8 mout bout oout κout γout ysout))))))) ∷ []) ∵ says ! need $ split ! $ move ! (1 ∷ []) $ split ! $ move ! (1 ∷ []) $ split ! $ move ! (1 ∷ []) $ split ! $ move ! (1 ∷ []) $ split ! $ move ! (5 ∷ []) $ split ! $ move ! (6 ∷ []) $ split ! $ move ! (7 ∷ []) $ split ! $ move ! (8 ∷ []) $ split ! $ move ! (8 ∷ []) $ split ! $ move ! (10 ∷ []) $ split ! $ nothing ! $ move ! (2 ∷ 0 ∷ []) $ fjoin ! $ owned ! R.the-row (Is R.the-row) (LL.makes R.the-type R′.the-plain 𝓤 H A) wr _ wr-fits $ fjoin ! $ move ! (3 ∷ 0 ∷ []) $ fjoin ! $ move ! (4 ∷ 0 ∷ []) $ fjoin ! $ move ! (5 ∷ 0 ∷ []) $ fjoin ! $ owned ! usize (Is usize) (uint-makes 𝓤 H A W w64) nu _ (refl, nu-fits) $ fjoin ! $ owned ! usize (Is usize) (uint-makes 𝓤 H A W w64) na _ (refl, na-fits) $ fjoin ! $ owned ! bool (Is bool) (bool-makes 𝓤 H A W) masked _ refl $ fjoin ! $ owned ! bool (Is bool) (bool-makes 𝓤 H A W) identity _ refl $ fjoin ! $ owned ! Z.the-row (Is Z.the-row) (LL.makes Z.the-type Z′.the-plain 𝓤 H A) m _ m-fits $ fjoin ! $ owned ! usize (Is usize) (uint-makes 𝓤 H A W w64) entries _ (refl, entries-fits) $ fjoin ! $ move ! (6 ∷ 0 ∷ []) $ fjoin ! $ move ! (7 ∷ 0 ∷ []) $ fjoin ! $ nothing ! $ move ! (2 ∷ 0 ∷ []) $ join ! $ move ! (2 ∷ 0 ∷ []) $ join ! $ move ! (2 ∷ 0 ∷ []) $ join ! $ move ! (2 ∷ 0 ∷ []) $ join ! $ move ! (2 ∷ 0 ∷ []) $ join ! $ move ! (2 ∷ 0 ∷ []) $ join ! $ frame ! $ done !) (known y)
+  pub write-all-as : Triple 𝓤 (C #type1-to-type2·write-all) (WriteAllC 𝓤 H A mem run′) → (κstems : Lft) (qstems : Share) (mstems bstems ostems : ℕ) (γstems : GName) (ysstems : List Stem) (κcommands : Lft) (qcommands : Share) (xcommands : RefT (List ℕ)) (κacross : Lft) (qacross : Share) (xacross : RefT (List Float)) (κupright : Lft) (qupright : Share) (xupright : RefT (List Float)) (κmask : Lft) (qmask : Share) (bmask omask : ℕ) (γmask : GName) (ysmask : List Bool) (κout : Lft) (qout : Share) (mout bout oout : ℕ) (γout : GName) (ysout : List ℕ) (entries : ℕ) (fold : Fold) (masked : Bool) (na : ℕ) (nu : ℕ) (wr : Writer) → entries < 2 ^ 64 → Is F.the-row fold (machF fold ∷ []) → na < 2 ^ 64 → nu < 2 ^ 64 → Is R.the-row wr (machR wr ∷ []) → Stored entries (xcommands .now) ysstems × ((na + nu ≤ 96) × (length ysmask ≡ 96))
+      → ent 𝓤 (mean 𝓤 H A ((‵ (flft κstems qstems) ⊛ ‵ (Own T.the-row mstems bstems ostems κstems γstems ysstems)) ⊛ ((‵ (flft κcommands qcommands) ⊛ ‵ (ShrSlice (named 0) κcommands u64 .own xcommands (sliceVal (xcommands .ptr) (length (xcommands .now)) ∷ []))) ⊛ ((‵ (flft κacross qacross) ⊛ ‵ (ShrRef (named 0) κacross (Array f64 192) .own xacross (vptr (xacross .ptr .0) (xacross .ptr .1) ∷ []))) ⊛ ((‵ (flft κupright qupright) ⊛ ‵ (ShrRef (named 0) κupright (Array f64 192) .own xupright (vptr (xupright .ptr .0) (xupright .ptr .1) ∷ []))) ⊛ ((‵ (flft κmask qmask) ⊛ ‵ (OwnR (Array bool 96) bmask omask κmask γmask ysmask)) ⊛ (‵ (flft κout qout) ⊛ ‵ (Own u8 mout bout oout κout γout ysout)))))))) (C #type1-to-type2·write-all (sliceVal (bstems, ostems) mstems ∷ sliceVal (xcommands .ptr) (length (xcommands .now)) ∷ vint w64 entries ∷ machF fold ∷ vbool masked ∷ vint w64 na ∷ vint w64 nu ∷ vptr (xacross .ptr .0) (xacross .ptr .1) ∷ vptr (xupright .ptr .0) (xupright .ptr .1) ∷ vptr bmask omask ∷ machR wr ∷ sliceVal (bout, oout) mout ∷ []) (λ w. mean 𝓤 H A (GotAll 𝓤 R.the-row (List Stem × (Unit {0} × (Unit {0} × (Unit {0} × (Unit {0} × (Unit {0} × (Unit {0} × (Unit {0} × (Unit {0} × (List Bool × (Unit {0} × (List ℕ × Unit {0})))))))))))) (λ (r : R.the-row .Denot) (lasts : (List Stem × (Unit {0} × (Unit {0} × (Unit {0} × (Unit {0} × (Unit {0} × (Unit {0} × (Unit {0} × (Unit {0} × (List Bool × (Unit {0} × (List ℕ × Unit {0}))))))))))))). (lasts .0 ≡ ysstems) × (resumedAll masked (both na nu (xacross .now) (xupright .now)) r (lasts .1 .1 .1 .1 .1 .1 .1 .1 .1 .1 .1 .0) [] ≡ resumedAll masked (both na nu (xacross .now) (xupright .now)) wr ysout (cmdsFrom fold (xcommands .now) ysstems 0 entries))) (λ (lasts : (List Stem × (Unit {0} × (Unit {0} × (Unit {0} × (Unit {0} × (Unit {0} × (Unit {0} × (Unit {0} × (Unit {0} × (List Bool × (Unit {0} × (List ℕ × Unit {0}))))))))))))). (fsep (fsep (finally T.the-row γstems (lasts .0)) (feq ℕ (length (lasts .0)) (length ysstems))) (fsep ftrue (fsep ftrue (fsep ftrue (fsep ftrue (fsep ftrue (fsep ftrue (fsep ftrue (fsep ftrue (fsep (fres γmask ((Array bool 96) .coded .code (lasts .1 .1 .1 .1 .1 .1 .1 .1 .1 .0))) (fsep ftrue (fsep (fsep (finally u8 γout (lasts .1 .1 .1 .1 .1 .1 .1 .1 .1 .1 .1 .0)) (feq ℕ (length (lasts .1 .1 .1 .1 .1 .1 .1 .1 .1 .1 .1 .0)) (length ysout))) ftrue))))))))))))) (‵ (flft κstems qstems) ⊛ (‵ (flft κcommands qcommands) ⊛ (‵ (flft κacross qacross) ⊛ (‵ (flft κupright qupright) ⊛ (‵ (flft κmask qmask) ⊛ (‵ (flft κout qout) ⊛ ‵ ftrue)))))) w)))
+  write-all-as known κstems qstems mstems bstems ostems γstems ysstems κcommands qcommands xcommands κacross qacross xacross κupright qupright xupright κmask qmask bmask omask γmask ysmask κout qout mout bout oout γout ysout entries fold masked na nu wr entries-fits fold-fits na-fits nu-fits wr-fits need =
+      let y : WriteAllC 𝓤 H A mem run′ .Ghost = (((κstems, (κcommands, (κacross, (κupright, (κmask, (κout, tt)))))), (qstems, (qcommands, (qacross, (qupright, (qmask, (qout, tt)))))), tt, (at-list T.the-row mstems bstems ostems γstems ysstems, (xcommands, (entries, (fold, (masked, (na, (nu, (xacross, (xupright, (at-one (Array bool 96) bmask omask γmask ysmask, (wr, (at-list u8 mout bout oout γout ysout, tt)))))))))))), (sliceVal (bstems, ostems) mstems ∷ [], (sliceVal (xcommands .ptr) (length (xcommands .now)) ∷ [], (vint w64 entries ∷ [], (machF fold ∷ [], (vbool masked ∷ [], (vint w64 na ∷ [], (vint w64 nu ∷ [], (vptr (xacross .ptr .0) (xacross .ptr .1) ∷ [], (vptr (xupright .ptr .0) (xupright .ptr .1) ∷ [], (vptr bmask omask ∷ [], (machR wr ∷ [], (sliceVal (bout, oout) mout ∷ [], tt))))))))))))), tt) in
+      via 𝓤 (WriteAllC 𝓤 H A mem run′ .pre y) (qed W (((‵ (flft κstems qstems) ⊛ ‵ (Own T.the-row mstems bstems ostems κstems γstems ysstems)) ⊛ ((‵ (flft κcommands qcommands) ⊛ ‵ (ShrSlice (named 0) κcommands u64 .own xcommands (sliceVal (xcommands .ptr) (length (xcommands .now)) ∷ []))) ⊛ ((‵ (flft κacross qacross) ⊛ ‵ (ShrRef (named 0) κacross (Array f64 192) .own xacross (vptr (xacross .ptr .0) (xacross .ptr .1) ∷ []))) ⊛ ((‵ (flft κupright qupright) ⊛ ‵ (ShrRef (named 0) κupright (Array f64 192) .own xupright (vptr (xupright .ptr .0) (xupright .ptr .1) ∷ []))) ⊛ ((‵ (flft κmask qmask) ⊛ ‵ (OwnR (Array bool 96) bmask omask κmask γmask ysmask)) ⊛ (‵ (flft κout qout) ⊛ ‵ (Own u8 mout bout oout κout γout ysout))))))) ∷ []) ∵ says ! need $ split ! $ move ! (1 ∷ []) $ split ! $ move ! (1 ∷ []) $ split ! $ move ! (1 ∷ []) $ split ! $ move ! (1 ∷ []) $ split ! $ move ! (5 ∷ []) $ split ! $ move ! (6 ∷ []) $ split ! $ move ! (7 ∷ []) $ split ! $ move ! (8 ∷ []) $ split ! $ move ! (8 ∷ []) $ split ! $ move ! (10 ∷ []) $ split ! $ nothing ! $ move ! (2 ∷ 0 ∷ []) $ fjoin ! $ owned ! R.the-row (Is R.the-row) (LL.makes R.the-type R′.the-plain 𝓤 H A) wr _ wr-fits $ fjoin ! $ move ! (3 ∷ 0 ∷ []) $ fjoin ! $ move ! (4 ∷ 0 ∷ []) $ fjoin ! $ move ! (5 ∷ 0 ∷ []) $ fjoin ! $ owned ! usize (Is usize) (uint-makes 𝓤 H A W w64) nu _ (refl, nu-fits) $ fjoin ! $ owned ! usize (Is usize) (uint-makes 𝓤 H A W w64) na _ (refl, na-fits) $ fjoin ! $ owned ! bool (Is bool) (bool-makes 𝓤 H A W) masked _ refl $ fjoin ! $ owned ! F.the-row (Is F.the-row) (LL.makes F.the-type F′.the-plain 𝓤 H A) fold _ fold-fits $ fjoin ! $ owned ! usize (Is usize) (uint-makes 𝓤 H A W w64) entries _ (refl, entries-fits) $ fjoin ! $ move ! (6 ∷ 0 ∷ []) $ fjoin ! $ move ! (7 ∷ 0 ∷ []) $ fjoin ! $ nothing ! $ move ! (2 ∷ 0 ∷ []) $ join ! $ move ! (2 ∷ 0 ∷ []) $ join ! $ move ! (2 ∷ 0 ∷ []) $ join ! $ move ! (2 ∷ 0 ∷ []) $ join ! $ move ! (2 ∷ 0 ∷ []) $ join ! $ move ! (2 ∷ 0 ∷ []) $ join ! $ frame ! $ done !) (known y)
 
-  pub end-program-as : Triple 𝓤 (C #type1-to-type2·end-program) (EndProgramC 𝓤 H A mem run′) → (κcommands : Lft) (qcommands : Share) (xcommands : RefT (List ℕ)) (κout : Lft) (qout : Share) (mout bout oout : ℕ) (γout : GName) (ysout : List ℕ) (p : Plan) (ri : Interpreted) (wr : Writer) (m : Matrix) (identity : Bool) → Is Q.the-row p (machQ p ∷ []) → Is I.the-row ri (machI ri ∷ []) → Is R.the-row wr (machR wr ∷ []) → Is Z.the-row m (machZ m ∷ []) → (14 * ri .entries ≤ length (xcommands .now)) × ((identity ≡ isIdentity m) × ((e : ℕ) → e < ri .entries → All (OfCommand Good) (commandIn (xcommands .now) e)))
-      → ent 𝓤 (mean 𝓤 H A ((‵ (flft κcommands qcommands) ⊛ ‵ (ShrSlice (named 0) κcommands u64 .own xcommands (sliceVal (xcommands .ptr) (length (xcommands .now)) ∷ []))) ⊛ (‵ (flft κout qout) ⊛ ‵ (Own u8 mout bout oout κout γout ysout)))) (C #type1-to-type2·end-program (machQ p ∷ machI ri ∷ machR wr ∷ sliceVal (xcommands .ptr) (length (xcommands .now)) ∷ machZ m ∷ vbool identity ∷ sliceVal (bout, oout) mout ∷ []) (λ w. mean 𝓤 H A (GotAll 𝓤 G.the-row (Unit {0} × (Unit {0} × (Unit {0} × (Unit {0} × (Unit {0} × (Unit {0} × (List ℕ × Unit {0}))))))) (λ (r : G.the-row .Denot) (lasts : (Unit {0} × (Unit {0} × (Unit {0} × (Unit {0} × (Unit {0} × (Unit {0} × (List ℕ × Unit {0})))))))). Answers (settles (p .number) (finiteList (foldedList m (drawnIn (ri .entries) (xcommands .now)))) (writes (glyphOf (p .width) (ri .ran)) (resumedAll false [] wr ysout []))) (length ysout) r (lasts .1 .1 .1 .1 .1 .1 .0)) (λ (lasts : (Unit {0} × (Unit {0} × (Unit {0} × (Unit {0} × (Unit {0} × (Unit {0} × (List ℕ × Unit {0})))))))). (fsep ftrue (fsep ftrue (fsep ftrue (fsep ftrue (fsep ftrue (fsep ftrue (fsep (fsep (finally u8 γout (lasts .1 .1 .1 .1 .1 .1 .0)) (feq ℕ (length (lasts .1 .1 .1 .1 .1 .1 .0)) (length ysout))) ftrue)))))))) (‵ (flft κcommands qcommands) ⊛ (‵ (flft κout qout) ⊛ ‵ ftrue)) w)))
-  end-program-as known κcommands qcommands xcommands κout qout mout bout oout γout ysout p ri wr m identity p-fits ri-fits wr-fits m-fits need =
-      let y : EndProgramC 𝓤 H A mem run′ .Ghost = (((κcommands, (κout, tt)), (qcommands, (qout, tt)), tt, (p, (ri, (wr, (xcommands, (m, (identity, (at-list u8 mout bout oout γout ysout, tt))))))), (machQ p ∷ [], (machI ri ∷ [], (machR wr ∷ [], (sliceVal (xcommands .ptr) (length (xcommands .now)) ∷ [], (machZ m ∷ [], (vbool identity ∷ [], (sliceVal (bout, oout) mout ∷ [], tt)))))))), tt) in
-      via 𝓤 (EndProgramC 𝓤 H A mem run′ .pre y) (qed W (((‵ (flft κcommands qcommands) ⊛ ‵ (ShrSlice (named 0) κcommands u64 .own xcommands (sliceVal (xcommands .ptr) (length (xcommands .now)) ∷ []))) ⊛ (‵ (flft κout qout) ⊛ ‵ (Own u8 mout bout oout κout γout ysout))) ∷ []) ∵ says ! need $ split ! $ split ! $ move ! (2 ∷ []) $ split ! $ nothing ! $ move ! (2 ∷ 0 ∷ []) $ fjoin ! $ owned ! bool (Is bool) (bool-makes 𝓤 H A W) identity _ refl $ fjoin ! $ owned ! Z.the-row (Is Z.the-row) (LL.makes Z.the-type Z′.the-plain 𝓤 H A) m _ m-fits $ fjoin ! $ move ! (3 ∷ 0 ∷ []) $ fjoin ! $ owned ! R.the-row (Is R.the-row) (LL.makes R.the-type R′.the-plain 𝓤 H A) wr _ wr-fits $ fjoin ! $ owned ! I.the-row (Is I.the-row) (LL.makes I.the-type I′.the-plain 𝓤 H A) ri _ ri-fits $ fjoin ! $ owned ! Q.the-row (Is Q.the-row) (LL.makes Q.the-type Q′.the-plain 𝓤 H A) p _ p-fits $ fjoin ! $ nothing ! $ move ! (2 ∷ 0 ∷ []) $ join ! $ move ! (2 ∷ 0 ∷ []) $ join ! $ frame ! $ done !) (known y)
+  pub end-program-as : Triple 𝓤 (C #type1-to-type2·end-program) (EndProgramC 𝓤 H A mem run′) → (κcommands : Lft) (qcommands : Share) (xcommands : RefT (List ℕ)) (κout : Lft) (qout : Share) (mout bout oout : ℕ) (γout : GName) (ysout : List ℕ) (p : Plan) (ri : Interpreted) (wr : Writer) (fold : Fold) → Is Q.the-row p (machQ p ∷ []) → Is I.the-row ri (machI ri ∷ []) → Is R.the-row wr (machR wr ∷ []) → Is F.the-row fold (machF fold ∷ []) → (14 * ri .entries ≤ length (xcommands .now)) × ((e : ℕ) → e < ri .entries → All (OfCommand Good) (commandIn (xcommands .now) e))
+      → ent 𝓤 (mean 𝓤 H A ((‵ (flft κcommands qcommands) ⊛ ‵ (ShrSlice (named 0) κcommands u64 .own xcommands (sliceVal (xcommands .ptr) (length (xcommands .now)) ∷ []))) ⊛ (‵ (flft κout qout) ⊛ ‵ (Own u8 mout bout oout κout γout ysout)))) (C #type1-to-type2·end-program (machQ p ∷ machI ri ∷ machR wr ∷ sliceVal (xcommands .ptr) (length (xcommands .now)) ∷ machF fold ∷ sliceVal (bout, oout) mout ∷ []) (λ w. mean 𝓤 H A (GotAll 𝓤 G.the-row (Unit {0} × (Unit {0} × (Unit {0} × (Unit {0} × (Unit {0} × (List ℕ × Unit {0})))))) (λ (r : G.the-row .Denot) (lasts : (Unit {0} × (Unit {0} × (Unit {0} × (Unit {0} × (Unit {0} × (List ℕ × Unit {0}))))))). Answers (settles (p .number) (finiteList (foldedList fold (drawnIn (ri .entries) (xcommands .now)))) (writes (glyphOf (p .width) (ri .ran)) (resumedAll false [] wr ysout []))) (length ysout) r (lasts .1 .1 .1 .1 .1 .0)) (λ (lasts : (Unit {0} × (Unit {0} × (Unit {0} × (Unit {0} × (Unit {0} × (List ℕ × Unit {0}))))))). (fsep ftrue (fsep ftrue (fsep ftrue (fsep ftrue (fsep ftrue (fsep (fsep (finally u8 γout (lasts .1 .1 .1 .1 .1 .0)) (feq ℕ (length (lasts .1 .1 .1 .1 .1 .0)) (length ysout))) ftrue))))))) (‵ (flft κcommands qcommands) ⊛ (‵ (flft κout qout) ⊛ ‵ ftrue)) w)))
+  end-program-as known κcommands qcommands xcommands κout qout mout bout oout γout ysout p ri wr fold p-fits ri-fits wr-fits fold-fits need =
+      let y : EndProgramC 𝓤 H A mem run′ .Ghost = (((κcommands, (κout, tt)), (qcommands, (qout, tt)), tt, (p, (ri, (wr, (xcommands, (fold, (at-list u8 mout bout oout γout ysout, tt)))))), (machQ p ∷ [], (machI ri ∷ [], (machR wr ∷ [], (sliceVal (xcommands .ptr) (length (xcommands .now)) ∷ [], (machF fold ∷ [], (sliceVal (bout, oout) mout ∷ [], tt))))))), tt) in
+      via 𝓤 (EndProgramC 𝓤 H A mem run′ .pre y) (qed W (((‵ (flft κcommands qcommands) ⊛ ‵ (ShrSlice (named 0) κcommands u64 .own xcommands (sliceVal (xcommands .ptr) (length (xcommands .now)) ∷ []))) ⊛ (‵ (flft κout qout) ⊛ ‵ (Own u8 mout bout oout κout γout ysout))) ∷ []) ∵ says ! need $ split ! $ split ! $ move ! (2 ∷ []) $ split ! $ nothing ! $ move ! (2 ∷ 0 ∷ []) $ fjoin ! $ owned ! F.the-row (Is F.the-row) (LL.makes F.the-type F′.the-plain 𝓤 H A) fold _ fold-fits $ fjoin ! $ move ! (3 ∷ 0 ∷ []) $ fjoin ! $ owned ! R.the-row (Is R.the-row) (LL.makes R.the-type R′.the-plain 𝓤 H A) wr _ wr-fits $ fjoin ! $ owned ! I.the-row (Is I.the-row) (LL.makes I.the-type I′.the-plain 𝓤 H A) ri _ ri-fits $ fjoin ! $ owned ! Q.the-row (Is Q.the-row) (LL.makes Q.the-type Q′.the-plain 𝓤 H A) p _ p-fits $ fjoin ! $ nothing ! $ move ! (2 ∷ 0 ∷ []) $ join ! $ move ! (2 ∷ 0 ∷ []) $ join ! $ frame ! $ done !) (known y)
 
   pub first-number-as : Triple 𝓤 (C #type1-to-type2·first-number) (FirstNumberC 𝓤 H A mem run′) → (m : Matrix) (number : ℕ) → Is Z.the-row m (machZ m ∷ []) → number < 2 ^ 64
       → ent 𝓤 (mean 𝓤 H A (‵ ftrue)) (C #type1-to-type2·first-number (machZ m ∷ vint w64 number ∷ []) (λ w. mean 𝓤 H A (GotAll 𝓤 u64 (Unit {0} × (Unit {0} × Unit {0})) (λ (r : u64 .Denot) (lasts : (Unit {0} × (Unit {0} × Unit {0}))). r ≡ firstNumber m number) (λ (lasts : (Unit {0} × (Unit {0} × Unit {0}))). (fsep ftrue (fsep ftrue ftrue))) (‵ ftrue) w)))

@@ -6,7 +6,7 @@ use mathlib.Core.Bool.{Bool, true, false, cond}
 use mathlib.Core.List.{List, [], _∷_, _++_, append-nil, append-assoc}
 use lib.ListN.{length, take, drop, length-append}
 use lib.Dec.{T, eqb, eqb→eq, eqb-refl}
-use Rattle.geometry.specs.declared.Matrix.{Matrix}
+use Rattle.folding.specs.declared.Fold.{Fold}
 use Rattle.type1.specs.declared.Stem.{Stem}
 use Rattle.type1.specs.State.{Command, Group}
 use Rattle.type1.specs.Run.{pick}
@@ -88,34 +88,34 @@ group-end gs g (d ∷ ds) k e =
     ∙ sym (append-assoc (startsAt k gs) (shape d ∷ commands (suc k) gs ds) (hints (g .stems) ∷ []))
 
 -- ---- folded lists, one more
-pub list-end : (m : Matrix) (cs ds : List Command) → foldedList m (cs ++ ds) ≡ foldedList m cs ++ foldedList m ds
+pub list-end : (fold : Fold) (cs ds : List Command) → foldedList fold (cs ++ ds) ≡ foldedList fold cs ++ foldedList fold ds
 unfolding foldedList
-list-end m [] ds = refl
-list-end m (c ∷ cs) ds = ap (λ (x : List Command). foldedCommand m c ∷ x) (list-end m cs ds)
+list-end fold [] ds = refl
+list-end fold (c ∷ cs) ds = ap (λ (x : List Command). foldedCommand fold c ∷ x) (list-end fold cs ds)
 
-list-length : (m : Matrix) (cs : List Command) → length (foldedList m cs) ≡ length cs
+list-length : (fold : Fold) (cs : List Command) → length (foldedList fold cs) ≡ length cs
 unfolding foldedList
-list-length m [] = refl
-list-length m (c ∷ cs) = ap suc (list-length m cs)
+list-length fold [] = refl
+list-length fold (c ∷ cs) = ap suc (list-length fold cs)
 
-groups-length : (m : Matrix) (gs : List Group) → length (foldedGroups m gs) ≡ length gs
+groups-length : (fold : Fold) (gs : List Group) → length (foldedGroups fold gs) ≡ length gs
 unfolding foldedGroups
-groups-length m [] = refl
-groups-length m (g ∷ gs) = ap suc (groups-length m gs)
+groups-length fold [] = refl
+groups-length fold (g ∷ gs) = ap suc (groups-length fold gs)
 
-groups-at-most : (m : Matrix) (n : ℕ) (gs : List Group) → AtMost n gs → AtMost n (foldedGroups m gs)
+groups-at-most : (fold : Fold) (n : ℕ) (gs : List Group) → AtMost n gs → AtMost n (foldedGroups fold gs)
 unfolding foldedGroups All
-groups-at-most m n [] a = tt
-groups-at-most m n (g ∷ gs) a = (a .0, groups-at-most m n gs (a .1))
+groups-at-most fold n [] a = tt
+groups-at-most fold n (g ∷ gs) a = (a .0, groups-at-most fold n gs (a .1))
 
 -- ---- entries
-module _ (m : Matrix) (c : List ℕ) (z : List Stem) where
-  cmds-end : (e n : ℕ) → cmdsFrom m c z e (suc n) ≡ cmdsFrom m c z e n ++ cmdsIn m c (e + n) (groupAt m c z (e + n))
+module _ (fold : Fold) (c : List ℕ) (z : List Stem) where
+  cmds-end : (e n : ℕ) → cmdsFrom fold c z e (suc n) ≡ cmdsFrom fold c z e n ++ cmdsIn fold c (e + n) (groupAt fold c z (e + n))
   unfolding cmdsFrom
-  cmds-end e zero = append-nil _ ∙ ap (λ (k : ℕ). cmdsIn m c k (groupAt m c z k)) (let q : e ≡ e + 0 = omega arith in q)
+  cmds-end e zero = append-nil _ ∙ ap (λ (k : ℕ). cmdsIn fold c k (groupAt fold c z k)) (let q : e ≡ e + 0 = omega arith in q)
   cmds-end e (suc n) =
-      ap (λ (x : List Cmd). cmdsIn m c e (groupAt m c z e) ++ x) (cmds-end (suc e) n ∙ ap (λ (k : ℕ). cmdsFrom m c z (suc e) n ++ cmdsIn m c k (groupAt m c z k)) (let q : suc e + n ≡ e + suc n = omega arith in q))
-      ∙ sym (append-assoc (cmdsIn m c e (groupAt m c z e)) (cmdsFrom m c z (suc e) n) (cmdsIn m c (e + suc n) (groupAt m c z (e + suc n))))
+      ap (λ (x : List Cmd). cmdsIn fold c e (groupAt fold c z e) ++ x) (cmds-end (suc e) n ∙ ap (λ (k : ℕ). cmdsFrom fold c z (suc e) n ++ cmdsIn fold c k (groupAt fold c z k)) (let q : suc e + n ≡ e + suc n = omega arith in q))
+      ∙ sym (append-assoc (cmdsIn fold c e (groupAt fold c z e)) (cmdsFrom fold c z (suc e) n) (cmdsIn fold c (e + suc n) (groupAt fold c z (e + suc n))))
 
   groups-below : (n : ℕ) → AtMost (length (drawnIn n c)) (groupsIn n c z)
   unfolding groupsIn drawnIn All groupIn
@@ -134,89 +134,89 @@ module _ (m : Matrix) (c : List ℕ) (z : List Stem) where
 
   -- the kind of an entry: a group's start, or a command, or nothing
   abbrev whole : ℕ → List Cmd
-  whole n = commands 0 (foldedGroups m (groupsIn n c z)) (foldedList m (drawnIn n c))
+  whole n = commands 0 (foldedGroups fold (groupsIn n c z)) (foldedList fold (drawnIn n c))
 
-  group-stems : (e : ℕ) → eqb (word c e 0) 5 ≡ true → groupAt m c z e ≡ foldedStems m (take (word c e 2) (drop (word c e 1) z))
+  group-stems : (e : ℕ) → eqb (word c e 0) 5 ≡ true → groupAt fold c z e ≡ foldedStems fold (take (word c e 2) (drop (word c e 1) z))
   unfolding groupAt firstOf countOf
-  group-stems e q = ap₂ (λ (a b : ℕ). foldedStems m (take b (drop a z))) (ap (λ (b : Bool). cond b (word c e 1) 0) q) (ap (λ (b : Bool). cond b (word c e 2) 0) q)
+  group-stems e q = ap₂ (λ (a b : ℕ). foldedStems fold (take b (drop a z))) (ap (λ (b : Bool). cond b (word c e 1) 0) q) (ap (λ (b : Bool). cond b (word c e 2) 0) q)
 
   no-command : (e : ℕ) → eqb (word c e 0) 5 ≡ true → commandIn c e ≡ []
   unfolding commandIn
   no-command e q = let is = eqb→eq (word c e 0) 5 (subst T (sym q) tt) in rw is refl
 
-  shapes-end : (gs : List Group) (cs ds : List Command) → AtMost (length ds) gs → commands 0 gs (ds ++ foldedList m cs) ≡ commands 0 gs ds ++ shapes m cs
+  shapes-end : (gs : List Group) (cs ds : List Command) → AtMost (length ds) gs → commands 0 gs (ds ++ foldedList fold cs) ≡ commands 0 gs ds ++ shapes fold cs
   unfolding foldedList
   shapes-end gs [] ds a = ap (commands 0 gs) (append-nil ds) ∙ sym (append-nil (commands 0 gs ds))
   shapes-end gs (x ∷ cs) ds a =
-      let l = length-append ds (foldedCommand m x ∷ []) in
-      ap (commands 0 gs) (sym (append-assoc ds (foldedCommand m x ∷ []) (foldedList m cs)))
-      ∙ shapes-end gs cs (ds ++ (foldedCommand m x ∷ [])) (at-most-more (length ds) (length (ds ++ (foldedCommand m x ∷ []))) gs (omega (arith, l)) a)
-      ∙ ap (λ (y : List Cmd). y ++ shapes m cs) (command-end gs (foldedCommand m x) ds 0 (subst (λ (k : ℕ). AtMost k gs) (let q : length ds ≡ 0 + length ds = omega arith in q) a))
-      ∙ append-assoc (commands 0 gs ds) (shape (foldedCommand m x) ∷ []) (shapes m cs)
+      let l = length-append ds (foldedCommand fold x ∷ []) in
+      ap (commands 0 gs) (sym (append-assoc ds (foldedCommand fold x ∷ []) (foldedList fold cs)))
+      ∙ shapes-end gs cs (ds ++ (foldedCommand fold x ∷ [])) (at-most-more (length ds) (length (ds ++ (foldedCommand fold x ∷ []))) gs (omega (arith, l)) a)
+      ∙ ap (λ (y : List Cmd). y ++ shapes fold cs) (command-end gs (foldedCommand fold x) ds 0 (subst (λ (k : ℕ). AtMost k gs) (let q : length ds ≡ 0 + length ds = omega arith in q) a))
+      ∙ append-assoc (commands 0 gs ds) (shape (foldedCommand fold x) ∷ []) (shapes fold cs)
 
   group-case : (n : ℕ) → eqb (word c n 0) 5 ≡ true
-      → commands 0 (foldedGroups m (groupsIn n c z ++ (record { stems = take (word c n 2) (drop (word c n 1) z); before = length (drawnIn n c) } ∷ []))) (foldedList m (drawnIn n c ++ commandIn c n))
-      ≡ whole n ++ (hints (groupAt m c z n) ∷ [])
+      → commands 0 (foldedGroups fold (groupsIn n c z ++ (record { stems = take (word c n 2) (drop (word c n 1) z); before = length (drawnIn n c) } ∷ []))) (foldedList fold (drawnIn n c ++ commandIn c n))
+      ≡ whole n ++ (hints (groupAt fold c z n) ∷ [])
   unfolding foldedGroups
   group-case n q =
       let g : Group = record { stems = take (word c n 2) (drop (word c n 1) z); before = length (drawnIn n c) } in
-      ap₂ (λ (x : List Group) (y : List Command). commands 0 x y) (groups-join m (groupsIn n c z) (g ∷ [])) (ap (foldedList m) (ap (λ (x : List Command). drawnIn n c ++ x) (no-command n q) ∙ append-nil (drawnIn n c)))
-      ∙ group-end (foldedGroups m (groupsIn n c z)) (foldedGroup m g) (foldedList m (drawnIn n c)) 0 (let l = list-length m (drawnIn n c) in let r : length (drawnIn n c) ≡ 0 + length (foldedList m (drawnIn n c)) = omega (arith, l) in r)
+      ap₂ (λ (x : List Group) (y : List Command). commands 0 x y) (groups-join fold (groupsIn n c z) (g ∷ [])) (ap (foldedList fold) (ap (λ (x : List Command). drawnIn n c ++ x) (no-command n q) ∙ append-nil (drawnIn n c)))
+      ∙ group-end (foldedGroups fold (groupsIn n c z)) (foldedGroup fold g) (foldedList fold (drawnIn n c)) 0 (let l = list-length fold (drawnIn n c) in let r : length (drawnIn n c) ≡ 0 + length (foldedList fold (drawnIn n c)) = omega (arith, l) in r)
       ∙ ap (λ (x : List Stem). whole n ++ (hints x ∷ [])) (sym (group-stems n q))
 
-  command-case : (n : ℕ) → commands 0 (foldedGroups m (groupsIn n c z ++ [])) (foldedList m (drawnIn n c ++ commandIn c n)) ≡ whole n ++ shapes m (commandIn c n)
+  command-case : (n : ℕ) → commands 0 (foldedGroups fold (groupsIn n c z ++ [])) (foldedList fold (drawnIn n c ++ commandIn c n)) ≡ whole n ++ shapes fold (commandIn c n)
   command-case n =
-      ap₂ (λ (x : List Group) (y : List Command). commands 0 (foldedGroups m x) y) (append-nil (groupsIn n c z)) (list-end m (drawnIn n c) (commandIn c n))
-      ∙ shapes-end (foldedGroups m (groupsIn n c z)) (commandIn c n) (foldedList m (drawnIn n c)) (subst (λ (k : ℕ). AtMost k (foldedGroups m (groupsIn n c z))) (sym (list-length m (drawnIn n c))) (groups-at-most m (length (drawnIn n c)) (groupsIn n c z) (groups-below n)))
+      ap₂ (λ (x : List Group) (y : List Command). commands 0 (foldedGroups fold x) y) (append-nil (groupsIn n c z)) (list-end fold (drawnIn n c) (commandIn c n))
+      ∙ shapes-end (foldedGroups fold (groupsIn n c z)) (commandIn c n) (foldedList fold (drawnIn n c)) (subst (λ (k : ℕ). AtMost k (foldedGroups fold (groupsIn n c z))) (sym (list-length fold (drawnIn n c))) (groups-at-most fold (length (drawnIn n c)) (groupsIn n c z) (groups-below n)))
 
-  entry-end : (n : ℕ) → whole (suc n) ≡ whole n ++ cmdsIn m c n (groupAt m c z n)
+  entry-end : (n : ℕ) → whole (suc n) ≡ whole n ++ cmdsIn fold c n (groupAt fold c z n)
   unfolding groupsIn drawnIn groupIn cmdsIn
   entry-end n = go (eqb (word c n 0) 5) refl
     where
       go : (b : Bool) → eqb (word c n 0) 5 ≡ b
-          → commands 0 (foldedGroups m (groupsIn n c z ++ pick b (record { stems = take (word c n 2) (drop (word c n 1) z); before = length (drawnIn n c) } ∷ []) [])) (foldedList m (drawnIn n c ++ commandIn c n))
-          ≡ whole n ++ pick b (hints (groupAt m c z n) ∷ []) (shapes m (commandIn c n))
+          → commands 0 (foldedGroups fold (groupsIn n c z ++ pick b (record { stems = take (word c n 2) (drop (word c n 1) z); before = length (drawnIn n c) } ∷ []) [])) (foldedList fold (drawnIn n c ++ commandIn c n))
+          ≡ whole n ++ pick b (hints (groupAt fold c z n) ∷ []) (shapes fold (commandIn c n))
       go true q = group-case n q
       go false q = command-case n
 
-  pub commands-are : (n : ℕ) → cmdsFrom m c z 0 n ≡ commands 0 (foldedGroups m (groupsIn n c z)) (foldedList m (drawnIn n c))
+  pub commands-are : (n : ℕ) → cmdsFrom fold c z 0 n ≡ commands 0 (foldedGroups fold (groupsIn n c z)) (foldedList fold (drawnIn n c))
   unfolding cmdsFrom
   commands-are zero = unfold groupsIn drawnIn foldedGroups foldedList commands startsAt in refl
-  commands-are (suc n) = cmds-end 0 n ∙ ap (λ (k : ℕ). cmdsFrom m c z 0 n ++ cmdsIn m c k (groupAt m c z k)) (let q : 0 + n ≡ n = omega arith in q) ∙ ap (λ (x : List Cmd). x ++ cmdsIn m c n (groupAt m c z n)) (commands-are n) ∙ sym (entry-end n)
+  commands-are (suc n) = cmds-end 0 n ∙ ap (λ (k : ℕ). cmdsFrom fold c z 0 n ++ cmdsIn fold c k (groupAt fold c z k)) (let q : 0 + n ≡ n = omega arith in q) ∙ ap (λ (x : List Cmd). x ++ cmdsIn fold c n (groupAt fold c z n)) (commands-are n) ∙ sym (entry-end n)
 
   -- the stems of every group
-  group-all : (n : ℕ) → allStems (foldedGroups m (groupIn c z n (length (drawnIn n c)))) ≡ groupAt m c z n
+  group-all : (n : ℕ) → allStems (foldedGroups fold (groupIn c z n (length (drawnIn n c)))) ≡ groupAt fold c z n
   unfolding groupIn
   group-all n = go (eqb (word c n 0) 5) refl
     where
-      none : allStems (foldedGroups m []) ≡ []
+      none : allStems (foldedGroups fold []) ≡ []
       none = unfold allStems foldedGroups in refl
 
-      one : (g : Group) → allStems (foldedGroups m (g ∷ [])) ≡ foldedStems m (g .stems)
-      one g = unfold allStems foldedGroups in append-nil (foldedStems m (g .stems))
+      one : (g : Group) → allStems (foldedGroups fold (g ∷ [])) ≡ foldedStems fold (g .stems)
+      one g = unfold allStems foldedGroups in append-nil (foldedStems fold (g .stems))
 
-      nothing : eqb (word c n 0) 5 ≡ false → [] ≡ groupAt m c z n
-      nothing q = unfold groupAt firstOf countOf in sym (ap₂ (λ (a b : ℕ). foldedStems m (take b (drop a z))) (ap (λ (b : Bool). cond b (word c n 1) 0) q) (ap (λ (b : Bool). cond b (word c n 2) 0) q) ∙ folded-none m)
+      nothing : eqb (word c n 0) 5 ≡ false → [] ≡ groupAt fold c z n
+      nothing q = unfold groupAt firstOf countOf in sym (ap₂ (λ (a b : ℕ). foldedStems fold (take b (drop a z))) (ap (λ (b : Bool). cond b (word c n 1) 0) q) (ap (λ (b : Bool). cond b (word c n 2) 0) q) ∙ folded-none fold)
 
-      go : (b : Bool) → eqb (word c n 0) 5 ≡ b → allStems (foldedGroups m (pick b (record { stems = take (word c n 2) (drop (word c n 1) z); before = length (drawnIn n c) } ∷ []) [])) ≡ groupAt m c z n
+      go : (b : Bool) → eqb (word c n 0) 5 ≡ b → allStems (foldedGroups fold (pick b (record { stems = take (word c n 2) (drop (word c n 1) z); before = length (drawnIn n c) } ∷ []) [])) ≡ groupAt fold c z n
       go true q = one (record { stems = take (word c n 2) (drop (word c n 1) z); before = length (drawnIn n c) }) ∙ sym (group-stems n q)
       go false q = none ∙ nothing q
 
-  pub stems-are : (n : ℕ) → stemsTo m c z n ≡ allStems (foldedGroups m (groupsIn n c z))
+  pub stems-are : (n : ℕ) → stemsTo fold c z n ≡ allStems (foldedGroups fold (groupsIn n c z))
   unfolding stemsTo groupsIn
   stems-are zero = unfold foldedGroups allStems in refl
   stems-are (suc n) =
       ap₂ (λ (x y : List Stem). x ++ y) (stems-are n) (sym (group-all n))
-      ∙ sym (all-join (foldedGroups m (groupsIn n c z)) (foldedGroups m (groupIn c z n (length (drawnIn n c)))))
-      ∙ ap allStems (sym (groups-join m (groupsIn n c z) (groupIn c z n (length (drawnIn n c)))))
+      ∙ sym (all-join (foldedGroups fold (groupsIn n c z)) (foldedGroups fold (groupIn c z n (length (drawnIn n c)))))
+      ∙ ap allStems (sym (groups-join fold (groupsIn n c z) (groupIn c z n (length (drawnIn n c)))))
 
-  pub count-is : (n : ℕ) → groupCount n c ≡ length (foldedGroups m (groupsIn n c z))
+  pub count-is : (n : ℕ) → groupCount n c ≡ length (foldedGroups fold (groupsIn n c z))
   unfolding groupCount groupsIn groupIn
-  count-is zero = sym (groups-length m [])
+  count-is zero = sym (groups-length fold [])
   count-is (suc n) =
-      ap₂ _+_ (count-is n ∙ groups-length m (groupsIn n c z)) (go (eqb (word c n 0) 5))
+      ap₂ _+_ (count-is n ∙ groups-length fold (groupsIn n c z)) (go (eqb (word c n 0) 5))
       ∙ sym (length-append (groupsIn n c z) (pick (eqb (word c n 0) 5) (record { stems = take (word c n 2) (drop (word c n 1) z); before = length (drawnIn n c) } ∷ []) []))
-      ∙ sym (groups-length m (groupsIn n c z ++ pick (eqb (word c n 0) 5) (record { stems = take (word c n 2) (drop (word c n 1) z); before = length (drawnIn n c) } ∷ []) []))
+      ∙ sym (groups-length fold (groupsIn n c z ++ pick (eqb (word c n 0) 5) (record { stems = take (word c n 2) (drop (word c n 1) z); before = length (drawnIn n c) } ∷ []) []))
     where
       go : (b : Bool) → pick b 1 0 ≡ length {A = Group} (pick b (record { stems = take (word c n 2) (drop (word c n 1) z); before = length (drawnIn n c) } ∷ []) [])
       go true = refl

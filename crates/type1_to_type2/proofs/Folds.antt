@@ -1,68 +1,42 @@
 -- Laws: folding the stems and groups of a run.
 use mathlib.Core.Path.{_≡_, refl, sym, ap, _∙_}
-use mathlib.Core.Bool.{Bool, true, false, _&&_, _||_, cond}
+use mathlib.Core.Bool.{Bool, true, false, _&&_, cond}
 use mathlib.Core.List.{List, [], _∷_, _++_, append-assoc}
 use lib.Ieee.Scale.{finite}
-use Rattle.geometry.specs.declared.Matrix.{Matrix}
+use Rattle.folding.specs.declared.Fold.{Fold}
 use Rattle.type1.specs.declared.Stem.{Stem}
 use Rattle.type1.specs.State.{Group}
-use Rattle.folding.specs.Folding.{isIdentity, stays, foldedStem, keptStems, foldedStems, foldedGroups, finiteStems, finiteGroups}
+use Rattle.folding.specs.Folding.{stemStays, foldedStem, foldedStems, foldedGroups, finiteStems, finiteGroups}
 use Rattle.type1_to_type2.specs.Stems.{allStems}
-use Rattle.type1_to_type2.specs.Collecting.{foldedOne, keeps}
 
 -- ---- a stem more
-module _ (m : Matrix) where
-  kept-join : (l k : List Stem) → keptStems m (l ++ k) ≡ keptStems m l ++ keptStems m k
-  unfolding keptStems
-  kept-join [] k = refl
-  kept-join (s ∷ l) k = choose (stays m (s .horizontal)) (kept-join l k)
+module _ (fold : Fold) where
+  pub folded-join : (l k : List Stem) → foldedStems fold (l ++ k) ≡ foldedStems fold l ++ foldedStems fold k
+  unfolding foldedStems
+  folded-join [] k = refl
+  folded-join (s ∷ l) k = choose (stemStays fold s) (folded-join l k)
     where
-      choose : (b : Bool) → keptStems m (l ++ k) ≡ keptStems m l ++ keptStems m k → cond b (foldedStem m s ∷ keptStems m (l ++ k)) (keptStems m (l ++ k)) ≡ cond b (foldedStem m s ∷ keptStems m l) (keptStems m l) ++ keptStems m k
-      choose true e = ap (λ (q : List Stem). foldedStem m s ∷ q) e
+      choose : (b : Bool) → foldedStems fold (l ++ k) ≡ foldedStems fold l ++ foldedStems fold k → cond b (foldedStem fold s ∷ foldedStems fold (l ++ k)) (foldedStems fold (l ++ k)) ≡ cond b (foldedStem fold s ∷ foldedStems fold l) (foldedStems fold l) ++ foldedStems fold k
+      choose true e = ap (λ (q : List Stem). foldedStem fold s ∷ q) e
       choose false e = e
 
-  pub folded-join : (l k : List Stem) → foldedStems m (l ++ k) ≡ foldedStems m l ++ foldedStems m k
+  pub folded-none : foldedStems fold [] ≡ []
   unfolding foldedStems
-  folded-join l k = choose (isIdentity m)
-    where
-      choose : (b : Bool) → cond b (l ++ k) (keptStems m (l ++ k)) ≡ cond b l (keptStems m l) ++ cond b k (keptStems m k)
-      choose true = refl
-      choose false = kept-join l k
+  folded-none = refl
 
-  pub folded-none : foldedStems m [] ≡ []
-  unfolding foldedStems keptStems
-  folded-none = choose (isIdentity m)
-    where
-      choose : (b : Bool) → _≡_ {A = List Stem} (cond b [] []) []
-      choose true = refl
-      choose false = refl
+  pub folded-is : (s f : Stem) → stemStays fold s ≡ true → f ≡ foldedStem fold s → foldedStems fold (s ∷ []) ≡ f ∷ []
+  unfolding foldedStems
+  folded-is s f k e = ap (λ (b : Bool). cond b (foldedStem fold s ∷ []) []) k ∙ ap (λ (q : Stem). q ∷ []) (sym e)
 
-  folded-kept : (s : Stem) → keeps m s ≡ true → foldedStems m (s ∷ []) ≡ foldedOne m s ∷ []
-  unfolding foldedStems keptStems
-  folded-kept s = choose (isIdentity m) (stays m (s .horizontal))
-    where
-      choose : (b k : Bool) → (b || k) ≡ true → cond b (s ∷ []) (cond k (foldedStem m s ∷ []) []) ≡ cond b s (foldedStem m s) ∷ []
-      choose true k e = refl
-      choose false true e = refl
-      choose false false e = ap (λ (b : Bool). cond b (foldedStem m s ∷ []) []) e
-
-  pub folded-is : (s f : Stem) → keeps m s ≡ true → f ≡ foldedOne m s → foldedStems m (s ∷ []) ≡ f ∷ []
-  folded-is s f k e = folded-kept s k ∙ ap (λ (q : Stem). q ∷ []) (sym e)
-
-  pub folded-lost : (s : Stem) → keeps m s ≡ false → foldedStems m (s ∷ []) ≡ []
-  unfolding foldedStems keptStems
-  folded-lost s = choose (isIdentity m) (stays m (s .horizontal))
-    where
-      choose : (b k : Bool) → (b || k) ≡ false → cond b (s ∷ []) (cond k (foldedStem m s ∷ []) []) ≡ []
-      choose true k e = ap (λ (b : Bool). cond b (s ∷ []) []) e
-      choose false true e = ap (λ (b : Bool). cond b (foldedStem m s ∷ []) []) e
-      choose false false e = refl
+  pub folded-lost : (s : Stem) → stemStays fold s ≡ false → foldedStems fold (s ∷ []) ≡ []
+  unfolding foldedStems
+  folded-lost s k = ap (λ (b : Bool). cond b (foldedStem fold s ∷ []) []) k
 
 -- ---- a group more
-pub groups-join : (m : Matrix) (l k : List Group) → foldedGroups m (l ++ k) ≡ foldedGroups m l ++ foldedGroups m k
+pub groups-join : (fold : Fold) (l k : List Group) → foldedGroups fold (l ++ k) ≡ foldedGroups fold l ++ foldedGroups fold k
 unfolding foldedGroups
-groups-join m [] k = refl
-groups-join m (g ∷ l) k = ap (λ (q : List Group). record { stems = foldedStems m (g .stems); before = g .before } ∷ q) (groups-join m l k)
+groups-join fold [] k = refl
+groups-join fold (g ∷ l) k = ap (λ (q : List Group). record { stems = foldedStems fold (g .stems); before = g .before } ∷ q) (groups-join fold l k)
 
 pub all-join : (l k : List Group) → allStems (l ++ k) ≡ allStems l ++ allStems k
 unfolding allStems

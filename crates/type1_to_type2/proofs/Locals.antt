@@ -3,12 +3,15 @@ use mir.Syntax.{Ty, Lifetime, mut, imm, w8, w64, tyInt, tyArray, tyBool, tyRef}
 use mir.Val.{Val}
 use denote.Struct.Laws as LL
 use Rattle.geometry.specs.declared.Matrix.{Matrix}
+use Rattle.folding.specs.declared.Fold.{Fold}
 use Rattle.type1_to_type2.specs.declared.Collected.{Collected}
 use Rattle.type1_to_type2.specs.declared.Writer.{Writer}
 use Rattle.type1_to_type2.specs.declared.Type2Glyph.{Type2Glyph}
 use Rattle.type1_to_type2.specs.declared.Plan.{Plan}
 use Rattle.geometry.proofs.Matrix as Z
 use Rattle.geometry.proofs.Matrix.Laws as Z′
+use Rattle.folding.proofs.Fold as F
+use Rattle.folding.proofs.Fold.Laws as F′
 use Rattle.type1_to_type2.proofs.Collected as K
 use Rattle.type1_to_type2.proofs.Collected.Laws as K′
 use Rattle.type1_to_type2.proofs.Writer as R
@@ -32,6 +35,9 @@ tO ℓ = tyRef ℓ mut (tyInt w8)
 
 abbrev pub machZ : Matrix → Val
 machZ h = LL.tuple-val Z.the-type Z′.the-laws (Z.the-type .to h)
+
+abbrev pub machF : Fold → Val
+machF h = LL.tuple-val F.the-type F′.the-laws (F.the-type .to h)
 
 abbrev pub machK : Collected → Val
 machK h = LL.tuple-val K.the-type K′.the-laws (K.the-type .to h)

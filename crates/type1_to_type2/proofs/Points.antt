@@ -10,7 +10,7 @@ use lib.Ieee.{Float, nan, inf, fin, binary64, isNan, nanBits, ofBits}
 use lib.Ieee.Scale.{finite}
 use lib.Ieee.Bits.{nanBits-is}
 use Rattle.geometry.specs.declared.Point.{Point}
-use Rattle.geometry.specs.declared.Matrix.{Matrix}
+use Rattle.folding.specs.declared.Fold.{Fold}
 use Rattle.type1.specs.Memory.{Good, pointIn}
 use Rattle.type1.specs.Sound.{All, OfPoint}
 use Rattle.folding.specs.Folding.{foldedPoint}
@@ -40,25 +40,25 @@ unfolding pointsIn
 points-over c e n j h = ap (pointsIn c e (2 * j + 1)) (let a : n - j ≡ 0 = omega arith in a)
 
 -- with j of n points written, what writes the others writes all of them
-abbrev pub PointsLeft : Matrix → List ℕ → ℕ → ℕ → Writer → List ℕ → Writer → List ℕ → ℕ → Type 0
-PointsLeft m c e n w b r a j =
-    All (OfPoint Good) (pointsIn c e (2 * j + 1) (n - j)) × ((s : Writer) (z : List ℕ) → Goes (foldedPoints m (pointsIn c e (2 * j + 1) (n - j))) r a s z → Goes (foldedPoints m (pointsIn c e 1 n)) w b s z)
+abbrev pub PointsLeft : Fold → List ℕ → ℕ → ℕ → Writer → List ℕ → Writer → List ℕ → ℕ → Type 0
+PointsLeft fold c e n w b r a j =
+    All (OfPoint Good) (pointsIn c e (2 * j + 1) (n - j)) × ((s : Writer) (z : List ℕ) → Goes (foldedPoints fold (pointsIn c e (2 * j + 1) (n - j))) r a s z → Goes (foldedPoints fold (pointsIn c e 1 n)) w b s z)
 
-pub points-first : (m : Matrix) (c : List ℕ) (e n : ℕ) (w : Writer) (b : List ℕ) → All (OfPoint Good) (pointsIn c e 1 n) → PointsLeft m c e n w b w b 0
-points-first m c e n w b g = rw (sub-zero n) (g, λ s z d. d)
+pub points-first : (fold : Fold) (c : List ℕ) (e n : ℕ) (w : Writer) (b : List ℕ) → All (OfPoint Good) (pointsIn c e 1 n) → PointsLeft fold c e n w b w b 0
+points-first fold c e n w b g = rw (sub-zero n) (g, λ s z d. d)
 
-pub point-good : (m : Matrix) (c : List ℕ) (e n j : ℕ) {w r : Writer} {b a : List ℕ} → j < n → PointsLeft m c e n w b r a j → OfPoint Good (pointIn c e (2 * j + 1))
+pub point-good : (fold : Fold) (c : List ℕ) (e n j : ℕ) {w r : Writer} {b a : List ℕ} → j < n → PointsLeft fold c e n w b r a j → OfPoint Good (pointIn c e (2 * j + 1))
 unfolding All
-point-good m c e n j h l = subst (All (OfPoint Good)) (points-next c e n j h) (l .0) .0
+point-good fold c e n j h l = subst (All (OfPoint Good)) (points-next c e n j h) (l .0) .0
 
-pub point-written : (m : Matrix) (c : List ℕ) (e n j : ℕ) (p : Point) {w r s : Writer} {b a z : List ℕ} → j < n → PointsLeft m c e n w b r a j → p ≡ foldedPoint m (pointIn c e (2 * j + 1)) → Goes (p ∷ []) r a s z → PointsLeft m c e n w b s z (j + 1)
+pub point-written : (fold : Fold) (c : List ℕ) (e n j : ℕ) (p : Point) {w r s : Writer} {b a z : List ℕ} → j < n → PointsLeft fold c e n w b r a j → p ≡ foldedPoint fold (pointIn c e (2 * j + 1)) → Goes (p ∷ []) r a s z → PointsLeft fold c e n w b s z (j + 1)
 unfolding All foldedPoints
-point-written m c e n j p {r = r} {s = s} {a = a} {z = z} h l q d =
+point-written fold c e n j p {r = r} {s = s} {a = a} {z = z} h l q d =
     let u = points-next c e n j h in (
       subst (All (OfPoint Good)) u (l .0) .1,
-      λ t y g. l .1 t y (subst (λ (ps : List Point). Goes (foldedPoints m ps) r a t y) (sym u) (goes-one (subst (λ (x : Point). Goes (x ∷ []) r a s z) q d) g)),
+      λ t y g. l .1 t y (subst (λ (ps : List Point). Goes (foldedPoints fold ps) r a t y) (sym u) (goes-one (subst (λ (x : Point). Goes (x ∷ []) r a s z) q d) g)),
     )
 
-pub points-written : (m : Matrix) (c : List ℕ) (e n j : ℕ) {w r : Writer} {b a : List ℕ} → n ≤ j → PointsLeft m c e n w b r a j → Goes (foldedPoints m (pointsIn c e 1 n)) w b r a
+pub points-written : (fold : Fold) (c : List ℕ) (e n j : ℕ) {w r : Writer} {b a : List ℕ} → n ≤ j → PointsLeft fold c e n w b r a j → Goes (foldedPoints fold (pointsIn c e 1 n)) w b r a
 unfolding foldedPoints
-points-written m c e n j {r = r} {a = a} h l = l .1 r a (subst (λ (ps : List Point). Goes (foldedPoints m ps) r a r a) (sym (points-over c e n j h)) (goes-none r a))
+points-written fold c e n j {r = r} {a = a} h l = l .1 r a (subst (λ (ps : List Point). Goes (foldedPoints fold ps) r a r a) (sym (points-over c e n j h)) (goes-none r a))

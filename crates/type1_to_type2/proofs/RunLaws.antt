@@ -9,6 +9,7 @@ use lib.Dec.{T, eqb, eqb·suc-zero, ltb, ltb→lt, nltb→le}
 use lib.Ieee.{Float}
 use lib.Ieee.Scale.{finite}
 use Rattle.geometry.specs.declared.Matrix.{Matrix}
+use Rattle.folding.specs.declared.Fold.{Fold}
 use Rattle.type1.specs.declared.Stem.{Stem}
 use Rattle.type1.specs.declared.Reading.{Reading}
 use Rattle.type1.specs.declared.Interpreted.{Interpreted}
@@ -23,7 +24,7 @@ use Rattle.type1_to_type2.specs.declared.Collected.{Collected}
 use Rattle.type1_to_type2.specs.declared.Plan.{Plan}
 use Rattle.type1_to_type2.specs.declared.Writer.{Writer}
 use Rattle.type1_to_type2.specs.declared.Type2Glyph.{Type2Glyph}
-use Rattle.folding.specs.Folding.{finiteMatrix, foldedWidth, foldedList, foldedGroups, finiteList, finiteGroups, foldsFinite, refusal}
+use Rattle.folding.specs.Folding.{finiteMatrix, foldOf, foldedWidth, foldedList, foldedGroups, finiteList, finiteGroups, foldsFinite, refusal}
 use Rattle.type2.specs.Bools.{yes}
 use Rattle.type1_to_type2.specs.Stems.{Declared, declared, allStems}
 use Rattle.type1_to_type2.specs.Emission.{Cmd, items, commands, program}
@@ -70,33 +71,41 @@ settled true true false true n p x y v e q h g = ap (λ (j : ℕ). settles j tru
 settled true true false false n p x y v e q h g = ap (λ (j : ℕ). settles j false (writes v (pick (eqb j 0) x (Writing.refused j)))) q
 settled true false s points n p x y v e q h g = ap (λ (j : ℕ). settles j points (writes v (pick (eqb j 0) x (Writing.refused j)))) q
 
-module _ (number : ℕ) (m : Matrix) (r : Interpreted) (c : List ℕ) (z : List Stem) (room : ℕ) where
+module _ (number : ℕ) (m : Matrix) (fold : Fold) (made : fold ≡ foldOf m) (r : Interpreted) (c : List ℕ) (z : List Stem) (room : ℕ) where
   abbrev gs : List Group
-  gs = foldedGroups m (groupsIn (r .entries) c z)
+  gs = foldedGroups fold (groupsIn (r .entries) c z)
 
-  is-run : fromRun number m room r c z ≡ pick (eqb number 0) (pick (finite (foldedWidth m (r .width)) && (finiteList (foldedList m (drawnIn (r .entries) c)) && finiteGroups gs)) (writes (glyphOf (foldedWidth m (r .width)) (r .ran)) (write (program (declared gs) (commands 0 gs (foldedList m (drawnIn (r .entries) c)))) room)) (Convert.refused 14)) (Convert.refused number)
+  -- what `fromRun` says, by what is folded by
+  abbrev folds : Fold → Conversion
+  folds by =
+      let gs = foldedGroups by (groupsIn (r .entries) c z) in
+      let ds = foldedList by (drawnIn (r .entries) c) in
+      let w = foldedWidth m (r .width) in
+      pick (eqb number 0) (pick (finite w && (finiteList ds && finiteGroups gs)) (writes (glyphOf w (r .ran)) (write (program (declared gs) (commands 0 gs ds)) room)) (Convert.refused 14)) (Convert.refused number)
+
+  from-made : fromRun number m room r c z ≡ folds (foldOf m)
   unfolding fromRun folded foldsFinite instructions
-  is-run = refl
+  from-made = refl
 
   pub run-answers : (k : ℕ) (c₀ cc : Collected) (ta tu ta₁ tu₁ : List Float) (p : Plan) (w v : Writer) (out₁ out₂ out₃ : List ℕ) (g : Type2Glyph) (z′ : List Stem)
-      → length ta ≡ 192 → length tu ≡ 192 → k ≡ groupCount (r .entries) c → c₀ ≡ noneOf k → Gathers (stemsTo m c z (r .entries)) c₀ ta tu cc ta₁ tu₁ → Planned number cc m (r .width) p → Opens p ta₁ tu₁ room w out₁ → z′ ≡ z
-      → resumedAll (p .masked) (both (p .across) (p .upright) ta₁ tu₁) v out₂ [] ≡ resumedAll (p .masked) (both (p .across) (p .upright) ta₁ tu₁) w out₁ (cmdsFrom m c z′ 0 (r .entries)) → length out₂ ≡ room
-      → Answers (settles (p .number) (finiteList (foldedList m (drawnIn (r .entries) c))) (writes (glyphOf (p .width) (r .ran)) (resumedAll false [] v out₂ []))) (length out₂) g out₃ → Answers (fromRun number m room r c z) room g out₃
+      → length ta ≡ 192 → length tu ≡ 192 → k ≡ groupCount (r .entries) c → c₀ ≡ noneOf k → Gathers (stemsTo fold c z (r .entries)) c₀ ta tu cc ta₁ tu₁ → Planned number cc m (r .width) p → Opens p ta₁ tu₁ room w out₁ → z′ ≡ z
+      → resumedAll (p .masked) (both (p .across) (p .upright) ta₁ tu₁) v out₂ [] ≡ resumedAll (p .masked) (both (p .across) (p .upright) ta₁ tu₁) w out₁ (cmdsFrom fold c z′ 0 (r .entries)) → length out₂ ≡ room
+      → Answers (settles (p .number) (finiteList (foldedList fold (drawnIn (r .entries) c))) (writes (glyphOf (p .width) (r .ran)) (resumedAll false [] v out₂ []))) (length out₂) g out₃ → Answers (fromRun number m room r c z) room g out₃
   run-answers k c₀ cc ta tu ta₁ tu₁ p w v out₁ out₂ out₃ g z′ la lu K e₀ G P B ez e l A =
-      let C : Collects (stemsTo m c z (r .entries)) cc ta₁ tu₁ = G .0 [] (subst (λ (x : Collected). Collects [] x ta tu) (sym e₀) (collects-group noneCollected k ta tu [] (collects-first ta tu la lu))) in
-      let C′ : Collects (allStems gs) cc ta₁ tu₁ = subst (λ (x : List Stem). Collects x cc ta₁ tu₁) (stems-are m c z (r .entries)) C in
+      let C : Collects (stemsTo fold c z (r .entries)) cc ta₁ tu₁ = G .0 [] (subst (λ (x : Collected). Collects [] x ta tu) (sym e₀) (collects-group noneCollected k ta tu [] (collects-first ta tu la lu))) in
+      let C′ : Collects (allStems gs) cc ta₁ tu₁ = subst (λ (x : List Stem). Collects x cc ta₁ tu₁) (stems-are fold c z (r .entries)) C in
       let fw = finite (foldedWidth m (r .width)) in
-      let ds = foldedList m (drawnIn (r .entries) c) in
+      let ds = foldedList fold (drawnIn (r .entries) c) in
       let same : (fw && cc .finite) ≡ (fw && finiteGroups gs) = ap (λ (x : Bool). fw && x) (C′ .fine ∙ sym (finite-all gs)) in
-      let counted : cc .groups ≡ length gs = G .1 .0 ∙ ap (λ (x : Collected). x .groups) e₀ ∙ K ∙ count-is m c z (r .entries) in
-      let left = nothing-left (p .masked) (both (p .across) (p .upright) ta₁ tu₁) v out₂ ∙ e ∙ ap (λ (x : List Stem). resumedAll (p .masked) (both (p .across) (p .upright) ta₁ tu₁) w out₁ (cmdsFrom m c x 0 (r .entries))) ez ∙ B .more (cmdsFrom m c z 0 (r .entries)) ∙ opens-is p ta₁ tu₁ room (cmdsFrom m c z 0 (r .entries)) in
+      let counted : cc .groups ≡ length gs = G .1 .0 ∙ ap (λ (x : Collected). x .groups) e₀ ∙ K ∙ count-is fold c z (r .entries) in
+      let left = nothing-left (p .masked) (both (p .across) (p .upright) ta₁ tu₁) v out₂ ∙ e ∙ ap (λ (x : List Stem). resumedAll (p .masked) (both (p .across) (p .upright) ta₁ tu₁) w out₁ (cmdsFrom fold c x 0 (r .entries))) ez ∙ B .more (cmdsFrom fold c z 0 (r .entries)) ∙ opens-is p ta₁ tu₁ room (cmdsFrom fold c z 0 (r .entries)) in
       let x : settles (p .number) (finiteList ds) (writes (glyphOf (p .width) (r .ran)) (resumedAll false [] v out₂ [])) ≡ fromRun number m room r c z =
       ap₂ (λ (a : Float) (b : Written). settles (p .number) (finiteList ds) (writes (glyphOf a (r .ran)) b)) (P .width-is) left
-      ∙ settled (eqb number 0) fw (finiteGroups gs) (finiteList ds) number (p .number) (write (program (tables p ta₁ tu₁) (cmdsFrom m c z 0 (r .entries))) room) (write (program (declared gs) (commands 0 gs ds)) room) (glyphOf (foldedWidth m (r .width)) (r .ran)) refl
+      ∙ settled (eqb number 0) fw (finiteGroups gs) (finiteList ds) number (p .number) (write (program (tables p ta₁ tu₁) (cmdsFrom fold c z 0 (r .entries))) room) (write (program (declared gs) (commands 0 gs ds)) room) (glyphOf (foldedWidth m (r .width)) (r .ran)) refl
       (P .number-is ∙ ap (λ (b : Bool). pick (eqb number 0) (pick b 0 14) number) same)
-      (λ f. ap₂ (λ (d : Declared) (cs : List Cmd). write (program d cs) room) (sym (P .stems gs ta₁ tu₁ C′ counted (and-right fw (cc .finite) (same ∙ f)))) (commands-are m c z (r .entries)))
+      (λ f. ap₂ (λ (d : Declared) (cs : List Cmd). write (program d cs) room) (sym (P .stems gs ta₁ tu₁ C′ counted (and-right fw (cc .finite) (same ∙ f)))) (commands-are fold c z (r .entries)))
       (λ b q. yes (finiteList ds) (written-finite (declared gs) gs ds room b q))
-      ∙ sym is-run in
+      ∙ ap folds made ∙ sym from-made in
       record { glyph = A .glyph ∙ ap answer x; bytes = A .bytes ∙ ap₂ output l x }
     where
       opens-is : (p : Plan) (ta tu : List Float) (room : ℕ) (cs : List Cmd) → opens p ta tu room cs ≡ pick (eqb (p .number) 0) (write (program (tables p ta tu) cs) room) (Writing.refused (p .number))
@@ -139,8 +148,8 @@ left-stored r c z c₀ z₀ (Run.refused n) L = none-stored r c z n (L .1 .0)
 same-fold : (m : Matrix) (room : ℕ) (s t : State) → s .width ≡ t .width → s .ran ≡ t .ran → s .groups ≡ t .groups → s .drawn ≡ t .drawn → folded m room s ≡ folded m room t
 unfolding folded foldsFinite instructions
 same-fold m room s t a b g d = λ i.
-    pick (finite (foldedWidth m (a i)) && (finiteList (foldedList m (d i)) && finiteGroups (foldedGroups m (g i))))
-    (writes (glyphOf (foldedWidth m (a i)) (b i)) (write (program (declared (foldedGroups m (g i))) (commands 0 (foldedGroups m (g i)) (foldedList m (d i)))) room)) (Convert.refused 14)
+    pick (finite (foldedWidth m (a i)) && (finiteList (foldedList (foldOf m) (d i)) && finiteGroups (foldedGroups (foldOf m) (g i))))
+    (writes (glyphOf (foldedWidth m (a i)) (b i)) (write (program (declared (foldedGroups (foldOf m) (g i))) (commands 0 (foldedGroups (foldOf m) (g i)) (foldedList (foldOf m) (d i)))) room)) (Convert.refused 14)
 
 left-fold : (m : Matrix) (room : ℕ) (r : Interpreted) (c : List ℕ) (z : List Stem) (s : State) → Left r c z s → folded m room (leftState r c z) ≡ folded m room s
 left-fold m room r c z s L = same-fold m room (leftState r c z) s (L .width) (L .ran) (L .groups) (L .drawn)

@@ -13,7 +13,7 @@ use Rattle.type1.specs.Run.{Outcome, pick}
 use Rattle.type1.specs.Interpret.{Source, outcome}
 use Rattle.type2.specs.Instruction.{Instr}
 use Rattle.type1_to_type2.specs.declared.Type2Glyph.{Type2Glyph}
-use Rattle.folding.specs.Folding.{finiteMatrix, foldedList, foldedGroups, foldedWidth, foldsFinite}
+use Rattle.folding.specs.Folding.{finiteMatrix, foldOf, foldedList, foldedGroups, foldedWidth, foldsFinite}
 use Rattle.type1_to_type2.specs.Stems.{declared}
 use Rattle.type1_to_type2.specs.Emission.{commands, program}
 use Rattle.type1_to_type2.specs.Writing as Writing
@@ -35,7 +35,7 @@ pub data Conversion : Type 0 where
 
 -- the instructions for what a run has left
 unfoldable pub instructions : Matrix → State → List Instr
-instructions m s = let gs = foldedGroups m (s .groups) in program (declared gs) (commands 0 gs (foldedList m (s .drawn)))
+instructions m s = let gs = foldedGroups (foldOf m) (s .groups) in program (declared gs) (commands 0 gs (foldedList (foldOf m) (s .drawn)))
 
 -- the glyph of the bytes that were written
 abbrev pub writes : (List ℕ → Glyph) → Written → Conversion

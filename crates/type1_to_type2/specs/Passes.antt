@@ -6,14 +6,14 @@ use mathlib.Core.List.{List, [], _∷_, _++_}
 use lib.Dec.{eqb}
 use lib.ListN.{length, take, drop}
 use lib.Ieee.{Float}
-use Rattle.geometry.specs.declared.Matrix.{Matrix}
+use Rattle.folding.specs.declared.Fold.{Fold}
 use Rattle.type1.specs.declared.Stem.{Stem}
 use Rattle.type1.specs.Run.{pick}
 use Rattle.type1.specs.Sound.{All, OfCommand}
 use Rattle.type1.specs.Memory.{Good, word, commandIn}
 use Rattle.type1_to_type2.specs.declared.Collected.{Collected}
 use Rattle.type1_to_type2.specs.declared.Writer.{Writer}
-use Rattle.folding.specs.Folding.{isIdentity, foldedStems}
+use Rattle.folding.specs.Folding.{foldedStems}
 use Rattle.type1_to_type2.specs.Stems.{maskOf}
 use Rattle.type1_to_type2.specs.Emission.{Cmd}
 use Rattle.type1_to_type2.specs.Table.{tableStems}
@@ -36,18 +36,18 @@ abbrev pub Marks : List Stem → ℕ → ℕ → List Float → List Float → L
 Marks g na nu ta tu mask mask′ = (length mask′ ≡ length mask) × ((l : List Stem) → take (na + nu) mask ≡ maskOf l (both na nu ta tu) → take (na + nu) mask′ ≡ maskOf (l ++ g) (both na nu ta tu))
 
 -- the folded stems of the group that starts at entry e, none where no group does
-unfoldable pub groupAt : Matrix → List ℕ → List Stem → ℕ → List Stem
-groupAt m c z e = foldedStems m (records (firstOf c e) (countOf c e) z)
+unfoldable pub groupAt : Fold → List ℕ → List Stem → ℕ → List Stem
+groupAt fold c z e = foldedStems fold (records (firstOf c e) (countOf c e) z)
 
 -- the folded stems of the first e entries' groups
-unfoldable pub stemsTo : Matrix → List ℕ → List Stem → ℕ → List Stem
-stemsTo m c z zero = []
-stemsTo m c z (suc e) = stemsTo m c z e ++ groupAt m c z e
+unfoldable pub stemsTo : Fold → List ℕ → List Stem → ℕ → List Stem
+stemsTo fold c z zero = []
+stemsTo fold c z (suc e) = stemsTo fold c z e ++ groupAt fold c z e
 
 -- n entries from e on, as commands
-unfoldable pub cmdsFrom : Matrix → List ℕ → List Stem → ℕ → ℕ → List Cmd
-cmdsFrom m c z e zero = []
-cmdsFrom m c z e (suc n) = cmdsIn m c e (groupAt m c z e) ++ cmdsFrom m c z (suc e) n
+unfoldable pub cmdsFrom : Fold → List ℕ → List Stem → ℕ → ℕ → List Cmd
+cmdsFrom fold c z e zero = []
+cmdsFrom fold c z e (suc n) = cmdsIn fold c e (groupAt fold c z e) ++ cmdsFrom fold c z (suc e) n
 
 -- the stores hold so many entries: each group's records are there, and every coordinate is a finite double
 pub record Stored (entries : ℕ) (c : List ℕ) (z : List Stem) : Type 0 where

@@ -8,7 +8,7 @@ use lib.Dec.{eqb, leb}
 use lib.IntN.{ℤ}
 use lib.Ieee.{Float}
 use Rattle.geometry.specs.declared.Point.{Point}
-use Rattle.geometry.specs.declared.Matrix.{Matrix}
+use Rattle.folding.specs.declared.Fold.{Fold}
 use Rattle.type1.specs.declared.Stem.{Stem}
 use Rattle.type1.specs.State.{Command, plusZero}
 use Rattle.type1.specs.Run.{pick}
@@ -71,21 +71,21 @@ resumedAll masked ss w out cs = resumedItems w out (items masked ss (pointOf w) 
 
 -- ---- the commands of entry e of the command store: the group g where it is a group's start
 
-abbrev pub shapes : Matrix → List Command → List Cmd
-shapes m [] = []
-shapes m (c ∷ l) = shape (foldedCommand m c) ∷ shapes m l
+abbrev pub shapes : Fold → List Command → List Cmd
+shapes fold [] = []
+shapes fold (c ∷ l) = shape (foldedCommand fold c) ∷ shapes fold l
 
-unfoldable pub cmdsIn : Matrix → List ℕ → ℕ → List Stem → List Cmd
-cmdsIn m c e g = pick (eqb (word c e 0) 5) (hints g ∷ []) (shapes m (commandIn c e))
+unfoldable pub cmdsIn : Fold → List ℕ → ℕ → List Stem → List Cmd
+cmdsIn fold c e g = pick (eqb (word c e 0) 5) (hints g ∷ []) (shapes fold (commandIn c e))
 
 -- ---- its points: n of them, from word i on, and how many it has by its kind
 unfoldable pub pointsIn : List ℕ → ℕ → ℕ → ℕ → List Point
 pointsIn c e i zero = []
 pointsIn c e i (suc n) = pointIn c e i ∷ pointsIn c e (i + 2) n
 
-unfoldable pub foldedPoints : Matrix → List Point → List Point
-foldedPoints m [] = []
-foldedPoints m (p ∷ ps) = foldedPoint m p ∷ foldedPoints m ps
+unfoldable pub foldedPoints : Fold → List Point → List Point
+foldedPoints fold [] = []
+foldedPoints fold (p ∷ ps) = foldedPoint fold p ∷ foldedPoints fold ps
 
 abbrev pub pointCount : ℕ → ℕ
 pointCount kind = pick (eqb kind 3) 3 (pick (eqb kind 2) 1 (pick (eqb kind 4) 6 0))
@@ -173,5 +173,5 @@ Ends room (refused k) r out = (0 < k) × ((r .number ≡ k) × ((r .next ≡ 0) 
 Ends room (wrote b) r out = (r .number ≡ 0) × ((r .next ≡ length b) × (out ≡ b ++ replicate (room - length b) 0))
 
 -- entry e is written, with g the stems of the group that it starts, if it starts one
-abbrev pub Writes : Bool → Matrix → List ℕ → ℕ → ℕ → List Bool → Writer → List ℕ → Writer → List ℕ → Type 0
-Writes masked m c e n bits w out r out′ = ((ss g : List Stem) (cs : List Cmd) → take n bits ≡ maskOf g ss → resumedAll masked ss r out′ cs ≡ resumedAll masked ss w out (cmdsIn m c e g ++ cs)) × (length out′ ≡ length out)
+abbrev pub Writes : Bool → Fold → List ℕ → ℕ → ℕ → List Bool → Writer → List ℕ → Writer → List ℕ → Type 0
+Writes masked fold c e n bits w out r out′ = ((ss g : List Stem) (cs : List Cmd) → take n bits ≡ maskOf g ss → resumedAll masked ss r out′ cs ≡ resumedAll masked ss w out (cmdsIn fold c e g ++ cs)) × (length out′ ≡ length out)

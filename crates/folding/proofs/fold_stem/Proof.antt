@@ -1,45 +1,20 @@
 -- `folding::fold_stem` meets its contract.
-use Rattle.folding.proofs.Folds.{stem-21, stem-20, stem-other}
-use lib.Ieee.{ofBits, neg}
+use Rattle.folding.proofs.Folds.{stem-left, stem-moved}
+use mathlib.Core.Path.{_∙_}
 use borrow.Author.Needs.{needs}
 use Rattle.folding.proofs.fold_stem.Statement.{statement}
 use Rattle.folding.proofs.fold_stem.Tie as tie
 
-fold-edge-requires : tie.Need-fold-edge-requires
-fold-edge-requires c κs = search needs
-
 returns : tie.Need-returns
-unfolding ofBits neg
 returns c =
-    stem-21 _ _ _ (c .before .before .if1 .taken) (c .fold-edge .ensures)
+    stem-left _ _ (c .if1 .taken)
 
-fold-edge-requires-2 : tie.Need-fold-edge-requires-2
-fold-edge-requires-2 c κs = search needs
+transform-stem-requires : tie.Need-transform-stem-requires
+transform-stem-requires c κs = search needs
 
 returns-2 : tie.Need-returns-2
-unfolding ofBits neg
 returns-2 c =
-    stem-20 _ _ _ (c .before .before .before .if1 .left) (c .before .if2 .taken) (c .fold-edge2 .ensures)
-
-fold-edge-requires-3 : tie.Need-fold-edge-requires-3
-fold-edge-requires-3 c κs = search needs
-
-scale-width-requires : tie.Need-scale-width-requires
-scale-width-requires c κs = search needs
-
-returns-3 : tie.Need-returns-3
-unfolding ofBits neg
-returns-3 c =
-    stem-other _ _ _ _ (c .before .before .before .before .if1 .left) (c .before .before .if2 .left) (c .before .fold-edge3 .ensures) (c .scale-width .ensures)
+    c .transform-stem .ensures ∙ stem-moved _ _ (c .before .if1 .left)
 
 pub fold-stem-spec : {M : Type 1} → statement M
-fold-stem-spec =
-    tie.close
-    (tie.spec
-    fold-edge-requires
-    returns
-    fold-edge-requires-2
-    returns-2
-    fold-edge-requires-3
-    scale-width-requires
-    returns-3)
+fold-stem-spec = tie.close (tie.spec returns transform-stem-requires returns-2)

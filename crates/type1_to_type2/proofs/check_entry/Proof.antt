@@ -1,5 +1,4 @@
 -- `type1_to_type2::check_entry` meets its contract. Assumes nothing.
-use mathlib.Core.Path.{sym, _∙_}
 use borrow.Author.Needs.{needs}
 use Rattle.type1_to_type2.proofs.Checking.{identity-finite}
 use Rattle.type1_to_type2.proofs.check_entry.Statement.{statement}
@@ -7,7 +6,7 @@ use Rattle.type1_to_type2.proofs.check_entry.Tie as tie
 
 returns : tie.Need-returns
 returns c =
-    identity-finite _ _ (sym (c .before .before .pre .1 .0) ∙ c .if1 .taken) (c .before .before .pre .1 .1)
+    identity-finite _ _ (c .if1 .taken) (c .before .before .pre .1)
 
 check-points-requires : tie.Need-check-points-requires
 check-points-requires c κs = search needs

@@ -11,7 +11,7 @@ shared-slice-read-x c = search needs
 
 float-from-bits-x : tie.Need-float-from-bits-x
 float-from-bits-x c =
-    pattern-good _ (c .before .before .pre .1 .1 .0)
+    pattern-good _ (c .before .before .pre .1 .0)
 
 add-y : tie.Need-add-y
 add-y c = search needs
@@ -24,7 +24,7 @@ shared-slice-read-y c = search needs
 
 float-from-bits-y : tie.Need-float-from-bits-y
 float-from-bits-y c =
-    pattern-good _ (c .before .before .before .pre .1 .1 .1)
+    pattern-good _ (c .before .before .before .pre .1 .1)
 
 fold-point-requires : tie.Need-fold-point-requires
 fold-point-requires c κs = search needs

@@ -7,14 +7,14 @@ use Rattle.type1_to_type2.proofs.draw_points.Statement.{statement}
 use Rattle.type1_to_type2.proofs.draw_points.Tie as tie
 
 abbrev Inv-loop : tie.InvT-loop
-Inv-loop commands e n m identity out₀ r₀ j₀ out r j = (j ≤ n) × PointsLeft m commands e n r₀ out₀ r out j
+Inv-loop commands e n fold out₀ r₀ j₀ out r j = (j ≤ n) × PointsLeft fold commands e n r₀ out₀ r out j
 
 abbrev μ-loop : tie.MeasureT-loop
-μ-loop commands e n m identity out₀ r₀ j₀ out r j = n - j
+μ-loop commands e n fold out₀ r₀ j₀ out r j = n - j
 
 loop-holds : tie.Need-loop-holds Inv-loop μ-loop
 loop-holds c =
-    (search needs, points-first _ _ _ _ _ _ (c .before .before .pre .1 .1))
+    (search needs, points-first _ _ _ _ _ _ (c .before .before .pre .1))
 
 mul-read-point : tie.Need-mul-read-point Inv-loop μ-loop
 mul-read-point c =
@@ -26,7 +26,7 @@ add-read-point c =
 
 read-point-requires : tie.Need-read-point-requires Inv-loop μ-loop
 read-point-requires c κs =
-    let p = c .before .before .before .before .pre in ((p .0 .0, omega (arith, p .0)), (p .1 .0, point-good _ _ _ _ _ (c .loop-test .taken) (c .before .loop .inv .1)))
+    let p = c .before .before .before .before .pre in ((p .0 .0, omega (arith, p .0)), point-good _ _ _ _ _ (c .loop-test .taken) (c .before .loop .inv .1))
 
 put-delta-requires : tie.Need-put-delta-requires Inv-loop μ-loop
 put-delta-requires c κs =

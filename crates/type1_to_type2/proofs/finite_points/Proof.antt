@@ -9,11 +9,11 @@ use Rattle.type1_to_type2.proofs.finite_points.Statement.{statement}
 use Rattle.type1_to_type2.proofs.finite_points.Tie as tie
 
 abbrev Inv-loop : tie.InvT-loop
-Inv-loop commands entries m identity finite₀ e₀ finite e =
-    (e ≤ entries) × (finite ≡ finiteList (foldedList m (drawnIn e commands)))
+Inv-loop commands entries fold finite₀ e₀ finite e =
+    (e ≤ entries) × (finite ≡ finiteList (foldedList fold (drawnIn e commands)))
 
 abbrev μ-loop : tie.MeasureT-loop
-μ-loop commands entries m identity finite₀ e₀ finite e =
+μ-loop commands entries fold finite₀ e₀ finite e =
     entries - e
 
 -- src/lib.rt:1122:5
@@ -24,7 +24,7 @@ loop-holds c =
 -- src/lib.rt:1123:30
 check-entry-requires : tie.Need-check-entry-requires Inv-loop μ-loop
 check-entry-requires c κs =
-    (omega (arith, c .before .before .before .pre .0, c .loop-test .taken), (c .before .before .before .pre .1 .0, c .before .before .before .pre .1 .1 _ (c .loop-test .taken)))
+    (omega (arith, c .before .before .before .pre .0, c .loop-test .taken), c .before .before .before .pre .1 _ (c .loop-test .taken))
 
 -- src/lib.rt:1123:9
 and-requires : tie.Need-and-requires Inv-loop μ-loop

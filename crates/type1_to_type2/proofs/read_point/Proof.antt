@@ -18,7 +18,7 @@ shared-slice-read-x c = search needs
 
 float-from-bits-x : tie.Need-float-from-bits-x
 float-from-bits-x c =
-    no-nan-bits _ (c .before .before .pre .1 .1 .0 .fine)
+    no-nan-bits _ (c .before .before .pre .1 .0 .fine)
 
 mul-y : tie.Need-mul-y
 mul-y c = search needs
@@ -37,7 +37,7 @@ shared-slice-read-y c = search needs
 
 float-from-bits-y : tie.Need-float-from-bits-y
 float-from-bits-y c =
-    no-nan-bits _ (c .before .before .before .pre .1 .1 .1 .fine)
+    no-nan-bits _ (c .before .before .before .pre .1 .1 .fine)
 
 fold-point-requires : tie.Need-fold-point-requires
 fold-point-requires c κs = search needs

@@ -20,7 +20,7 @@ shared-slice-read-kind c = search needs
 
 read-point-requires : tie.Need-read-point-requires
 read-point-requires c κs =
-    let p = c .before .before .before .before .pre in ((p .0, omega arith), (p .1 .1 .0, good-entry _ _ _ (is-move _ _ (c .if1 .taken)) (p .1 .1 .1)))
+    let p = c .before .before .before .before .pre in ((p .0, omega arith), good-entry _ _ _ (is-move _ _ (c .if1 .taken)) (p .1 .1))
 
 move-to-requires : tie.Need-move-to-requires
 move-to-requires c κs = search needs
@@ -54,11 +54,11 @@ points-of-requires c κs = search needs
 
 draw-points-requires : tie.Need-draw-points-requires
 draw-points-requires c κs =
-    let p = c .before .before .before .before .before .before .before .before .before .before .before .pre in let n = c .before .points-of .ensures in ((p .0, n .1), (p .1 .1 .0, points-good _ _ _ _ refl (n .0) (p .1 .1 .1)))
+    let p = c .before .before .before .before .before .before .before .before .before .before .before .pre in let n = c .before .points-of .ensures in ((p .0, n .1), points-good _ _ _ _ refl (n .0) (p .1 .1))
 
 end-entry-requires : tie.Need-end-entry-requires
 end-entry-requires c κs =
-    let p = c .before .before .before .before .before .before .before .before .before .before .before .before .before .before .before .pre in (p .0, height-good _ _ _ refl (p .1 .1 .1))
+    let p = c .before .before .before .before .before .before .before .before .before .before .before .before .before .before .before .pre in (p .0, height-good _ _ _ refl (p .1 .1))
 
 same-length-3 : tie.Need-same-length-3
 same-length-3 c = search needs
