@@ -7,11 +7,13 @@ use mathlib.Core.Bool.{Bool, true, false, cond}
 use mathlib.Core.List.{List, [], _++_}
 use lib.ListN.{length}
 use lib.Dec.{T, lit≤}
-use lib.Ieee.{Float, binary64}
+use lib.Ieee.{binary64}
 use lib.Ieee.Scale.{finite}
 use Rattle.binary64.specs.Value.{Whole}
 use Rattle.charstring.specs.Cipher.{Bytes}
 use Rattle.geometry.specs.declared.Matrix.{Matrix}
+use Rattle.type1.specs.declared.Reading.{Reading}
+use Rattle.type1.specs.Interpret.{Source}
 use Rattle.type1.specs.State.{State}
 use Rattle.type1.specs.Run.{Font, unlimited}
 use Rattle.type1.specs.Sound as Sound
@@ -26,7 +28,9 @@ use Rattle.folding.specs.Folding.{foldOf, foldedList, foldedGroups, foldedWidth
 use Rattle.type1_to_type2.specs.Stems.{stemsOf}
 use Rattle.type1_to_type2.specs.Emission.{pointsOf, program}
 use Rattle.type1_to_type2.specs.Writing.{wrote}
-use Rattle.type1_to_type2.specs.Convert.{converted, instructions, convert}
+use Rattle.type1_to_type2.specs.Convert.{Glyph, Rooms, converted, instructions, convert}
+use Rattle.type2.specs.declared.Widths.{Widths}
+use Rattle.agreement.specs.Finished.{withProgram}
 use Rattle.type1_to_type2.specs.Finish.{widthFor, first, finish}
 use Rattle.agreement.specs.Demand3.{SameDrawing, masksFor, left, unlimitedRun, Demand3}
 use Rattle.agreement.specs.Simulation.{commandsOf, Meets, ListCoordinates, pointCount, masksOf, Ran, Folds}
@@ -48,17 +52,17 @@ list-finite m s e =
     and-both (finiteList (foldedList (foldOf m) (s .drawn))) (finiteGroups (foldedGroups (foldOf m) (s .groups))) (w .1) .0
 
 -- the machine's run of the finished bytes: with b, each coordinate exactly
-finished-run : (b : Bool) (m : Matrix) (s : State) (room room′ : ℕ) (prog : List ℕ) (w default nominal : Float) (out : List ℕ)
-    → Folds m room s prog w → Sound.pointsOf (s .drawn) ≤ 1048576 → All (λ c. ListCoordinates b (pointsOf c)) (foldedList (foldOf m) (s .drawn)) → finish w prog default nominal room′ ≡ wrote out
-    → (out ≡ numbers (first (widthFor w default nominal)) ++ bytes (program (left m s) (commandsOf m s))) × Ran b (widthFor w default nominal) (left m s) (commandsOf m s)
-finished-run b m s room room′ prog w default nominal out f short coordinates h =
-    let (o, t) = finish-is w prog default nominal room′ out h in
-    let (e, a) = write-is (instructions m s) room prog (f .wrote) in
+finished-run : (b : Bool) (m : Matrix) (s : State) (room room′ : ℕ) (g : Glyph) (p : Widths) (out : List ℕ)
+    → Folds m room s g → Sound.pointsOf (s .drawn) ≤ 1048576 → All (λ c. ListCoordinates b (pointsOf c)) (foldedList (foldOf m) (s .drawn)) → finish (g .width) (g .program) p room′ ≡ wrote out
+    → (out ≡ numbers (first (widthFor (g .width) p)) ++ bytes (program (left m s) (commandsOf m s))) × Ran b (widthFor (g .width) p) (left m s) (commandsOf m s)
+finished-run b m s room room′ g p out f short coordinates h =
+    let (o, t) = finish-is (g .width) (g .program) p room′ out h in
+    let (e, a) = write-is (instructions m s) room (g .program) (f .wrote) in
     let gs = foldedGroups (foldOf m) (s .groups) in
     let cs = foldedList (foldOf m) (s .drawn) in
     let few : pointCount (commandsOf m s) ≤ 4194303 = le-trans (le-of-eq (commands-points 0 gs cs ∙ folded-points (foldOf m) (s .drawn))) (le-trans short (lit≤ tt)) in (
-      o ∙ ap (λ (l : List ℕ). numbers (first (widthFor w default nominal)) ++ l) (e ∙ ap bytes (instructions-are m s)),
-      program-run b (widthFor w default nominal) (left m s) (commandsOf m s) (few-stems gs) few (commands-coordinates b 0 gs cs coordinates) t (subst (λ x. T (allFine x)) (instructions-are m s) a),
+      o ∙ ap (λ (l : List ℕ). numbers (first (widthFor (g .width) p)) ++ l) (e ∙ ap bytes (instructions-are m s)),
+      program-run b (widthFor (g .width) p) (left m s) (commandsOf m s) (few-stems gs) few (commands-coordinates b 0 gs cs coordinates) t (subst (λ x. T (allFine x)) (instructions-are m s) a),
     )
 
 -- two runs of the same bytes end alike
@@ -75,21 +79,21 @@ group-masks m s r = go (left m s .masked)
     go false = refl
 
 -- ---- DEMAND 3
-pub demand3 : (charstring bank : List ℕ) (lenIV : ℕ) (m : Matrix) (records words room : ℕ) (program : List ℕ) (width : Float) (ran : ℕ) (default nominal : Float) (room′ : ℕ) (out : List ℕ)
-    → Bytes charstring → Bytes bank → convert charstring bank lenIV m records words room ≡ converted program width ran → finish width program default nominal room′ ≡ wrote out
-    → Demand3 charstring bank lenIV m width default nominal out
-demand3 charstring bank lenIV m records words room program width ran default nominal room′ out code bodies c h =
-    let U = converts charstring bank lenIV m records words room program width ran c in
+pub demand3 : (x : Source) (reading : Reading) (m : Matrix) (r : Rooms) (g : Glyph) (p : Widths) (room : ℕ) (out : List ℕ)
+    → Bytes (x .charstring) → Bytes (x .bank) → convert x reading m r ≡ converted g → finish (g .width) (g .program) p room ≡ wrote out
+    → Demand3 x reading m p (withProgram g out)
+demand3 x reading m r g p room out code bodies c h =
+    let U = converts x reading m r g c in
     let s = U .state in
-    let font : Font = record { bank = bank; lenIV = lenIV } in
-    let outcome = unlimitedRun charstring bank lenIV in
-    let counted = ends-so _ outcome (run-points unlimited font charstring) s (U .run) in
-    let placed = ends-so Placed outcome (run-placed unlimited font charstring) s (U .run) in
-    let sound = ends-so Sound.Sound outcome (run-finite unlimited font charstring bodies code) s (U .run) in
-    let whole = ends-so (λ t. t .divided ≡ false → Numbers (Whole binary64) t) outcome (run-whole unlimited font charstring bodies code) s (U .run) in
+    let font : Font = record { bank = x .bank; reading = reading } in
+    let outcome = unlimitedRun x reading in
+    let counted = ends-so _ outcome (run-points unlimited font (x .charstring)) s (U .run) in
+    let placed = ends-so Placed outcome (run-placed unlimited font (x .charstring)) s (U .run) in
+    let sound = ends-so Sound.Sound outcome (run-finite unlimited font (x .charstring) bodies code) s (U .run) in
+    let whole = ends-so (λ t. t .divided ≡ false → Numbers (Whole binary64) t) outcome (run-whole unlimited font (x .charstring) bodies code) s (U .run) in
     let short : Sound.pointsOf (s .drawn) ≤ 1048576 = let a = counted .0 in let b = counted .1 in omega arith in
     let listed = list-finite m s (U .folds .finite) in
-    let (o, A) = finished-run false m s room room′ program width default nominal out (U .folds) short (near-list (foldOf m) (s .drawn) (sound .drawn) listed) h in
+    let (o, A) = finished-run false m s (r .bytes) room g p out (U .folds) short (near-list (foldOf m) (s .drawn) (sound .drawn) listed) h in
     let is-machine : machine out ≡ Machine.ended (A .end) [] = ap machine o ∙ A .ran in
     let (front, last) = ends-at-14 out 0 Machine.start (A .end) is-machine in
     let entries = commands-entries 0 (foldedGroups (foldOf m) (s .groups)) (foldedList (foldOf m) (s .drawn)) in
@@ -106,7 +110,7 @@ demand3 charstring bank lenIV m records words room program width ran default nom
       stems = A .stems;
       drawn = subst (SameDrawing (Meets false) (A .end .drawn)) entries (A .drawn);
       exact = λ i d.
-          let (p, E) = finished-run true m s room room′ program width default nominal out (U .folds) short (exact-list (foldOf m) i (s .drawn) (sound .drawn) (whole d .drawn) listed) h in
-          subst (λ (x : Machine.State). SameDrawing Is (x .drawn) (foldedList (foldOf m) (s .drawn))) (same-end out (E .end) (A .end) (ap machine p ∙ E .ran) is-machine) (subst (SameDrawing (Meets true) (E .end .drawn)) entries (E .drawn));
+          let (q, E) = finished-run true m s (r .bytes) room g p out (U .folds) short (exact-list (foldOf m) i (s .drawn) (sound .drawn) (whole d .drawn) listed) h in
+          subst (λ (x : Machine.State). SameDrawing Is (x .drawn) (foldedList (foldOf m) (s .drawn))) (same-end out (E .end) (A .end) (ap machine q ∙ E .ran) is-machine) (subst (SameDrawing (Meets true) (E .end .drawn)) entries (E .drawn));
       masks = A .masks ∙ group-masks m s placed;
     }

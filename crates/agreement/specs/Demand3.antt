@@ -11,6 +11,8 @@ use Rattle.binary64.specs.Value.{pl, mi}
 use Rattle.geometry.specs.declared.Point.{Point}
 use Rattle.geometry.specs.declared.Matrix.{Matrix}
 use Rattle.type1.specs.declared.Stem.{Stem}
+use Rattle.type1.specs.declared.Reading.{Reading}
+use Rattle.type1.specs.Interpret.{Source, runOf}
 use Rattle.type1.specs.State as State
 use Rattle.type1.specs.State.{Command, Group}
 use Rattle.type1.specs.Run as Run
@@ -21,6 +23,8 @@ use Rattle.renderer.specs.Machine.{Entry, Mask, Step, fault, stop, on, step, en
 use Rattle.folding.specs.Folding.{isIdentity, foldOf, foldedList, foldedStems, foldedGroups, foldedWidth}
 use Rattle.type1_to_type2.specs.Stems.{Declared, declared, stemsOf, maskOf}
 use Rattle.type1_to_type2.specs.Emission.{kindOf, pointsOf}
+use Rattle.type2.specs.declared.Widths.{Widths}
+use Rattle.type1_to_type2.specs.Convert.{Glyph}
 use Rattle.type1_to_type2.specs.Finish.{widthFor}
 
 -- ---- coordinates. Document 01, "Type 2 machine": "A double is compared as a whole number times a power of two."
@@ -73,29 +77,29 @@ states (b ∷ bs) (suc k) s = states bs k s
 
 -- ---- document 01, "Type 1 run": "It is fed the charstring, the bank and lenIV, and nothing from the converter's stores."
 
-abbrev pub unlimitedRun : List ℕ → List ℕ → ℕ → Run.Outcome
-unlimitedRun charstring bank lenIV = Run.run Run.unlimited (record { bank = bank; lenIV = lenIV }) charstring State.start
+abbrev pub unlimitedRun : Source → Reading → Run.Outcome
+unlimitedRun x reading = runOf Run.unlimited x reading
 
 -- the stems that document 01 leaves ("Stems and masks")
 abbrev pub left : Matrix → State.State → Declared
 left m s = declared (foldedGroups (foldOf m) (s .groups))
 
--- ---- the claim: of a charstring, a bank and lenIV that convert under the matrix m with the advance width w; and of the finished bytes, by a default and a nominal width
-pub record Demand3 (charstring bank : List ℕ) (lenIV : ℕ) (m : Matrix) (w default nominal : Float) (bytes : List ℕ) : Type 0 where
+-- ---- the claim: of a source that, read so, converts under the matrix m; and of the glyph, whose program is finished by a default and a nominal width
+pub record Demand3 (x : Source) (reading : Reading) (m : Matrix) (p : Widths) (g : Glyph) : Type 0 where
   -- "document 01's Type 1 run of that input": how it ends, by an endchar or without one
   pub state : State.State
-  pub run : (unlimitedRun charstring bank lenIV ≡ Run.going state) ⊎ (unlimitedRun charstring bank lenIV ≡ Run.ending state)
+  pub run : (unlimitedRun x reading ≡ Run.going state) ⊎ (unlimitedRun x reading ≡ Run.ending state)
   -- "document 01's Type 2 machine runs the finished bytes without a fault": no byte is left unread
   pub end : Machine.State
-  pub ran : machine bytes ≡ ended end []
+  pub ran : machine (g .program) ≡ ended end []
   -- "with at most 48 operands held"
-  pub held : All (λ s. length (s .ops) ≤ 48) (states bytes 0 Machine.start)
+  pub held : All (λ s. length (s .ops) ≤ 48) (states (g .program) 0 Machine.start)
   -- "and stops at an endchar that is their last byte."
   pub front : List ℕ
-  pub last : bytes ≡ front ++ (14 ∷ [])
+  pub last : g .program ≡ front ++ (14 ∷ [])
   -- "The width it reads is the number that Finishing puts first, rounded as under Numbers, or none where it puts none": the glyph's width is the run's, folded
-  pub advance : w ≡ foldedWidth m (state .width)
-  pub width : end .width ≡ widthFor w default nominal
+  pub advance : g .width ≡ foldedWidth m (state .width)
+  pub width : end .width ≡ widthFor (g .width) p
   -- "and it counts as many stems as document 01 leaves."
   pub stems : end .stems ≡ length (stemsOf (left m state))
   -- "It draws the same moves, lines, curves and flexes as document 01's Type 1 run of that input: as many, in the same order, each of the same kind. However long the path, each coordinate lies within 1/65536 of the folded one"

@@ -14,6 +14,8 @@ use Rattle.binary64.specs.Value.{Multiple, Whole}
 use Rattle.geometry.specs.declared.Point.{Point}
 use Rattle.geometry.specs.declared.Matrix.{Matrix}
 use Rattle.type1.specs.declared.Stem.{Stem}
+use Rattle.type1.specs.declared.Reading.{Reading}
+use Rattle.type1.specs.Interpret.{Source}
 use Rattle.type1.specs.State as Type1
 use Rattle.type1.specs.Memory as Type1Memory
 use Rattle.type1.specs.Run.{Outcome, going, ending}
@@ -29,7 +31,7 @@ use Rattle.type1_to_type2.specs.Emission.{program, commands, pack, deltas, arri
 use Rattle.folding.specs.Folding.{foldOf, foldedList, foldedGroups, foldedWidth, foldsFinite}
 use Rattle.type1_to_type2.specs.Writing as Writing
 use Rattle.type1_to_type2.specs.Writing.{write}
-use Rattle.type1_to_type2.specs.Convert.{instructions}
+use Rattle.type1_to_type2.specs.Convert.{Glyph, instructions}
 use Rattle.type1_to_type2.specs.Finish.{first}
 use Rattle.agreement.specs.Demand3.{unlimitedRun, Near, SamePoint, SamePoints, SameDrawing}
 
@@ -217,13 +219,13 @@ abbrev pub OutcomeIs : Outcome → Type1.State → Type 0
 OutcomeIs o s = (o ≡ going s) ⊎ (o ≡ ending s)
 
 -- the state s folds, and its instructions are written
-pub record Folds (m : Matrix) (room : ℕ) (s : Type1.State) (program : List ℕ) (w : Float) : Type 0 where
+pub record Folds (m : Matrix) (room : ℕ) (s : Type1.State) (g : Glyph) : Type 0 where
   pub finite : foldsFinite m s ≡ true
-  pub wrote : write (instructions m s) room ≡ Writing.wrote program
-  pub width : w ≡ foldedWidth m (s .width)
+  pub wrote : write (instructions m s) room ≡ Writing.wrote (g .program)
+  pub width : g .width ≡ foldedWidth m (s .width)
 
 -- the run with no limits ends, in a state that folds
-pub record Unrefused (charstring bank : List ℕ) (lenIV : ℕ) (m : Matrix) (room : ℕ) (program : List ℕ) (w : Float) : Type 0 where
+pub record Unrefused (x : Source) (reading : Reading) (m : Matrix) (room : ℕ) (g : Glyph) : Type 0 where
   pub state : Type1.State
-  pub run : OutcomeIs (unlimitedRun charstring bank lenIV) state
-  pub folds : Folds m room state program w
+  pub run : OutcomeIs (unlimitedRun x reading) state
+  pub folds : Folds m room state g

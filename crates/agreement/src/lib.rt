@@ -1,18 +1,14 @@
 // Demand 3, and the entry that converts and finishes in one call.
 ghost use mathlib.Core.Path.{_≡_};
 ghost use lib.ListN.{length, replicate};
-ghost use Rattle.type1.specs.State.{plusZero};
-ghost use Rattle.type1_to_type2.specs.Convert.{convert};
-ghost use Rattle.agreement.specs.Finished.{Finishes, ConvertsFinished};
+ghost use Rattle.type1.specs.Interpret.{sourceOf};
+ghost use Rattle.type1_to_type2.specs.Convert.{roomsOf};
+ghost use Rattle.agreement.specs.Finished.{refusal, Finishes, ConvertsFinished};
 use geometry::Matrix;
+use type1::Reading;
 use type1::Stem;
 use type1_to_type2::Type2Glyph;
-
-// A font's default and nominal width.
-pub struct Widths {
-    pub default_width_x: f64,
-    pub nominal_width_x: f64,
-}
+use type2::Widths;
 
 // Every byte becomes 0.
 fn wipe_bytes(bytes: &mut [u8])
@@ -23,7 +19,7 @@ fn wipe_bytes(bytes: &mut [u8])
 
 // A refusal: all but the number are 0.
 fn refused(number: u64) -> Type2Glyph
-    ensures { λ r. ⌜ r ≡ record { number = number; len = 0; width = plusZero; ran = 0 } ⌝ }
+    ensures { λ r. ⌜ r ≡ refusal number ⌝ }
 {
     Type2Glyph {
         number: number,
@@ -41,16 +37,13 @@ fn finish_glyph(glyph: Type2Glyph, widths: Widths, program: &[u8], out: &mut [u8
         wipe_bytes(out);
         return refused(glyph.number);
     }
-    let f = glyph.charstring(program, widths.default_width_x, widths.nominal_width_x, out);
+    let f = glyph.charstring(program, widths, out);
     if f.number != 0 {
         return refused(f.number);
     }
-    Type2Glyph {
-        number: 0,
-        len: f.len,
-        width: glyph.width,
-        ran: glyph.ran,
-    }
+    let mut r = glyph;
+    r.len = f.len;
+    r
 }
 
 // Converts a Type 1 charstring under a matrix and finishes it for a font's widths. `program` is a working
@@ -58,7 +51,7 @@ fn finish_glyph(glyph: Type2Glyph, widths: Widths, program: &[u8], out: &mut [u8
 pub fn convert_finished(
     charstring: &[u8],
     bank: &[u8],
-    len_iv: usize,
+    reading: Reading,
     matrix: Matrix,
     widths: Widths,
     stems: &mut [Stem],
@@ -66,12 +59,14 @@ pub fn convert_finished(
     program: &mut [u8],
     out: &mut [u8],
 ) -> Type2Glyph
-    ensures { λ r. ⌜ ConvertsFinished (now (charstring .entry)) (now (bank .entry)) «len_iv» matrix widths (convert (now (charstring .entry)) (now (bank .entry)) «len_iv» matrix (length (now (stems .entry))) (length (now (commands .entry))) (length (now (program .entry)))) (now (stems .entry)) (now (commands .entry)) (now (program .entry)) (length (now (out .entry))) r (now (stems .exit)) (now (commands .exit)) (now (program .exit)) (now (out .exit)) ⌝ }
+    ensures { λ r. ⌜ ConvertsFinished (sourceOf (now (charstring .entry)) (now (bank .entry))) reading matrix widths
+        (roomsOf (now (stems .entry)) (now (commands .entry)) (now (program .entry))) (length (now (out .entry)))
+        r (now (stems .exit)) (now (commands .exit)) (now (program .exit)) (now (out .exit)) ⌝ }
 {
     let g = type1_to_type2::convert_charstring_transformed(
         charstring,
         bank,
-        len_iv,
+        reading,
         matrix,
         stems,
         commands,

@@ -13,8 +13,8 @@ use Rattle.bank.specs.Bank.{be16, be32, valid}
 use Rattle.type1.specs.Operator.{ofByte, ofEscape}
 use Rattle.type1.specs.Number.{token}
 use Rattle.type1.specs.State.{plusZero}
-use Rattle.type1.specs.Run.{push, commit, enter, list, moveBy, openSubpath, lineTo, lineBy, divD, operate, charge, execute, runBytes, runBody, run}
-use Rattle.type1.specs.Interpret.{outcome}
+use Rattle.type1.specs.Run.{readingOf, push, commit, enter, list, moveBy, openSubpath, lineTo, lineBy, divD, operate, charge, execute, runBytes, runBody, run}
+use Rattle.type1.specs.Interpret.{sourceOf, outcome}
 use Rattle.type2.specs.Number.{units, numberBytes, wholeBytes, fixedBytes, quantized}
 use Rattle.folding.specs.Folding.{finiteMatrix, isIdentity, foldedPoint, foldedList, foldedGroups, foldedWidth, finiteList, finiteGroups, foldsFinite}
 use Rattle.type1_to_type2.specs.Stems.{allStems, distinct, ofDirection, sorted, inOrder, declared}
@@ -22,10 +22,10 @@ use Rattle.type1_to_type2.specs.Emission.{stemsFrom, deltas, arrives, startsAt,
 use Rattle.type1_to_type2.specs.Writing as Writing
 use Rattle.type1_to_type2.specs.Writing.{Written, wrote, put, putNumbers, write}
 use Rattle.type1_to_type2.specs.Convert as Convert
-use Rattle.type1_to_type2.specs.Convert.{Conversion, converted, instructions, convert}
+use Rattle.type1_to_type2.specs.Convert.{Conversion, glyphOf, converted, instructions, convert}
 use Rattle.type1_to_type2.specs.Finish.{widthFor, finish}
 use Rattle.sorting.specs.Order.{count, allFinite}
-use Rattle.widths.specs.Widths.{keep, best, commonest, nominal, widthsOf, chosen}
+use Rattle.widths.specs.Widths.{answerOf, keep, best, commonest, nominal, widthsOf, chosen}
 
 -- "Cipher `00 00`, lenIV 0: `10 D8`."
 cipher : plain 0 (0x00 ∷ 0x00 ∷ []) ≡ 0x10 ∷ 0xD8 ∷ []
@@ -74,17 +74,17 @@ w600 = fin false 75 (pos 3)
 abbrev w707 : Float
 w707 = fin false 707 (pos 0)
 
-widths-500-500-600 : chosen (w500 ∷ w500 ∷ w600 ∷ []) 3 ≡ record { number = 0; «default_width_x» = w500; «nominal_width_x» = w707 }
+widths-500-500-600 : chosen (w500 ∷ w500 ∷ w600 ∷ []) 3 ≡ answerOf w500 w707
 unfolding chosen allFinite widthsOf commonest nominal best keep count floored quantized abs away add sub lt le eq ne
 widths-500-500-600 = refl
 
 -- ---- "Glyphs worked through": with the bank `00 00 00 00 00 00`, not encrypted, under the identity, in stores of so many records and words and an output of so many bytes
 glyph : List ℕ → ℕ → ℕ → ℕ → Conversion
 unfolding convert Convert.folded instructions outcome valid be16 be32 run charge runBody plain runBytes token ofByte ofEscape execute operate push enter list moveBy openSubpath lineTo lineBy divD commit finiteMatrix isIdentity foldedPoint foldedList foldedGroups foldedWidth foldsFinite finiteList finiteGroups rounded10 delta allStems distinct ofDirection sorted inOrder declared stemsFrom deltas arrives startsAt commands items pack program write put putNumbers units mag numberBytes wholeBytes fixedBytes quantized abs away ofInt sub mul div le
-glyph l records words room = convert l (0x00 ∷ 0x00 ∷ 0x00 ∷ 0x00 ∷ 0x00 ∷ 0x00 ∷ []) notEncrypted identity records words room
+glyph l records words room = convert (sourceOf l (0x00 ∷ 0x00 ∷ 0x00 ∷ 0x00 ∷ 0x00 ∷ 0x00 ∷ [])) (readingOf notEncrypted) identity (record { records = records; words = words; bytes = room })
 
 -- "empty gives `0E`": the width 0, no bytes run
-empty : glyph [] 0 0 1 ≡ converted (0x0E ∷ []) plusZero 0
+empty : glyph [] 0 0 1 ≡ converted (glyphOf plusZero 0 (0x0E ∷ []))
 unfolding glyph
 empty = refl
 
@@ -95,7 +95,7 @@ worked = 0x8B ∷ 0xF8 ∷ 0x88 ∷ 0x0D ∷ 0x95 ∷ 0x9F ∷ 0x15 ∷ 0x90 ∷
 abbrev workedProgram : List ℕ
 workedProgram = 0x95 ∷ 0x9F ∷ 0x15 ∷ 0x90 ∷ 0x8B ∷ 0x05 ∷ 0x0E ∷ []
 
-worked-converts : glyph worked 0 28 7 ≡ converted workedProgram w500 12
+worked-converts : glyph worked 0 28 7 ≡ converted (glyphOf w500 12 workedProgram)
 unfolding glyph
 worked-converts = refl
 
@@ -105,7 +105,7 @@ third = 0x8C ∷ 0x8E ∷ 0x0C ∷ 0x0C ∷ 0x16 ∷ []
 
 thirds :
     glyph (third ++ third ++ third) 0 42 19
-    ≡ converted (0xFF ∷ 0x00 ∷ 0x00 ∷ 0x55 ∷ 0x55 ∷ 0x16 ∷ 0xFF ∷ 0x00 ∷ 0x00 ∷ 0x55 ∷ 0x56 ∷ 0x16 ∷ 0xFF ∷ 0x00 ∷ 0x00 ∷ 0x55 ∷ 0x55 ∷ 0x16 ∷ 0x0E ∷ []) plusZero 15
+    ≡ converted (glyphOf plusZero 15 (0xFF ∷ 0x00 ∷ 0x00 ∷ 0x55 ∷ 0x55 ∷ 0x16 ∷ 0xFF ∷ 0x00 ∷ 0x00 ∷ 0x55 ∷ 0x56 ∷ 0x16 ∷ 0xFF ∷ 0x00 ∷ 0x00 ∷ 0x55 ∷ 0x55 ∷ 0x16 ∷ 0x0E ∷ []))
 unfolding glyph
 thirds = refl
 
@@ -113,7 +113,7 @@ thirds = refl
 finished : Conversion → Float → Float → ℕ → Written
 unfolding finish widthFor
 finished (Convert.refused n) default nominal room = Writing.refused n
-finished (converted b w n) default nominal room = finish w b default nominal room
+finished (converted g) default nominal room = finish (g .width) (g .program) (record { «default_width_x» = default; «nominal_width_x» = nominal }) room
 
 -- "default 500 adds nothing"
 worked-default : finished (glyph worked 0 28 7) w500 plusZero 7 ≡ wrote workedProgram

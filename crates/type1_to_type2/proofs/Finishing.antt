@@ -20,6 +20,7 @@ use Rattle.type2.specs.Bools.{is-le, not-le}
 use Rattle.type1_to_type2.specs.declared.Finished.{Finished}
 use Rattle.type1_to_type2.specs.Writing.{Written, refused, wrote, thenWrite, put, putNumbers}
 use Rattle.type1_to_type2.specs.Emission.{written}
+use Rattle.type2.specs.declared.Widths.{Widths}
 use Rattle.type1_to_type2.specs.Finish.{widthFor, first, finish}
 use Rattle.type1_to_type2.specs.FinishAnswer.{finishedAnswer, finishedOutput, Front}
 
@@ -70,12 +71,14 @@ width-put out false v a = rw (units-quantized v a) (go (inRange (units v)))
     go true = bytes-put out (numberBytes (units v))
     go false = (λ e. absurd (let z : ⊥ = omega (arith, e) in z), λ e q. refl)
 
-abbrev pub Finishes : Float → Float → Float → List ℕ → Push → Type 0
-Finishes width default nominal out = WidthPut out (λ q. finish width q default nominal (length out))
+abbrev pub Finishes : Float → Widths → List ℕ → Push → Type 0
+Finishes width p out = WidthPut out (λ q. finish width q p (length out))
 
-pub after-width : (out : List ℕ) (width default nominal : Float) (k at : ℕ) (o : List ℕ) → gave k at o ≡ pushWidth out width default nominal → Finishes width default nominal out (gave k at o)
+pub after-width : (out : List ℕ) (width : Float) (p : Widths) (k at : ℕ) (o : List ℕ) → gave k at o ≡ pushWidth out width p → Finishes width p out (gave k at o)
 unfolding finish widthFor pushWidth
-after-width out width default nominal k at o e = subst (Finishes width default nominal out) (sym e) (width-put out (eq (quantized width) default) (sub binary64 (quantized width) nominal) (sub-fits binary64 (quantized width) nominal))
+after-width out width p k at o e =
+    let n = p .«nominal_width_x» in
+    subst (Finishes width p out) (sym e) (width-put out (eq (quantized width) (p .«default_width_x»)) (sub binary64 (quantized width) n) (sub-fits binary64 (quantized width) n))
 
 -- ---- the answer and the output
 

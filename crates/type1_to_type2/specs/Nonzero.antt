@@ -11,6 +11,7 @@ use lib.Ieee.{Float}
 use Rattle.type2.specs.Number.{numberBytes, inRange}
 use Rattle.type2.specs.Instruction.{Instr}
 use Rattle.type1_to_type2.specs.Writing.{Written, refused, wrote, thenWrite, put, putNumbers, write}
+use Rattle.type2.specs.declared.Widths.{Widths}
 use Rattle.type1_to_type2.specs.Finish.{first, widthFor, finish}
 
 abbrev Real : Written → Type 0
@@ -55,6 +56,6 @@ unfolding write
 write-nonzero [] room = real-wrote []
 write-nonzero (i ∷ is) room = numbers-real (i .operands) room (λ left. put left (i .code) (write is)) (λ left. put-real left (i .code) (write is) (write-nonzero is))
 
-pub finish-nonzero : (width : Float) (program : List ℕ) (default nominal : Float) (room : ℕ) → finish width program default nominal room ≡ refused 0 → ⊥
+pub finish-nonzero : (width : Float) (program : List ℕ) (p : Widths) (room : ℕ) → finish width program p room ≡ refused 0 → ⊥
 unfolding finish
-finish-nonzero width program default nominal room = numbers-real (first (widthFor width default nominal)) room (λ left. put left program (λ k. wrote [])) (λ left. put-real left program (λ k. wrote []) (λ k. real-wrote []))
+finish-nonzero width program p room = numbers-real (first (widthFor width p)) room (λ left. put left program (λ k. wrote [])) (λ left. put-real left program (λ k. wrote []) (λ k. real-wrote []))

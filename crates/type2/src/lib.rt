@@ -280,13 +280,19 @@ pub fn takes_curve(held: usize) -> bool
 
 // ---- the width
 
+// A font's default and nominal width.
+pub struct Widths {
+    pub default_width_x: f64,
+    pub nominal_width_x: f64,
+}
+
 // The width into an empty output: none if the rounded width equals the default, else the rounded width less the nominal.
-pub fn push_width(out: &mut [u8], width: f64, default_width_x: f64, nominal_width_x: f64) -> Pushed
-    ensures { λ r. ⌜ gave (r .number) (r .next) (now (out .exit)) ≡ pushWidth (now (out .entry)) width «default_width_x» «nominal_width_x» ⌝ }
+pub fn push_width(out: &mut [u8], width: f64, widths: Widths) -> Pushed
+    ensures { λ r. ⌜ gave (r .number) (r .next) (now (out .exit)) ≡ pushWidth (now (out .entry)) width widths ⌝ }
 {
     let rounded = quantize(width);
-    if rounded == default_width_x {
+    if rounded == widths.default_width_x {
         return Pushed { number: 0, next: 0 };
     }
-    push_number(out, 0, rounded - nominal_width_x)
+    push_number(out, 0, rounded - widths.nominal_width_x)
 }

@@ -5,26 +5,27 @@ use mathlib.Core.List.{List}
 use Prim.Native.Nat.{ℕ}
 use lib.Ieee.{Float, binary64, sub, eq}
 use borrow.Author.Needs.{needs}
+use Rattle.type2.specs.declared.Widths.{Widths}
 use Rattle.type2.specs.Number.{quantized, gave, pushNumber}
 use Rattle.type2.specs.Width.{pushWidth}
 use Rattle.type2.proofs.push_width.Statement.{statement}
 use Rattle.type2.proofs.push_width.Tie as tie
 
-the-default : (out : List ℕ) (width default nominal w : Float) → w ≡ quantized width → eq w default ≡ true → gave 0 0 out ≡ pushWidth out width default nominal
+the-default : (out : List ℕ) (width : Float) (p : Widths) (w : Float) → w ≡ quantized width → eq w (p .«default_width_x») ≡ true → gave 0 0 out ≡ pushWidth out width p
 unfolding pushWidth
-the-default out width default nominal w e h = ap (λ (c : Bool). cond c (gave 0 0 out) (pushNumber out 0 (sub binary64 (quantized width) nominal))) (sym h ∙ ap (λ (x : Float). eq x default) e)
+the-default out width p w e h = ap (λ (c : Bool). cond c (gave 0 0 out) (pushNumber out 0 (sub binary64 (quantized width) (p .«nominal_width_x»)))) (sym h ∙ ap (λ (x : Float). eq x (p .«default_width_x»)) e)
 
-not-the-default : (out : List ℕ) (width default nominal w : Float) → w ≡ quantized width → eq w default ≡ false → pushNumber out 0 (sub binary64 w nominal) ≡ pushWidth out width default nominal
+not-the-default : (out : List ℕ) (width : Float) (p : Widths) (w : Float) → w ≡ quantized width → eq w (p .«default_width_x») ≡ false → pushNumber out 0 (sub binary64 w (p .«nominal_width_x»)) ≡ pushWidth out width p
 unfolding pushWidth
-not-the-default out width default nominal w e h =
-    ap (λ (x : Float). pushNumber out 0 (sub binary64 x nominal)) e
-    ∙ ap (λ (c : Bool). cond c (gave 0 0 out) (pushNumber out 0 (sub binary64 (quantized width) nominal))) (sym h ∙ ap (λ (x : Float). eq x default) e)
+not-the-default out width p w e h =
+    ap (λ (x : Float). pushNumber out 0 (sub binary64 x (p .«nominal_width_x»))) e
+    ∙ ap (λ (c : Bool). cond c (gave 0 0 out) (pushNumber out 0 (sub binary64 (quantized width) (p .«nominal_width_x»)))) (sym h ∙ ap (λ (x : Float). eq x (p .«default_width_x»)) e)
 
 quantize-requires : tie.Need-quantize-requires
 quantize-requires c κs = search needs
 
 returns : tie.Need-returns
-returns c = the-default _ _ _ _ _ (c .before .quantize .ensures) (c .if1 .taken)
+returns c = the-default _ _ _ _ (c .before .before .quantize .ensures) (c .if1 .taken)
 
 push-number-requires : tie.Need-push-number-requires
 push-number-requires c κs = search needs
@@ -34,7 +35,7 @@ same-length c = search needs
 
 returns-2 : tie.Need-returns-2
 returns-2 c =
-    c .before .before .push-number .ensures ∙ not-the-default _ _ _ _ _ (c .before .before .before .before .before .quantize .ensures) (c .before .before .before .before .if1 .left)
+    c .before .before .push-number .ensures ∙ not-the-default _ _ _ _ (c .before .before .before .before .before .before .before .quantize .ensures) (c .before .before .before .before .before .if1 .left)
 
 pub push-width-spec : {M : Type 1} → statement M
 push-width-spec = tie.close (tie.spec quantize-requires returns push-number-requires same-length returns-2)

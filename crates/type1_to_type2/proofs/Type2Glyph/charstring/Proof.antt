@@ -9,8 +9,8 @@ use Rattle.type1_to_type2.proofs.Type2Glyph.charstring.Tie as tie
 
 -- once the width is put, or refused
 put-width : (c : tie.After-push-width) → let s = c .before .before .before .before .before .args in let r = c .push-width .result in
-    Finishes (s .self .width) (s .default-width-x) (s .nominal-width-x) (s .out .now) (gave (r .number) (r .next) (c .push-width .last .0))
-put-width c = let s = c .before .before .before .before .before .args in after-width (s .out .now) (s .self .width) (s .default-width-x) (s .nominal-width-x) _ _ _ (c .push-width .ensures)
+    Finishes (s .self .width) (s .widths) (s .out .now) (gave (r .number) (r .next) (c .push-width .last .0))
+put-width c = let s = c .before .before .before .before .before .args in after-width (s .out .now) (s .self .width) (s .widths) _ _ _ (c .push-width .ensures)
 
 program-len-requires : tie.Need-program-len-requires
 program-len-requires c κs = search needs
