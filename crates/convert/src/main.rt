@@ -397,7 +397,8 @@ fn show(name: &[u8], r: Type2Glyph, view: View, out: &mut [u8]) -> usize {
     }
     print_row(name, r);
     if view.hex {
-        print::hex_line(type1_to_type2::finished_program(out, r.len));
+        let program = type1_to_type2::finished_program(out, r.len);
+        print::hex_line(program);
     }
     1
 }
