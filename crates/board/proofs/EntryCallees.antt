@@ -49,7 +49,7 @@ use denote.Floats.{float-makes}
 use Rattle.type1_to_type2.specs.Convert.{convert}
 use Rattle.agreement.specs.Finished.{ConvertsFinished}
 use Rattle.agreement.proofs.Locals.{machX}
-use Rattle.board.specs.Answers.{Filled, matrixOf, widthsOf, glyphWords}
+use Rattle.board.specs.Answers.{matrixOf, widthsOf, glyphWords}
 use Rattle.board.proofs.matrix_of as matrix-of-f
 use Rattle.board.proofs.matrix_of.Symbol.{name as #board·matrix-of}
 use Rattle.board.proofs.widths_of as widths-of-f
@@ -86,7 +86,7 @@ module _ {M : Type 1} (𝓤 : URA M) (H : Heap 𝓤) (A : Atoms 𝓤) (mem : Mem
       via 𝓤 (WidthsOfC 𝓤 H A mem run′ .pre y) (qed W ((‵ ftrue) ∷ []) ∵ nothing ! $ owned ! f64 (Is f64) (float-makes 𝓤 H A W binary64) nw _ (refl, nw-fits) $ fjoin ! $ owned ! f64 (Is f64) (float-makes 𝓤 H A W binary64) dw _ (refl, dw-fits) $ fjoin ! $ nothing ! $ join ! $ frame ! $ done !) (known y)
 
   pub put-glyph-as : Triple 𝓤 (C #board·put-glyph) (PutGlyphC 𝓤 H A mem run′) → (κanswer : Lft) (qanswer : Share) (banswer oanswer : ℕ) (γanswer : GName) (ysanswer : List ℕ) (g : Type2Glyph) → Is G.the-row g (machG g ∷ []) → So (finite (g .width))
-      → ent 𝓤 (mean 𝓤 H A (‵ (flft κanswer qanswer) ⊛ ‵ (OwnR (Array u64 4) banswer oanswer κanswer γanswer ysanswer))) (C #board·put-glyph (machG g ∷ vptr banswer oanswer ∷ []) (λ w. mean 𝓤 H A (GotAll 𝓤 u64 (Unit {0} × (List ℕ × Unit {0})) (λ (r : u64 .Denot) (lasts : (Unit {0} × (List ℕ × Unit {0}))). (r ≡ g .number) × Filled 4 ysanswer (lasts .1 .0) (glyphWords g)) (λ (lasts : (Unit {0} × (List ℕ × Unit {0}))). (fsep ftrue (fsep (fres γanswer ((Array u64 4) .coded .code (lasts .1 .0))) ftrue))) (‵ (flft κanswer qanswer) ⊛ ‵ ftrue) w)))
+      → ent 𝓤 (mean 𝓤 H A (‵ (flft κanswer qanswer) ⊛ ‵ (OwnR (Array u64 4) banswer oanswer κanswer γanswer ysanswer))) (C #board·put-glyph (machG g ∷ vptr banswer oanswer ∷ []) (λ w. mean 𝓤 H A (GotAll 𝓤 u64 (Unit {0} × (List ℕ × Unit {0})) (λ (r : u64 .Denot) (lasts : (Unit {0} × (List ℕ × Unit {0}))). (r ≡ g .number) × ((lasts .1 .0) ≡ glyphWords g)) (λ (lasts : (Unit {0} × (List ℕ × Unit {0}))). (fsep ftrue (fsep (fres γanswer ((Array u64 4) .coded .code (lasts .1 .0))) ftrue))) (‵ (flft κanswer qanswer) ⊛ ‵ ftrue) w)))
   put-glyph-as known κanswer qanswer banswer oanswer γanswer ysanswer g g-fits need =
       let y : PutGlyphC 𝓤 H A mem run′ .Ghost = (((κanswer, tt), (qanswer, tt), tt, (g, (at-one (Array u64 4) banswer oanswer γanswer ysanswer, tt)), (machG g ∷ [], (vptr banswer oanswer ∷ [], tt))), tt) in
       via 𝓤 (PutGlyphC 𝓤 H A mem run′ .pre y) (qed W ((‵ (flft κanswer qanswer) ⊛ ‵ (OwnR (Array u64 4) banswer oanswer κanswer γanswer ysanswer)) ∷ []) ∵ says ! need $ split ! $ nothing ! $ move ! (2 ∷ 0 ∷ []) $ fjoin ! $ owned ! G.the-row (Is G.the-row) (LL.makes G.the-type G′.the-plain 𝓤 H A) g _ g-fits $ fjoin ! $ nothing ! $ move ! (2 ∷ 0 ∷ []) $ join ! $ frame ! $ done !) (known y)

@@ -22,10 +22,6 @@ matrixOf m = record { a = getD m 0 nan; b = getD m 1 nan; c = getD m 2 nan; d = 
 abbrev pub widthsOf : Float → Float → Widths
 widthsOf d n = record { «default_width_x» = d; «nominal_width_x» = n }
 
--- an array of n elements is written whole. Its length at the call is what its type says; the borrow checker does not tell it of an array behind a reference
-abbrev pub Filled : {A : Type 0} → ℕ → List A → List A → List A → Type 0
-Filled n before after xs = length before ≡ n → after ≡ xs
-
 -- number, length, the width's bits, bytes run
 abbrev pub glyphWords : Type2Glyph → List ℕ
 glyphWords g = g .number ∷ g .len ∷ toBits binary64 (g .width) ∷ g .ran ∷ []
@@ -43,13 +39,13 @@ abbrev pub pairOf : Chosen → List Float
 pairOf c = c .«default_width_x» ∷ c .«nominal_width_x» ∷ []
 
 -- what `cribstork_convert` leaves: what converting leaves, the number, and the answer's words
-pub record BoardConverts (x : Conversion) (stems : List Stem) (commands : List ℕ) (room : ℕ) (r : ℕ) (stems′ : List Stem) (commands′ out words words′ : List ℕ) : Type 0 where
+pub record BoardConverts (x : Conversion) (stems : List Stem) (commands : List ℕ) (room : ℕ) (r : ℕ) (stems′ : List Stem) (commands′ out words : List ℕ) : Type 0 where
   pub converts : Converts x stems commands room (answer x) stems′ commands′ out
   pub number-is : r ≡ answer x .number
-  pub words-are : Filled 4 words words′ (glyphWords (answer x))
+  pub words-are : words ≡ glyphWords (answer x)
 
 -- what `cribstork_convert_finished` leaves: what converting and finishing leave, the number, and the answer's words
-pub record BoardFinishes (charstring bank : List ℕ) (lenIV : ℕ) (m : Matrix) (p : Widths) (x : Conversion) (stems : List Stem) (commands program : List ℕ) (room : ℕ) (r : ℕ) (stems′ : List Stem) (commands′ program′ out words words′ : List ℕ) : Type 0 where
+pub record BoardFinishes (charstring bank : List ℕ) (lenIV : ℕ) (m : Matrix) (p : Widths) (x : Conversion) (stems : List Stem) (commands program : List ℕ) (room : ℕ) (r : ℕ) (stems′ : List Stem) (commands′ program′ out words : List ℕ) : Type 0 where
   pub finishes : ConvertsFinished charstring bank lenIV m p x stems commands program room (answer (finished p room x)) stems′ commands′ program′ out
   pub number-is : r ≡ answer (finished p room x) .number
-  pub words-are : Filled 4 words words′ (glyphWords (answer (finished p room x)))
+  pub words-are : words ≡ glyphWords (answer (finished p room x))

@@ -22,7 +22,7 @@ use Rattle.type1_to_type2.specs.Finish.{finish}
 use Rattle.type1_to_type2.specs.Entry.{Converts}
 use Rattle.agreement.specs.declared.Widths.{Widths}
 use Rattle.agreement.specs.Finished.{finished, ConvertsFinished}
-use Rattle.board.specs.Answers.{Filled, glyphWords, BoardConverts, BoardFinishes}
+use Rattle.board.specs.Answers.{glyphWords, BoardConverts, BoardFinishes}
 
 abbrev Finite : Conversion → Type 0
 Finite x = T (finite (answer x .width))
@@ -67,18 +67,18 @@ pub finished-finite : (p : Widths) (room : ℕ) (x : Conversion) → T (finite (
 finished-finite p room (refused n) t = tt
 finished-finite p room (converted b w n) t = writes-finite w n (finish w b (p .«default_width_x») (p .«nominal_width_x») room) t
 
-module _ (x : Conversion) (stems : List Stem) (commands : List ℕ) (room : ℕ) (g : Type2Glyph) (r : ℕ) (stems′ : List Stem) (commands′ out words words′ : List ℕ) where
-  pub board-converts : Converts x stems commands room g stems′ commands′ out → (r ≡ g .number) × Filled 4 words words′ (glyphWords g) → BoardConverts x stems commands room r stems′ commands′ out words words′
+module _ (x : Conversion) (stems : List Stem) (commands : List ℕ) (room : ℕ) (g : Type2Glyph) (r : ℕ) (stems′ : List Stem) (commands′ out words : List ℕ) where
+  pub board-converts : Converts x stems commands room g stems′ commands′ out → (r ≡ g .number) × (words ≡ glyphWords g) → BoardConverts x stems commands room r stems′ commands′ out words
   board-converts c e = record {
     converts = subst (λ (y : Type2Glyph). Converts x stems commands room y stems′ commands′ out) (c .glyph) c;
     number-is = e .0 ∙ ap (λ (y : Type2Glyph). y .number) (c .glyph);
-    words-are = λ len. e .1 len ∙ ap glyphWords (c .glyph);
+    words-are = e .1 ∙ ap glyphWords (c .glyph);
   }
 
-module _ (charstring bank : List ℕ) (lenIV : ℕ) (m : Matrix) (p : Widths) (x : Conversion) (stems : List Stem) (commands program : List ℕ) (room : ℕ) (g : Type2Glyph) (r : ℕ) (stems′ : List Stem) (commands′ program′ out words words′ : List ℕ) where
-  pub board-finishes : ConvertsFinished charstring bank lenIV m p x stems commands program room g stems′ commands′ program′ out → (r ≡ g .number) × Filled 4 words words′ (glyphWords g) → BoardFinishes charstring bank lenIV m p x stems commands program room r stems′ commands′ program′ out words words′
+module _ (charstring bank : List ℕ) (lenIV : ℕ) (m : Matrix) (p : Widths) (x : Conversion) (stems : List Stem) (commands program : List ℕ) (room : ℕ) (g : Type2Glyph) (r : ℕ) (stems′ : List Stem) (commands′ program′ out words : List ℕ) where
+  pub board-finishes : ConvertsFinished charstring bank lenIV m p x stems commands program room g stems′ commands′ program′ out → (r ≡ g .number) × (words ≡ glyphWords g) → BoardFinishes charstring bank lenIV m p x stems commands program room r stems′ commands′ program′ out words
   board-finishes c e = record {
     finishes = subst (λ (y : Type2Glyph). ConvertsFinished charstring bank lenIV m p x stems commands program room y stems′ commands′ program′ out) (c .glyph) c;
     number-is = e .0 ∙ ap (λ (y : Type2Glyph). y .number) (c .glyph);
-    words-are = λ len. e .1 len ∙ ap glyphWords (c .glyph);
+    words-are = e .1 ∙ ap glyphWords (c .glyph);
   }

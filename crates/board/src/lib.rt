@@ -9,7 +9,7 @@ ghost use Rattle.type1_to_type2.specs.Convert as Convert;
 ghost use Rattle.type1_to_type2.specs.Finish.{finish};
 ghost use Rattle.type1_to_type2.specs.FinishAnswer.{finishedAnswer, finishedOutput};
 ghost use Rattle.widths.specs.Widths.{chosen, zeroWidth};
-ghost use Rattle.board.specs.Answers.{Filled, matrixOf, widthsOf, glyphWords, finishedWords, decryptedWords, pairOf, BoardConverts, BoardFinishes};
+ghost use Rattle.board.specs.Answers.{matrixOf, widthsOf, glyphWords, finishedWords, decryptedWords, pairOf, BoardConverts, BoardFinishes};
 use agreement::Widths;
 use geometry::Matrix;
 use type1::Stem;
@@ -41,12 +41,9 @@ fn widths_of(default_width: f64, nominal_width: f64) -> Widths
 // The glyph's words into the answer; the number.
 fn put_glyph(g: Type2Glyph, answer: &mut [u64; 4]) -> u64
     requires { ⌜ T (finite (g .width)) ⌝ }
-    ensures { λ r. ⌜ (r ≡ g .number) × Filled 4 (now (answer .entry)) (now (answer .exit)) (glyphWords g) ⌝ }
+    ensures { λ r. ⌜ (r ≡ g .number) × (now (answer .exit) ≡ glyphWords g) ⌝ }
 {
-    answer[0] = g.number;
-    answer[1] = g.len as u64;
-    answer[2] = f64::to_bits(g.width);
-    answer[3] = g.ran as u64;
+    *answer = [g.number, g.len as u64, f64::to_bits(g.width), g.ran as u64];
     g.number
 }
 
@@ -62,7 +59,7 @@ pub extern "C" fn cribstork_convert(
     out: &mut [u8],
     answer: &mut [u64; 4],
 ) -> u64
-    ensures { λ r. ⌜ BoardConverts (Convert.convert (now (charstring .entry)) (now (bank .entry)) «len_iv» (matrixOf (now (matrix .entry))) (length (now (stems .entry))) (length (now (commands .entry))) (length (now (out .entry)))) (now (stems .entry)) (now (commands .entry)) (length (now (out .entry))) r (now (stems .exit)) (now (commands .exit)) (now (out .exit)) (now (answer .entry)) (now (answer .exit)) ⌝ }
+    ensures { λ r. ⌜ BoardConverts (Convert.convert (now (charstring .entry)) (now (bank .entry)) «len_iv» (matrixOf (now (matrix .entry))) (length (now (stems .entry))) (length (now (commands .entry))) (length (now (out .entry)))) (now (stems .entry)) (now (commands .entry)) (length (now (out .entry))) r (now (stems .exit)) (now (commands .exit)) (now (out .exit)) (now (answer .exit)) ⌝ }
 {
     let g = type1_to_type2::convert_charstring_transformed(
         charstring,
@@ -87,7 +84,7 @@ pub extern "C" fn cribstork_finish(
     answer: &mut [u64; 2],
 ) -> u64
     ensures { λ r. ⌜ r ≡ finishedAnswer (finish width (now (program .entry)) «default_width» «nominal_width» (length (now (out .entry)))) .number ⌝ }
-    ensures { λ _. ⌜ Filled 2 (now (answer .entry)) (now (answer .exit)) (finishedWords (finishedAnswer (finish width (now (program .entry)) «default_width» «nominal_width» (length (now (out .entry)))))) ⌝ }
+    ensures { λ _. ⌜ now (answer .exit) ≡ finishedWords (finishedAnswer (finish width (now (program .entry)) «default_width» «nominal_width» (length (now (out .entry))))) ⌝ }
     ensures { λ _. ⌜ now (out .exit) ≡ finishedOutput (length (now (out .entry))) (finish width (now (program .entry)) «default_width» «nominal_width» (length (now (out .entry)))) ⌝ }
 {
     let glyph = Type2Glyph {
@@ -97,8 +94,7 @@ pub extern "C" fn cribstork_finish(
         ran: 0,
     };
     let f = glyph.charstring(program, default_width, nominal_width, out);
-    answer[0] = f.number;
-    answer[1] = f.len as u64;
+    *answer = [f.number, f.len as u64];
     f.number
 }
 
@@ -118,7 +114,7 @@ pub extern "C" fn cribstork_convert_finished(
     out: &mut [u8],
     answer: &mut [u64; 4],
 ) -> u64
-    ensures { λ r. ⌜ BoardFinishes (now (charstring .entry)) (now (bank .entry)) «len_iv» (matrixOf (now (matrix .entry))) (widthsOf «default_width» «nominal_width») (Convert.convert (now (charstring .entry)) (now (bank .entry)) «len_iv» (matrixOf (now (matrix .entry))) (length (now (stems .entry))) (length (now (commands .entry))) (length (now (program .entry)))) (now (stems .entry)) (now (commands .entry)) (now (program .entry)) (length (now (out .entry))) r (now (stems .exit)) (now (commands .exit)) (now (program .exit)) (now (out .exit)) (now (answer .entry)) (now (answer .exit)) ⌝ }
+    ensures { λ r. ⌜ BoardFinishes (now (charstring .entry)) (now (bank .entry)) «len_iv» (matrixOf (now (matrix .entry))) (widthsOf «default_width» «nominal_width») (Convert.convert (now (charstring .entry)) (now (bank .entry)) «len_iv» (matrixOf (now (matrix .entry))) (length (now (stems .entry))) (length (now (commands .entry))) (length (now (program .entry)))) (now (stems .entry)) (now (commands .entry)) (now (program .entry)) (length (now (out .entry))) r (now (stems .exit)) (now (commands .exit)) (now (program .exit)) (now (out .exit)) (now (answer .exit)) ⌝ }
 {
     let g = agreement::convert_finished(
         charstring,
@@ -142,12 +138,11 @@ pub extern "C" fn cribstork_choose_widths(
     pair: &mut [f64; 2],
 ) -> u64
     ensures { λ r. ⌜ r ≡ chosen (now (widths .entry)) (length (now (scratch .entry))) .number ⌝ }
-    ensures { λ _. ⌜ Filled 2 (now (pair .entry)) (now (pair .exit)) (pairOf (chosen (now (widths .entry)) (length (now (scratch .entry))))) ⌝ }
+    ensures { λ _. ⌜ now (pair .exit) ≡ pairOf (chosen (now (widths .entry)) (length (now (scratch .entry)))) ⌝ }
     ensures { λ _. ⌜ now (scratch .exit) ≡ replicate (length (now (scratch .entry))) zeroWidth ⌝ }
 {
     let c = widths::choose_widths(widths, scratch);
-    pair[0] = c.default_width_x;
-    pair[1] = c.nominal_width_x;
+    *pair = [c.default_width_x, c.nominal_width_x];
     c.number
 }
 
@@ -160,11 +155,10 @@ pub extern "C" fn cribstork_decrypt(
     answer: &mut [u64; 2],
 ) -> u64
     ensures { λ r. ⌜ r ≡ decrypted «len_iv» (now («data» .entry)) (length (now (out .entry))) .number ⌝ }
-    ensures { λ _. ⌜ Filled 2 (now (answer .entry)) (now (answer .exit)) (decryptedWords (decrypted «len_iv» (now («data» .entry)) (length (now (out .entry))))) ⌝ }
+    ensures { λ _. ⌜ now (answer .exit) ≡ decryptedWords (decrypted «len_iv» (now («data» .entry)) (length (now (out .entry)))) ⌝ }
     ensures { λ _. ⌜ now (out .exit) ≡ written «len_iv» (now («data» .entry)) (length (now (out .entry))) ⌝ }
 {
     let d = charstring::decrypt_charstring(data, len_iv, out);
-    answer[0] = d.number;
-    answer[1] = d.length as u64;
+    *answer = [d.number, d.length as u64];
     d.number
 }

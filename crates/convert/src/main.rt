@@ -391,13 +391,14 @@ fn is_shown(name: &[u8], view: View) -> bool {
 }
 
 // Prints a glyph's line, and its bytes, where they are shown; the answer is how many lines.
-fn show(name: &[u8], r: Type2Glyph, view: View, out: &[u8]) -> usize {
+fn show(name: &[u8], r: Type2Glyph, view: View, out: &mut [u8]) -> usize {
     if !is_shown(name, view) {
         return 0;
     }
     print_row(name, r);
     if view.hex {
-        print::hex_line(part(out, 0, r.len));
+        let program = type1_to_type2::finished_program(out, r.len);
+        print::hex_line(program);
     }
     1
 }
@@ -461,7 +462,7 @@ fn convert_shown(
             commands: i.entries,
             output: all.len,
         },
-        shown: show(name, r, view, &out),
+        shown: show(name, r, view, &mut out),
     }
 }
 

@@ -3,9 +3,6 @@ ghost use mathlib.Core.Path.{_≡_};
 ghost use lib.ListN.{length};
 ghost use Rattle.othersubrs.specs.OtherSubrs.{taken, handNumber, handedBack, wholeFlex, isMove};
 
-// Numbers on the PostScript stack, at the most.
-const MOST: usize = 256;
-
 // How many arguments a callothersubr takes, with document 01's number: 0, or 7 where it is refused.
 pub struct Taken {
     pub number: u8,
@@ -42,16 +39,19 @@ pub fn arguments(held: usize, count: f64) -> Taken
     }
 }
 
-// The arguments are put on a PostScript stack of so many numbers, the last first; 15 where there is no room.
+// The arguments are put on a PostScript stack that holds so many numbers, the last first; 15 where there is no room.
+// The array taken as a slice tells its length to the proof.
 pub fn hand_back(args: &[f64], held: usize, stack: &mut [f64; 256]) -> u8
     ensures { λ r. ⌜ r ≡ handNumber held (length (now (args .entry))) ⌝ }
-    ensures { λ _. ⌜ (length (now (stack .entry)) ≡ 256 → now (stack .exit) ≡ handedBack (now (args .entry)) held (now (stack .entry))) ⌝ }
+    ensures { λ _. ⌜ now (stack .exit) ≡ handedBack (now (args .entry)) held (now (stack .entry)) ⌝ }
 {
     let n = args.len();
-    if MOST < held {
+    let all = &stack[..];
+    let most = all.len();
+    if most < held {
         return 15;
     }
-    if MOST - held < n {
+    if most - held < n {
         return 15;
     }
     let mut i = 0;

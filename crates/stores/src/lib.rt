@@ -1,5 +1,7 @@
-// Lent stores made zero, and how much of an output stands before its zeros.
+// Lent stores made zero, how much of an output stands before its zeros, and that part of it.
 ghost use mathlib.Core.Path.{_≡_};
+ghost use denote.Ref.{ptr};
+ghost use lib.ListN.{take};
 ghost use Rattle.stores.specs.Zeros.{zeros, zerosFrom, kept};
 
 // Every word becomes 0.
@@ -29,4 +31,16 @@ pub fn kept_bytes(number: u64, written: usize) -> usize
     ensures { λ r. ⌜ r ≡ kept number written ⌝ }
 {
     if number == 0 { written } else { 0 }
+}
+
+// The front part of an output: its first `len` bytes, all of them where `len` is beyond it.
+pub fn front(out: &mut [u8], len: usize) -> &mut [u8]
+    ensures { λ r. ⌜ now r ≡ take len (now (out .entry)) ⌝ }
+    ensures { λ r. ⌜ ptr r ≡ ptr (out .entry) ⌝ }
+{
+    if len < out.len() {
+        &mut out[..len]
+    } else {
+        out
+    }
 }

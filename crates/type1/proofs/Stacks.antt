@@ -386,7 +386,7 @@ module _ (o : List Float) (from to : ℕ) (h : from ≤ to) (k : to ≤ 256) (l 
             let b = back-count in
             subst (Meets r M) (sym (back-is t m s H room words (backwards args) false (lt-leb (t .postscript + length (backwards args)) 256 (omega arith)))) (ap (λ (x : Ran). x .flow) e ∙ is ∙ ap (λ (b : Bool). cond b 0 15) q, lit≤ tt)
 
-    pub hand-done : f ≡ 0 → (ps : List Float) → (length (m .ps) ≡ 256 → ps ≡ handedBack args (t .postscript) (m .ps)) → r ≡ ranOf (withPostscripts (t .postscript + (to - from)) t) 0 → Meets r (withPs ps m) (handBack (within room words) (backwards args) s)
+    pub hand-done : f ≡ 0 → (ps : List Float) → ps ≡ handedBack args (t .postscript) (m .ps) → r ≡ ranOf (withPostscripts (t .postscript + (to - from)) t) 0 → Meets r (withPs ps m) (handBack (within room words) (backwards args) s)
     hand-done z ps p e = by-test (leb (t .postscript + length args) 256) refl
       where
         by-test : (b : Bool) → leb (t .postscript + length args) 256 ≡ b → Meets r (withPs ps m) (handBack (within room words) (backwards args) s)
@@ -395,7 +395,7 @@ module _ (o : List Float) (from to : ℕ) (h : from ≤ to) (k : to ≤ 256) (l 
             let a = args-count in
             let b = length-reverse args in
             let c = H .fit .ps in
-            let v : ps ≡ paste (m .ps) (t .postscript) (reverse args) (length args) = p c ∙ handed-all args (m .ps) (t .postscript) g in
+            let v : ps ≡ paste (m .ps) (t .postscript) (reverse args) (length args) = p ∙ handed-all args (m .ps) (t .postscript) g in
             let u : take (t .postscript + (to - from)) ps ≡ take (t .postscript) (m .ps) ++ backwards args =
             ap₂ (λ (n : ℕ) (x : List Float). take (t .postscript + n) x) (sym a) v
             ∙ take-paste (m .ps) (t .postscript) (reverse args) (length args) (omega arith) (omega arith)

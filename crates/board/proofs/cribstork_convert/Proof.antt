@@ -57,7 +57,7 @@ use lib.Ieee.{fits}
 use lib.Ieee.Scale.{finite}
 use Rattle.type1_to_type2.specs.Convert.{convert}
 use Rattle.type1_to_type2.specs.Entry.{Converts}
-use Rattle.board.specs.Answers.{Filled, matrixOf, glyphWords, BoardConverts}
+use Rattle.board.specs.Answers.{matrixOf, glyphWords, BoardConverts}
 use Rattle.board.proofs.matrix_of.Symbol as matrix-of-def
 use Rattle.board.proofs.matrix_of.Symbol.{name as #board·matrix-of}
 use Rattle.board.proofs.matrix_of.Met as matrix-of-thm
@@ -132,7 +132,7 @@ module _ {M : Type 1} (𝓤 : URA M) (H : Heap 𝓤) (A : Atoms 𝓤) (W : Given
   abbrev Post : Val → SProp 𝓤
   Post = walkOf 𝓤 H A f.ended stayed (f.clauses 𝓤 H A mem run′) .post bound
 
-  exits : (r : ℕ) (w : Val) (usstems : List Stem) (uscommands : List ℕ) (usout : List ℕ) (usanswer : List ℕ) → BoardConverts (convert (xcharstring .now) (xbank .now) iv (matrixOf (xmatrix .now)) (length ysstems) (length yscommands) (length ysout)) ysstems yscommands (length ysout) r usstems uscommands usout ysanswer usanswer → length usstems ≡ mstems → length uscommands ≡ mcommands → length usout ≡ mout
+  exits : (r : ℕ) (w : Val) (usstems : List Stem) (uscommands : List ℕ) (usout : List ℕ) (usanswer : List ℕ) → BoardConverts (convert (xcharstring .now) (xbank .now) iv (matrixOf (xmatrix .now)) (length ysstems) (length yscommands) (length ysout)) ysstems yscommands (length ysout) r usstems uscommands usout usanswer → length usstems ≡ mstems → length uscommands ≡ mcommands → length usout ≡ mout
       → ent 𝓤 (⋆ 𝓤 H A (‵ (u64 .own r (w ∷ [])) ∷ ‵ (ShrSlice (named 0) κcharstring u8 .own xcharstring (sliceVal (xcharstring .ptr) (length (xcharstring .now)) ∷ [])) ∷ ‵ (flft κcharstring qcharstring) ∷ ‵ (ShrSlice (named 0) κbank u8 .own xbank (sliceVal (xbank .ptr) (length (xbank .now)) ∷ [])) ∷ ‵ (flft κbank qbank) ∷ ‵ (ShrRef (named 0) κmatrix (Array f64 6) .own xmatrix (vptr (xmatrix .ptr .0) (xmatrix .ptr .1) ∷ [])) ∷ ‵ (flft κmatrix qmatrix) ∷ ‵ (Own T.the-row mstems bstems ostems κstems γstems usstems) ∷ ‵ (flft κstems qstems) ∷ ‵ (Own u64 mcommands bcommands ocommands κcommands γcommands uscommands) ∷ ‵ (flft κcommands qcommands) ∷ ‵ (Own u8 mout bout oout κout γout usout) ∷ ‵ (flft κout qout) ∷ ‵ (OwnR (Array u64 4) banswer oanswer κanswer γanswer usanswer) ∷ ‵ (flft κanswer qanswer) ∷ [])) (Post w)
   exits r w usstems uscommands usout usanswer e lstems lcommands lout =
       qed W (‵ (u64 .own r (w ∷ [])) ∷ ‵ (ShrSlice (named 0) κcharstring u8 .own xcharstring (sliceVal (xcharstring .ptr) (length (xcharstring .now)) ∷ [])) ∷ ‵ (flft κcharstring qcharstring) ∷ ‵ (ShrSlice (named 0) κbank u8 .own xbank (sliceVal (xbank .ptr) (length (xbank .now)) ∷ [])) ∷ ‵ (flft κbank qbank) ∷ ‵ (ShrRef (named 0) κmatrix (Array f64 6) .own xmatrix (vptr (xmatrix .ptr .0) (xmatrix .ptr .1) ∷ [])) ∷ ‵ (flft κmatrix qmatrix) ∷ ‵ (Own T.the-row mstems bstems ostems κstems γstems usstems) ∷ ‵ (flft κstems qstems) ∷ ‵ (Own u64 mcommands bcommands ocommands κcommands γcommands uscommands) ∷ ‵ (flft κcommands qcommands) ∷ ‵ (Own u8 mout bout oout κout γout usout) ∷ ‵ (flft κout qout) ∷ ‵ (OwnR (Array u64 4) banswer oanswer κanswer γanswer usanswer) ∷ ‵ (flft κanswer qanswer) ∷ []) ∵ suffices ! _ (ends-at 𝓤 H A f.ended stayed (f.clauses 𝓤 H A mem run′) W bound w r (tt, (tt, (tt, (tt, (usstems, (uscommands, (usout, (usanswer, tt)))))))) (tt, (tt, (tt, (tt, (lstems, (lcommands, (lout, (tt, tt))))))))) $ says ! e $
@@ -157,10 +157,10 @@ module _ {M : Type 1} (𝓤 : URA M) (H : Heap 𝓤) (A : Atoms 𝓤) (W : Given
         move ! (5 ∷ 10 ∷ 2 ∷ []) $ returned ! tt T.the-row mstems bstems ostems νstems2 δstems2 ysstems (zs2 .1 .1 .1 .1 .0) (refl) lstems2 fitstems (move ! (5 ∷ 9 ∷ 3 ∷ []) $ returned ! tt u64 mcommands bcommands ocommands νcommands2 δcommands2 yscommands (zs2 .1 .1 .1 .1 .1 .0) (refl) lcommands2 fitcommands (move ! (5 ∷ 8 ∷ 4 ∷ []) $ returned ! tt u8 mout bout oout νout2 δout2 ysout (zs2 .1 .1 .1 .1 .1 .1 .0) (refl) lout2 fitout (
         assigns ! (addr ! (from ! (hop ! (look ! 32 refl) (stop !)))) (from ! (stop !)) (init ! 14 refl (tt, tt)) $
         -- `put_glyph`
-        move ! (12 ∷ 13 ∷ []) $ lend-ref ! tt (Array u64 4) banswer oanswer ysanswer (λ νanswer3 δanswer3. asks-all ! fm u64 (Is u64) (shows 𝓤 H A u64) (Unit {0} × (List ℕ × Unit {0})) (λ (r : u64 .Denot) (lasts : (Unit {0} × (List ℕ × Unit {0}))). (r ≡ r2 .number) × Filled 4 ysanswer (lasts .1 .0) (glyphWords r2)) (λ (lasts : (Unit {0} × (List ℕ × Unit {0}))). (fsep ftrue (fsep (fres δanswer3 ((Array u64 4) .coded .code (lasts .1 .0))) ftrue))) (‵ (flft (νanswer3 ∷ []) fullShare) ⊛ ‵ ftrue) (‵ (flft (νanswer3 ∷ []) fullShare) ⊛ ‵ (OwnR (Array u64 4) banswer oanswer (νanswer3 ∷ []) δanswer3 ysanswer)) (machG r2 ∷ vptr banswer oanswer ∷ []) (put-glyph-as 𝓤 H A mem run′ W C known-put-glyph (νanswer3 ∷ []) fullShare banswer oanswer δanswer3 ysanswer (r2) (mineG r2 w2 is2) (subst (λ (y : Type2Glyph). So (finite (y .width))) (sym (e2 .glyph)) (convert-finite (xcharstring .now) (xbank .now) iv r1 (length ysstems) (length yscommands) (length ysout)))) (and-then ! (load ! (from ! (stop !)) (look ! 30 refl)) (and-then ! (load ! (from ! (stop !)) (look ! 14 refl)) (no-more !))) (λ w3 r3 zs3 e3 is3. land ! (from ! (stop !)) (init ! 50 refl (uint-lawful 𝓤 H A W w64 .typed r3 _ is3 .0)) $ rewrite ! 50 (λ (u : Val). ‵ (fat fullShare word l₀ 0 u)) (ap only (is3 .0)) refl $ drop ! $ split ! $ move ! (1 ∷ []) $ drop ! $ move ! (1 ∷ []) $ fsplit ! $ drop ! $ fsplit ! $ move ! (1 ∷ []) $ drop ! $
+        move ! (12 ∷ 13 ∷ []) $ lend-ref ! tt (Array u64 4) banswer oanswer ysanswer (λ νanswer3 δanswer3. asks-all ! fm u64 (Is u64) (shows 𝓤 H A u64) (Unit {0} × (List ℕ × Unit {0})) (λ (r : u64 .Denot) (lasts : (Unit {0} × (List ℕ × Unit {0}))). (r ≡ r2 .number) × ((lasts .1 .0) ≡ glyphWords r2)) (λ (lasts : (Unit {0} × (List ℕ × Unit {0}))). (fsep ftrue (fsep (fres δanswer3 ((Array u64 4) .coded .code (lasts .1 .0))) ftrue))) (‵ (flft (νanswer3 ∷ []) fullShare) ⊛ ‵ ftrue) (‵ (flft (νanswer3 ∷ []) fullShare) ⊛ ‵ (OwnR (Array u64 4) banswer oanswer (νanswer3 ∷ []) δanswer3 ysanswer)) (machG r2 ∷ vptr banswer oanswer ∷ []) (put-glyph-as 𝓤 H A mem run′ W C known-put-glyph (νanswer3 ∷ []) fullShare banswer oanswer δanswer3 ysanswer (r2) (mineG r2 w2 is2) (subst (λ (y : Type2Glyph). So (finite (y .width))) (sym (e2 .glyph)) (convert-finite (xcharstring .now) (xbank .now) iv r1 (length ysstems) (length yscommands) (length ysout)))) (and-then ! (load ! (from ! (stop !)) (look ! 30 refl)) (and-then ! (load ! (from ! (stop !)) (look ! 14 refl)) (no-more !))) (λ w3 r3 zs3 e3 is3. land ! (from ! (stop !)) (init ! 50 refl (uint-lawful 𝓤 H A W w64 .typed r3 _ is3 .0)) $ rewrite ! 50 (λ (u : Val). ‵ (fat fullShare word l₀ 0 u)) (ap only (is3 .0)) refl $ drop ! $ split ! $ move ! (1 ∷ []) $ drop ! $ move ! (1 ∷ []) $ fsplit ! $ drop ! $ fsplit ! $ move ! (1 ∷ []) $ drop ! $
         move ! (1 ∷ 2 ∷ 0 ∷ []) $ returned-ref ! tt (Array u64 4) banswer oanswer νanswer3 δanswer3 ysanswer (zs3 .1 .0) (owned ! u64 (Is u64) (uint-makes 𝓤 H A W w64) r3 _ (refl, (is3 .1)) $
         returns ! (look ! 49 refl) $ forget ! 49 refl $ forget ! 47 refl $ forget ! 45 refl $ forget ! 43 refl $ forget ! 41 refl $ forget ! 39 refl $ forget ! 37 refl $ forget ! 35 refl $ forget ! 33 refl $ forget ! 31 refl $ forget ! 29 refl $ forget ! 27 refl $ forget ! 25 refl $ forget ! 23 refl $ forget ! 21 refl $ forget ! 19 refl $ forget ! 17 refl $ forget ! 15 refl $
-        move ! (49 ∷ 50 ∷ []) $ free1 ! $ move ! (47 ∷ 48 ∷ []) $ free1 ! $ move ! (45 ∷ 46 ∷ []) $ free1 ! $ move ! (43 ∷ 44 ∷ []) $ free1 ! $ move ! (41 ∷ 42 ∷ []) $ free1 ! $ move ! (39 ∷ 40 ∷ []) $ free1 ! $ move ! (37 ∷ 38 ∷ []) $ free1 ! $ move ! (35 ∷ 36 ∷ []) $ free1 ! $ move ! (33 ∷ 34 ∷ []) $ free1 ! $ move ! (31 ∷ 32 ∷ []) $ free1 ! $ move ! (29 ∷ 30 ∷ []) $ free1 ! $ move ! (27 ∷ 28 ∷ []) $ free1 ! $ move ! (25 ∷ 26 ∷ []) $ free1 ! $ move ! (23 ∷ 24 ∷ []) $ free1 ! $ move ! (21 ∷ 22 ∷ []) $ free1 ! $ move ! (19 ∷ 20 ∷ []) $ free1 ! $ move ! (17 ∷ 18 ∷ []) $ free1 ! $ move ! (15 ∷ 16 ∷ []) $ free1 ! $ free0 ! $ keep ! (0 ∷ 12 ∷ 10 ∷ 11 ∷ 9 ∷ 14 ∷ 13 ∷ 7 ∷ 8 ∷ 5 ∷ 6 ∷ 3 ∷ 4 ∷ 1 ∷ 2 ∷ []) $ by ! (exits r3 (vint w64 r3) (zs2 .1 .1 .1 .1 .0) (zs2 .1 .1 .1 .1 .1 .0) (zs2 .1 .1 .1 .1 .1 .1 .0) (zs3 .1 .0) (subst (λ (y : Matrix). BoardConverts (convert (xcharstring .now) (xbank .now) iv y (length ysstems) (length yscommands) (length ysout)) ysstems yscommands (length ysout) r3 (zs2 .1 .1 .1 .1 .0) (zs2 .1 .1 .1 .1 .1 .0) (zs2 .1 .1 .1 .1 .1 .1 .0) ysanswer (zs3 .1 .0)) e1 (board-converts (convert (xcharstring .now) (xbank .now) iv r1 (length ysstems) (length yscommands) (length ysout)) ysstems yscommands (length ysout) r2 r3 (zs2 .1 .1 .1 .1 .0) (zs2 .1 .1 .1 .1 .1 .0) (zs2 .1 .1 .1 .1 .1 .1 .0) ysanswer (zs3 .1 .0) e2 e3)) (lstems2) (lcommands2) (lout2))))))))))))))))))))))))))))))))))
+        move ! (49 ∷ 50 ∷ []) $ free1 ! $ move ! (47 ∷ 48 ∷ []) $ free1 ! $ move ! (45 ∷ 46 ∷ []) $ free1 ! $ move ! (43 ∷ 44 ∷ []) $ free1 ! $ move ! (41 ∷ 42 ∷ []) $ free1 ! $ move ! (39 ∷ 40 ∷ []) $ free1 ! $ move ! (37 ∷ 38 ∷ []) $ free1 ! $ move ! (35 ∷ 36 ∷ []) $ free1 ! $ move ! (33 ∷ 34 ∷ []) $ free1 ! $ move ! (31 ∷ 32 ∷ []) $ free1 ! $ move ! (29 ∷ 30 ∷ []) $ free1 ! $ move ! (27 ∷ 28 ∷ []) $ free1 ! $ move ! (25 ∷ 26 ∷ []) $ free1 ! $ move ! (23 ∷ 24 ∷ []) $ free1 ! $ move ! (21 ∷ 22 ∷ []) $ free1 ! $ move ! (19 ∷ 20 ∷ []) $ free1 ! $ move ! (17 ∷ 18 ∷ []) $ free1 ! $ move ! (15 ∷ 16 ∷ []) $ free1 ! $ free0 ! $ keep ! (0 ∷ 12 ∷ 10 ∷ 11 ∷ 9 ∷ 14 ∷ 13 ∷ 7 ∷ 8 ∷ 5 ∷ 6 ∷ 3 ∷ 4 ∷ 1 ∷ 2 ∷ []) $ by ! (exits r3 (vint w64 r3) (zs2 .1 .1 .1 .1 .0) (zs2 .1 .1 .1 .1 .1 .0) (zs2 .1 .1 .1 .1 .1 .1 .0) (zs3 .1 .0) (subst (λ (y : Matrix). BoardConverts (convert (xcharstring .now) (xbank .now) iv y (length ysstems) (length yscommands) (length ysout)) ysstems yscommands (length ysout) r3 (zs2 .1 .1 .1 .1 .0) (zs2 .1 .1 .1 .1 .1 .0) (zs2 .1 .1 .1 .1 .1 .1 .0) (zs3 .1 .0)) e1 (board-converts (convert (xcharstring .now) (xbank .now) iv r1 (length ysstems) (length yscommands) (length ysout)) ysstems yscommands (length ysout) r2 r3 (zs2 .1 .1 .1 .1 .0) (zs2 .1 .1 .1 .1 .1 .0) (zs2 .1 .1 .1 .1 .1 .1 .0) (zs3 .1 .0) e2 e3)) (lstems2) (lcommands2) (lout2))))))))))))))))))))))))))))))))))
 
 module _ {M : Type 1} (𝓤 : URA M) (H : Heap 𝓤) (A : Atoms 𝓤) (W : Given 𝓤 H A) (mem : Memory → SProp 𝓤) (run′ : Routine → Fun 𝓤) where
   meets : (𝓣 : Tables 𝓤 H) → (let C : Calls 𝓤 H = 𝓣 .C in Triple 𝓤 (C #board·matrix-of) (MatrixOfC 𝓤 H A mem run′) → Triple 𝓤 (C #type1-to-type2·convert-charstring-transformed) (ConvertCharstringTransformedC 𝓤 H A mem run′) → Triple 𝓤 (C #board·put-glyph) (PutGlyphC 𝓤 H A mem run′) → Meets 𝓤 H A f.signature (WpFn 𝓤 H (𝓣 .C) (𝓣 .Λ) code.function) (f.spec 𝓤 H A mem run′))

@@ -64,7 +64,7 @@ use denote.Floats.{passes, float-vals, float-tells, float-makes}
 use Rattle.type1_to_type2.specs.Convert.{convert}
 use Rattle.agreement.specs.Finished.{ConvertsFinished}
 use Rattle.agreement.proofs.Locals.{machX}
-use Rattle.board.specs.Answers.{Filled, matrixOf, widthsOf, glyphWords, BoardFinishes}
+use Rattle.board.specs.Answers.{matrixOf, widthsOf, glyphWords, BoardFinishes}
 use Rattle.board.proofs.matrix_of.Symbol as matrix-of-def
 use Rattle.board.proofs.matrix_of.Symbol.{name as #board·matrix-of}
 use Rattle.board.proofs.matrix_of.Met as matrix-of-thm
@@ -153,7 +153,7 @@ module _ {M : Type 1} (𝓤 : URA M) (H : Heap 𝓤) (A : Atoms 𝓤) (W : Given
   abbrev Post : Val → SProp 𝓤
   Post = walkOf 𝓤 H A f.ended stayed (f.clauses 𝓤 H A mem run′) .post bound
 
-  exits : (r : ℕ) (w : Val) (usstems : List Stem) (uscommands : List ℕ) (usprogram : List ℕ) (usout : List ℕ) (usanswer : List ℕ) → BoardFinishes (xcharstring .now) (xbank .now) iv (matrixOf (xmatrix .now)) (widthsOf dw nw) (convert (xcharstring .now) (xbank .now) iv (matrixOf (xmatrix .now)) (length ysstems) (length yscommands) (length ysprogram)) ysstems yscommands ysprogram (length ysout) r usstems uscommands usprogram usout ysanswer usanswer → length usstems ≡ mstems → length uscommands ≡ mcommands → length usprogram ≡ mprogram → length usout ≡ mout
+  exits : (r : ℕ) (w : Val) (usstems : List Stem) (uscommands : List ℕ) (usprogram : List ℕ) (usout : List ℕ) (usanswer : List ℕ) → BoardFinishes (xcharstring .now) (xbank .now) iv (matrixOf (xmatrix .now)) (widthsOf dw nw) (convert (xcharstring .now) (xbank .now) iv (matrixOf (xmatrix .now)) (length ysstems) (length yscommands) (length ysprogram)) ysstems yscommands ysprogram (length ysout) r usstems uscommands usprogram usout usanswer → length usstems ≡ mstems → length uscommands ≡ mcommands → length usprogram ≡ mprogram → length usout ≡ mout
       → ent 𝓤 (⋆ 𝓤 H A (‵ (u64 .own r (w ∷ [])) ∷ ‵ (ShrSlice (named 0) κcharstring u8 .own xcharstring (sliceVal (xcharstring .ptr) (length (xcharstring .now)) ∷ [])) ∷ ‵ (flft κcharstring qcharstring) ∷ ‵ (ShrSlice (named 0) κbank u8 .own xbank (sliceVal (xbank .ptr) (length (xbank .now)) ∷ [])) ∷ ‵ (flft κbank qbank) ∷ ‵ (ShrRef (named 0) κmatrix (Array f64 6) .own xmatrix (vptr (xmatrix .ptr .0) (xmatrix .ptr .1) ∷ [])) ∷ ‵ (flft κmatrix qmatrix) ∷ ‵ (Own T.the-row mstems bstems ostems κstems γstems usstems) ∷ ‵ (flft κstems qstems) ∷ ‵ (Own u64 mcommands bcommands ocommands κcommands γcommands uscommands) ∷ ‵ (flft κcommands qcommands) ∷ ‵ (Own u8 mprogram bprogram oprogram κprogram γprogram usprogram) ∷ ‵ (flft κprogram qprogram) ∷ ‵ (Own u8 mout bout oout κout γout usout) ∷ ‵ (flft κout qout) ∷ ‵ (OwnR (Array u64 4) banswer oanswer κanswer γanswer usanswer) ∷ ‵ (flft κanswer qanswer) ∷ [])) (Post w)
   exits r w usstems uscommands usprogram usout usanswer e lstems lcommands lprogram lout =
       qed W (‵ (u64 .own r (w ∷ [])) ∷ ‵ (ShrSlice (named 0) κcharstring u8 .own xcharstring (sliceVal (xcharstring .ptr) (length (xcharstring .now)) ∷ [])) ∷ ‵ (flft κcharstring qcharstring) ∷ ‵ (ShrSlice (named 0) κbank u8 .own xbank (sliceVal (xbank .ptr) (length (xbank .now)) ∷ [])) ∷ ‵ (flft κbank qbank) ∷ ‵ (ShrRef (named 0) κmatrix (Array f64 6) .own xmatrix (vptr (xmatrix .ptr .0) (xmatrix .ptr .1) ∷ [])) ∷ ‵ (flft κmatrix qmatrix) ∷ ‵ (Own T.the-row mstems bstems ostems κstems γstems usstems) ∷ ‵ (flft κstems qstems) ∷ ‵ (Own u64 mcommands bcommands ocommands κcommands γcommands uscommands) ∷ ‵ (flft κcommands qcommands) ∷ ‵ (Own u8 mprogram bprogram oprogram κprogram γprogram usprogram) ∷ ‵ (flft κprogram qprogram) ∷ ‵ (Own u8 mout bout oout κout γout usout) ∷ ‵ (flft κout qout) ∷ ‵ (OwnR (Array u64 4) banswer oanswer κanswer γanswer usanswer) ∷ ‵ (flft κanswer qanswer) ∷ []) ∵ suffices ! _ (ends-at 𝓤 H A f.ended stayed (f.clauses 𝓤 H A mem run′) W bound w r (tt, (tt, (tt, (tt, (usstems, (uscommands, (usprogram, (tt, (tt, (usout, (usanswer, tt))))))))))) (tt, (tt, (tt, (tt, (lstems, (lcommands, (lprogram, (tt, (tt, (lout, (tt, tt)))))))))))) $ says ! e $
@@ -182,10 +182,10 @@ module _ {M : Type 1} (𝓤 : URA M) (H : Heap 𝓤) (A : Atoms 𝓤) (W : Given
         move ! (7 ∷ 13 ∷ 3 ∷ []) $ returned ! tt T.the-row mstems bstems ostems νstems3 δstems3 ysstems (zs3 .1 .1 .1 .1 .1 .0) (refl) lstems3 fitstems (move ! (7 ∷ 12 ∷ 4 ∷ []) $ returned ! tt u64 mcommands bcommands ocommands νcommands3 δcommands3 yscommands (zs3 .1 .1 .1 .1 .1 .1 .0) (refl) lcommands3 fitcommands (move ! (7 ∷ 11 ∷ 5 ∷ []) $ returned ! tt u8 mprogram bprogram oprogram νprogram3 δprogram3 ysprogram (zs3 .1 .1 .1 .1 .1 .1 .1 .0) (refl) lprogram3 fitprogram (move ! (7 ∷ 10 ∷ 6 ∷ []) $ returned ! tt u8 mout bout oout νout3 δout3 ysout (zs3 .1 .1 .1 .1 .1 .1 .1 .1 .0) (refl) lout3 fitout (
         assigns ! (addr ! (from ! (hop ! (look ! 40 refl) (stop !)))) (from ! (stop !)) (init ! 16 refl (tt, tt)) $
         -- `put_glyph`
-        move ! (14 ∷ 15 ∷ []) $ lend-ref ! tt (Array u64 4) banswer oanswer ysanswer (λ νanswer4 δanswer4. asks-all ! fm u64 (Is u64) (shows 𝓤 H A u64) (Unit {0} × (List ℕ × Unit {0})) (λ (r : u64 .Denot) (lasts : (Unit {0} × (List ℕ × Unit {0}))). (r ≡ r3 .number) × Filled 4 ysanswer (lasts .1 .0) (glyphWords r3)) (λ (lasts : (Unit {0} × (List ℕ × Unit {0}))). (fsep ftrue (fsep (fres δanswer4 ((Array u64 4) .coded .code (lasts .1 .0))) ftrue))) (‵ (flft (νanswer4 ∷ []) fullShare) ⊛ ‵ ftrue) (‵ (flft (νanswer4 ∷ []) fullShare) ⊛ ‵ (OwnR (Array u64 4) banswer oanswer (νanswer4 ∷ []) δanswer4 ysanswer)) (machG r3 ∷ vptr banswer oanswer ∷ []) (put-glyph-as 𝓤 H A mem run′ W C known-put-glyph (νanswer4 ∷ []) fullShare banswer oanswer δanswer4 ysanswer (r3) (mineG r3 w3 is3) (subst (λ (y : Type2Glyph). So (finite (y .width))) (sym (e3 .glyph)) (finished-finite r2 (length ysout) (convert (xcharstring .now) (xbank .now) iv r1 (length ysstems) (length yscommands) (length ysprogram)) (convert-finite (xcharstring .now) (xbank .now) iv r1 (length ysstems) (length yscommands) (length ysprogram))))) (and-then ! (load ! (from ! (stop !)) (look ! 38 refl)) (and-then ! (load ! (from ! (stop !)) (look ! 16 refl)) (no-more !))) (λ w4 r4 zs4 e4 is4. land ! (from ! (stop !)) (init ! 64 refl (uint-lawful 𝓤 H A W w64 .typed r4 _ is4 .0)) $ rewrite ! 64 (λ (u : Val). ‵ (fat fullShare word l₀ 0 u)) (ap only (is4 .0)) refl $ drop ! $ split ! $ move ! (1 ∷ []) $ drop ! $ move ! (1 ∷ []) $ fsplit ! $ drop ! $ fsplit ! $ move ! (1 ∷ []) $ drop ! $
+        move ! (14 ∷ 15 ∷ []) $ lend-ref ! tt (Array u64 4) banswer oanswer ysanswer (λ νanswer4 δanswer4. asks-all ! fm u64 (Is u64) (shows 𝓤 H A u64) (Unit {0} × (List ℕ × Unit {0})) (λ (r : u64 .Denot) (lasts : (Unit {0} × (List ℕ × Unit {0}))). (r ≡ r3 .number) × ((lasts .1 .0) ≡ glyphWords r3)) (λ (lasts : (Unit {0} × (List ℕ × Unit {0}))). (fsep ftrue (fsep (fres δanswer4 ((Array u64 4) .coded .code (lasts .1 .0))) ftrue))) (‵ (flft (νanswer4 ∷ []) fullShare) ⊛ ‵ ftrue) (‵ (flft (νanswer4 ∷ []) fullShare) ⊛ ‵ (OwnR (Array u64 4) banswer oanswer (νanswer4 ∷ []) δanswer4 ysanswer)) (machG r3 ∷ vptr banswer oanswer ∷ []) (put-glyph-as 𝓤 H A mem run′ W C known-put-glyph (νanswer4 ∷ []) fullShare banswer oanswer δanswer4 ysanswer (r3) (mineG r3 w3 is3) (subst (λ (y : Type2Glyph). So (finite (y .width))) (sym (e3 .glyph)) (finished-finite r2 (length ysout) (convert (xcharstring .now) (xbank .now) iv r1 (length ysstems) (length yscommands) (length ysprogram)) (convert-finite (xcharstring .now) (xbank .now) iv r1 (length ysstems) (length yscommands) (length ysprogram))))) (and-then ! (load ! (from ! (stop !)) (look ! 38 refl)) (and-then ! (load ! (from ! (stop !)) (look ! 16 refl)) (no-more !))) (λ w4 r4 zs4 e4 is4. land ! (from ! (stop !)) (init ! 64 refl (uint-lawful 𝓤 H A W w64 .typed r4 _ is4 .0)) $ rewrite ! 64 (λ (u : Val). ‵ (fat fullShare word l₀ 0 u)) (ap only (is4 .0)) refl $ drop ! $ split ! $ move ! (1 ∷ []) $ drop ! $ move ! (1 ∷ []) $ fsplit ! $ drop ! $ fsplit ! $ move ! (1 ∷ []) $ drop ! $
         move ! (1 ∷ 2 ∷ 0 ∷ []) $ returned-ref ! tt (Array u64 4) banswer oanswer νanswer4 δanswer4 ysanswer (zs4 .1 .0) (owned ! u64 (Is u64) (uint-makes 𝓤 H A W w64) r4 _ (refl, (is4 .1)) $
         returns ! (look ! 63 refl) $ forget ! 63 refl $ forget ! 61 refl $ forget ! 59 refl $ forget ! 57 refl $ forget ! 55 refl $ forget ! 53 refl $ forget ! 51 refl $ forget ! 49 refl $ forget ! 47 refl $ forget ! 45 refl $ forget ! 43 refl $ forget ! 41 refl $ forget ! 39 refl $ forget ! 37 refl $ forget ! 35 refl $ forget ! 33 refl $ forget ! 31 refl $ forget ! 29 refl $ forget ! 27 refl $ forget ! 25 refl $ forget ! 23 refl $ forget ! 21 refl $ forget ! 19 refl $ forget ! 17 refl $
-        move ! (63 ∷ 64 ∷ []) $ free1 ! $ move ! (61 ∷ 62 ∷ []) $ free1 ! $ move ! (59 ∷ 60 ∷ []) $ free1 ! $ move ! (57 ∷ 58 ∷ []) $ free1 ! $ move ! (55 ∷ 56 ∷ []) $ free1 ! $ move ! (53 ∷ 54 ∷ []) $ free1 ! $ move ! (51 ∷ 52 ∷ []) $ free1 ! $ move ! (49 ∷ 50 ∷ []) $ free1 ! $ move ! (47 ∷ 48 ∷ []) $ free1 ! $ move ! (45 ∷ 46 ∷ []) $ free1 ! $ move ! (43 ∷ 44 ∷ []) $ free1 ! $ move ! (41 ∷ 42 ∷ []) $ free1 ! $ move ! (39 ∷ 40 ∷ []) $ free1 ! $ move ! (37 ∷ 38 ∷ []) $ free1 ! $ move ! (35 ∷ 36 ∷ []) $ free1 ! $ move ! (33 ∷ 34 ∷ []) $ free1 ! $ move ! (31 ∷ 32 ∷ []) $ free1 ! $ move ! (29 ∷ 30 ∷ []) $ free1 ! $ move ! (27 ∷ 28 ∷ []) $ free1 ! $ move ! (25 ∷ 26 ∷ []) $ free1 ! $ move ! (23 ∷ 24 ∷ []) $ free1 ! $ move ! (21 ∷ 22 ∷ []) $ free1 ! $ move ! (19 ∷ 20 ∷ []) $ free1 ! $ move ! (17 ∷ 18 ∷ []) $ free1 ! $ free0 ! $ keep ! (0 ∷ 14 ∷ 12 ∷ 13 ∷ 11 ∷ 16 ∷ 15 ∷ 9 ∷ 10 ∷ 7 ∷ 8 ∷ 5 ∷ 6 ∷ 3 ∷ 4 ∷ 1 ∷ 2 ∷ []) $ by ! (exits r4 (vint w64 r4) (zs3 .1 .1 .1 .1 .1 .0) (zs3 .1 .1 .1 .1 .1 .1 .0) (zs3 .1 .1 .1 .1 .1 .1 .1 .0) (zs3 .1 .1 .1 .1 .1 .1 .1 .1 .0) (zs4 .1 .0) (subst (λ (y : Matrix). BoardFinishes (xcharstring .now) (xbank .now) iv y (widthsOf dw nw) (convert (xcharstring .now) (xbank .now) iv y (length ysstems) (length yscommands) (length ysprogram)) ysstems yscommands ysprogram (length ysout) r4 (zs3 .1 .1 .1 .1 .1 .0) (zs3 .1 .1 .1 .1 .1 .1 .0) (zs3 .1 .1 .1 .1 .1 .1 .1 .0) (zs3 .1 .1 .1 .1 .1 .1 .1 .1 .0) ysanswer (zs4 .1 .0)) e1 (subst (λ (y : Widths). BoardFinishes (xcharstring .now) (xbank .now) iv r1 y (convert (xcharstring .now) (xbank .now) iv r1 (length ysstems) (length yscommands) (length ysprogram)) ysstems yscommands ysprogram (length ysout) r4 (zs3 .1 .1 .1 .1 .1 .0) (zs3 .1 .1 .1 .1 .1 .1 .0) (zs3 .1 .1 .1 .1 .1 .1 .1 .0) (zs3 .1 .1 .1 .1 .1 .1 .1 .1 .0) ysanswer (zs4 .1 .0)) e2 (board-finishes (xcharstring .now) (xbank .now) iv r1 r2 (convert (xcharstring .now) (xbank .now) iv r1 (length ysstems) (length yscommands) (length ysprogram)) ysstems yscommands ysprogram (length ysout) r3 r4 (zs3 .1 .1 .1 .1 .1 .0) (zs3 .1 .1 .1 .1 .1 .1 .0) (zs3 .1 .1 .1 .1 .1 .1 .1 .0) (zs3 .1 .1 .1 .1 .1 .1 .1 .1 .0) ysanswer (zs4 .1 .0) e3 e4))) (lstems3) (lcommands3) (lprogram3) (lout3))))))))))))))))))))))))))))))))))))))))))))
+        move ! (63 ∷ 64 ∷ []) $ free1 ! $ move ! (61 ∷ 62 ∷ []) $ free1 ! $ move ! (59 ∷ 60 ∷ []) $ free1 ! $ move ! (57 ∷ 58 ∷ []) $ free1 ! $ move ! (55 ∷ 56 ∷ []) $ free1 ! $ move ! (53 ∷ 54 ∷ []) $ free1 ! $ move ! (51 ∷ 52 ∷ []) $ free1 ! $ move ! (49 ∷ 50 ∷ []) $ free1 ! $ move ! (47 ∷ 48 ∷ []) $ free1 ! $ move ! (45 ∷ 46 ∷ []) $ free1 ! $ move ! (43 ∷ 44 ∷ []) $ free1 ! $ move ! (41 ∷ 42 ∷ []) $ free1 ! $ move ! (39 ∷ 40 ∷ []) $ free1 ! $ move ! (37 ∷ 38 ∷ []) $ free1 ! $ move ! (35 ∷ 36 ∷ []) $ free1 ! $ move ! (33 ∷ 34 ∷ []) $ free1 ! $ move ! (31 ∷ 32 ∷ []) $ free1 ! $ move ! (29 ∷ 30 ∷ []) $ free1 ! $ move ! (27 ∷ 28 ∷ []) $ free1 ! $ move ! (25 ∷ 26 ∷ []) $ free1 ! $ move ! (23 ∷ 24 ∷ []) $ free1 ! $ move ! (21 ∷ 22 ∷ []) $ free1 ! $ move ! (19 ∷ 20 ∷ []) $ free1 ! $ move ! (17 ∷ 18 ∷ []) $ free1 ! $ free0 ! $ keep ! (0 ∷ 14 ∷ 12 ∷ 13 ∷ 11 ∷ 16 ∷ 15 ∷ 9 ∷ 10 ∷ 7 ∷ 8 ∷ 5 ∷ 6 ∷ 3 ∷ 4 ∷ 1 ∷ 2 ∷ []) $ by ! (exits r4 (vint w64 r4) (zs3 .1 .1 .1 .1 .1 .0) (zs3 .1 .1 .1 .1 .1 .1 .0) (zs3 .1 .1 .1 .1 .1 .1 .1 .0) (zs3 .1 .1 .1 .1 .1 .1 .1 .1 .0) (zs4 .1 .0) (subst (λ (y : Matrix). BoardFinishes (xcharstring .now) (xbank .now) iv y (widthsOf dw nw) (convert (xcharstring .now) (xbank .now) iv y (length ysstems) (length yscommands) (length ysprogram)) ysstems yscommands ysprogram (length ysout) r4 (zs3 .1 .1 .1 .1 .1 .0) (zs3 .1 .1 .1 .1 .1 .1 .0) (zs3 .1 .1 .1 .1 .1 .1 .1 .0) (zs3 .1 .1 .1 .1 .1 .1 .1 .1 .0) (zs4 .1 .0)) e1 (subst (λ (y : Widths). BoardFinishes (xcharstring .now) (xbank .now) iv r1 y (convert (xcharstring .now) (xbank .now) iv r1 (length ysstems) (length yscommands) (length ysprogram)) ysstems yscommands ysprogram (length ysout) r4 (zs3 .1 .1 .1 .1 .1 .0) (zs3 .1 .1 .1 .1 .1 .1 .0) (zs3 .1 .1 .1 .1 .1 .1 .1 .0) (zs3 .1 .1 .1 .1 .1 .1 .1 .1 .0) (zs4 .1 .0)) e2 (board-finishes (xcharstring .now) (xbank .now) iv r1 r2 (convert (xcharstring .now) (xbank .now) iv r1 (length ysstems) (length yscommands) (length ysprogram)) ysstems yscommands ysprogram (length ysout) r3 r4 (zs3 .1 .1 .1 .1 .1 .0) (zs3 .1 .1 .1 .1 .1 .1 .0) (zs3 .1 .1 .1 .1 .1 .1 .1 .0) (zs3 .1 .1 .1 .1 .1 .1 .1 .1 .0) (zs4 .1 .0) e3 e4))) (lstems3) (lcommands3) (lprogram3) (lout3))))))))))))))))))))))))))))))))))))))))))))
 
 module _ {M : Type 1} (𝓤 : URA M) (H : Heap 𝓤) (A : Atoms 𝓤) (W : Given 𝓤 H A) (mem : Memory → SProp 𝓤) (run′ : Routine → Fun 𝓤) where
   meets : (𝓣 : Tables 𝓤 H) → (let C : Calls 𝓤 H = 𝓣 .C in Triple 𝓤 (C #board·matrix-of) (MatrixOfC 𝓤 H A mem run′) → Triple 𝓤 (C #board·widths-of) (WidthsOfC 𝓤 H A mem run′) → Triple 𝓤 (C #agreement·convert-finished) (ConvertFinishedC 𝓤 H A mem run′) → Triple 𝓤 (C #board·put-glyph) (PutGlyphC 𝓤 H A mem run′) → Meets 𝓤 H A f.signature (WpFn 𝓤 H (𝓣 .C) (𝓣 .Λ) code.function) (f.spec 𝓤 H A mem run′))

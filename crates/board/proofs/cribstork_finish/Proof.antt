@@ -4,7 +4,7 @@ use Rattle.type1_to_type2.specs.FinishAnswer.{finishedAnswer, finishedOutput}
 use Rattle.board.specs.Answers.{finishedWords}
 use Rattle.type1_to_type2.specs.declared.Finished.{Finished}
 use mathlib.Core.Path.{ap, _∙_}
-use Rattle.board.proofs.Words.{two, finish-all}
+use Rattle.board.proofs.Words.{finish-all}
 use borrow.Author.Needs.{needs}
 use Rattle.board.proofs.cribstork_finish.Statement.{statement}
 use Rattle.board.proofs.cribstork_finish.Tie as tie
@@ -15,23 +15,17 @@ use Rattle.type1_to_type2.proofs.Type2Glyph.charstring.Reads as charstring-read
 charstring-requires : tie.Need-charstring-requires
 charstring-requires c κs = search needs
 
-element-write-answer : tie.Need-element-write-answer
-element-write-answer c = search needs
-
-element-write-answer-2 : tie.Need-element-write-answer-2
-element-write-answer-2 c = search needs
-
 same-length : tie.Need-same-length
 same-length c = search needs
 
 returns : tie.Need-returns
 returns c =
-    let a = c .before .before .before .before .before .before .args in
+    let a = c .before .before .before .before .before .before .before .args in
     let same = finish-all (a .width) (a .program .now) (a .default-width) (a .nominal-width) (length (a .out .now)) in
-    let given = c .before .before .charstring .ensures in (
+    let given = c .before .before .before .charstring .ensures in (
       ap (λ (y : Finished). y .number) (given .0) ∙ ap (λ (x : Written). finishedAnswer x .number) same,
       (
-        (λ len. two (a .answer .now) (c .before .before .charstring .result .number) (c .before .before .charstring .result .len) len ∙ ap finishedWords (given .0 ∙ ap finishedAnswer same)),
+        ap finishedWords (given .0 ∙ ap finishedAnswer same),
         given .1 ∙ ap (finishedOutput (length (a .out .now))) same,
       ),
     )
@@ -39,4 +33,4 @@ returns c =
 pub cribstork-finish-spec : {M : Type 1} → statement M
 cribstork-finish-spec =
     tie.close
-    (tie.spec charstring-requires element-write-answer element-write-answer-2 same-length returns)
+    (tie.spec charstring-requires same-length returns)

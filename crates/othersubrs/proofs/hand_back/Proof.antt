@@ -13,45 +13,42 @@ use Rattle.othersubrs.proofs.hand_back.Tie as tie
 
 -- i of the n arguments are on the stack
 abbrev Handing : List Float → List Float → ℕ → ℕ → List Float → ℕ → Type 0
-Handing args before held n stack i = (i ≤ n) × (n ≡ length args) × (held + n ≤ length before → stack ≡ paste before held (reverse args) i)
+Handing args before held n stack i = (i ≤ n) × (n ≡ length args) × (stack ≡ paste before held (reverse args) i)
 
 begun : (args stack : List Float) (held : ℕ) → Handing args stack held (length args) stack 0
-begun args stack held = (omega arith, refl, λ h. paste-zero stack held (reverse args))
+begun args stack held = (omega arith, refl, paste-zero stack held (reverse args))
 
-turn : (args before stack : List Float) (held n i : ℕ) → Handing args before held n stack i → i < n → Handing args before held n (set stack (held + i) (getD args (n - 1 - i) nan)) (i + 1)
-turn args before stack held n i H l =
+turn : (args before stack : List Float) (held n i : ℕ) → held + n ≤ length before → Handing args before held n stack i → i < n → Handing args before held n (set stack (held + i) (getD args (n - 1 - i) nan)) (i + 1)
+turn args before stack held n i room H l =
     let e = H .1 in
-    (omega arith, e, λ h. ap₂ (λ (x : List Float) (k : ℕ). set x (held + i) (getD args (k - 1 - i) nan)) (H .2 h) e ∙ handed-more args before held i (omega arith) (omega arith))
+    (omega arith, e, ap₂ (λ (x : List Float) (k : ℕ). set x (held + i) (getD args (k - 1 - i) nan)) (H .2) e ∙ handed-more args before held i (omega arith) (omega arith))
 
-full : (args stack : List Float) (held : ℕ) → 256 < held → (15 ≡ handNumber held (length args)) × (length stack ≡ 256 → stack ≡ handedBack args held stack)
-full args stack held h = (number-none args stack held (omega arith), λ l. handed-none args stack held (omega arith))
+full : (args stack : List Float) (held : ℕ) → 256 < held + length args → (15 ≡ handNumber held (length args)) × (stack ≡ handedBack args held stack)
+full args stack held h = (number-none args stack held h, handed-none args stack held h)
 
-no-room : (args stack : List Float) (held : ℕ) → held ≤ 256 → 256 - held < length args → (15 ≡ handNumber held (length args)) × (length stack ≡ 256 → stack ≡ handedBack args held stack)
-no-room args stack held h k = (number-none args stack held (omega arith), λ l. handed-none args stack held (omega arith))
-
-done : (args before stack : List Float) (held n i : ℕ) → held ≤ 256 → n ≤ 256 - held → Handing args before held n stack i → n ≤ i → (0 ≡ handNumber held (length args)) × (length before ≡ 256 → stack ≡ handedBack args held before)
-done args before stack held n i h k H d =
+done : (args before stack : List Float) (held n i : ℕ) → held + n ≤ 256 → Handing args before held n stack i → n ≤ i → (0 ≡ handNumber held (length args)) × (stack ≡ handedBack args held before)
+done args before stack held n i h H d =
     let e = H .1 in
     let f = H .0 in
-    (number-some args stack held (omega arith), λ l. H .2 (omega arith) ∙ ap (paste before held (reverse args)) (let z : i ≡ length args = omega arith in z) ∙ sym (handed-all args before held (omega arith)))
+    (number-some args stack held (omega arith), H .2 ∙ ap (paste before held (reverse args)) (let z : i ≡ length args = omega arith in z) ∙ sym (handed-all args before held (omega arith)))
 
 abbrev Inv-loop : tie.InvT-loop
-Inv-loop args held stack₀ n i₀ stack i = Handing args stack₀ held n stack i
+Inv-loop args held stack₀ n most i₀ stack i = Handing args stack₀ held n stack i
 
 abbrev μ-loop : tie.MeasureT-loop
-μ-loop args held stack₀ n i₀ stack i = n - i
+μ-loop args held stack₀ n most i₀ stack i = n - i
 
 returns : tie.Need-returns Inv-loop μ-loop
 returns c =
-    full _ _ _ (c .if1 .taken)
+    let l = c .before .all2 .given .0 in full _ _ _ (omega arith)
 
 returns-2 : tie.Need-returns-2 Inv-loop μ-loop
 returns-2 c =
-    no-room _ _ _ (c .before .if1 .left) (c .if2 .taken)
+    let l = c .before .before .all2 .given .0 in full _ _ _ (omega arith)
 
 loop-holds : tie.Need-loop-holds Inv-loop μ-loop
 loop-holds c =
-    begun (c .before .before .args .args .now) _ _
+    begun (c .before .before .before .before .args .args .now) _ (c .before .before .before .before .args .held)
 
 sub-stack : tie.Need-sub-stack Inv-loop μ-loop
 sub-stack c = omega arith
@@ -82,11 +79,13 @@ loop-less c = omega arith
 
 loop-again : tie.Need-loop-again Inv-loop μ-loop
 loop-again c =
-    turn (c .before .before .before .before .before .args .args .now) _ _ _ _ _ (c .before .before .loop .inv) (c .before .loop-test .taken)
+    let l = c .before .before .before .before .before .all2 .given .0 in
+    turn (c .before .before .before .before .before .before .before .args .args .now) _ _ _ _ _ (omega arith) (c .before .before .loop .inv) (c .before .loop-test .taken)
 
 returns-3 : tie.Need-returns-3 Inv-loop μ-loop
 returns-3 c =
-    done _ _ _ _ _ _ (c .before .before .before .if1 .left) (c .before .before .if2 .left) (c .before .loop .inv) (c .loop-test .left)
+    let l = c .before .before .before .before .all2 .given .0 in
+    done _ _ _ _ _ _ (omega arith) (c .before .loop .inv) (c .loop-test .left)
 
 pub hand-back-spec : {M : Type 1} → statement M
 hand-back-spec =
