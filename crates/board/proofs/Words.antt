@@ -9,6 +9,7 @@ use lib.Seq.{take-all}
 use lib.Dec.{T}
 use lib.Ieee.{Float, nan, inf, fin, isNan}
 use lib.Ieee.Scale.{finite}
+use Rattle.type2.specs.declared.Widths.{Widths}
 use Rattle.type1_to_type2.specs.Finish.{finish}
 
 -- a finite number is none that is not a number
@@ -19,5 +20,5 @@ finite-number (inf s) t = tt
 finite-number (fin s m e) t = tt
 
 -- a program taken whole
-pub finish-all : (w : Float) (p : List ℕ) (d n : Float) (room : ℕ) → finish w (take (length p) p) d n room ≡ finish w p d n room
-finish-all w p d n room = ap (λ (l : List ℕ). finish w l d n room) (take-all (length p) p (omega arith))
+pub finish-all : (w : Float) (p : List ℕ) (s : Widths) (room : ℕ) → finish w (take (length p) p) s room ≡ finish w p s room
+finish-all w p s room = ap (λ (l : List ℕ). finish w l s room) (take-all (length p) p (omega arith))

@@ -7,11 +7,13 @@ use lib.Ieee.{Float, nan, binary64, toBits}
 use Rattle.charstring.specs.declared.Decrypted.{Decrypted}
 use Rattle.geometry.specs.declared.Matrix.{Matrix}
 use Rattle.type1.specs.declared.Stem.{Stem}
+use Rattle.type1.specs.declared.Reading.{Reading}
+use Rattle.type1.specs.Interpret.{Source}
 use Rattle.type1_to_type2.specs.declared.Type2Glyph.{Type2Glyph}
 use Rattle.type1_to_type2.specs.declared.Finished.{Finished}
-use Rattle.type1_to_type2.specs.Convert.{Conversion, answer}
-use Rattle.type1_to_type2.specs.Entry.{Converts}
-use Rattle.agreement.specs.declared.Widths.{Widths}
+use Rattle.type1_to_type2.specs.Convert.{Rooms, convert, answer}
+use Rattle.type1_to_type2.specs.Entry.{ConvertsFrom}
+use Rattle.type2.specs.declared.Widths.{Widths}
 use Rattle.agreement.specs.Finished.{finished, ConvertsFinished}
 use Rattle.widths.specs.declared.Chosen.{Chosen}
 
@@ -36,16 +38,20 @@ decryptedWords d = d .number ∷ d .length ∷ []
 
 -- the default width, the nominal width
 abbrev pub pairOf : Chosen → List Float
-pairOf c = c .«default_width_x» ∷ c .«nominal_width_x» ∷ []
+pairOf c = c .widths .«default_width_x» ∷ c .widths .«nominal_width_x» ∷ []
 
--- what `cribstork_convert` leaves: what converting leaves, the number, and the answer's words
-pub record BoardConverts (x : Conversion) (stems : List Stem) (commands : List ℕ) (room : ℕ) (r : ℕ) (stems′ : List Stem) (commands′ out words : List ℕ) : Type 0 where
-  pub converts : Converts x stems commands room (answer x) stems′ commands′ out
-  pub number-is : r ≡ answer x .number
-  pub words-are : words ≡ glyphWords (answer x)
+-- what `cribstork_convert` leaves, of a source that is read so, with so much room: what converting leaves, the number, and the answer's words
+pub record BoardConverts (x : Source) (reading : Reading) (m : Matrix) (r : Rooms) (n : ℕ) (stems : List Stem) (commands out words : List ℕ) : Type 0 where
+  pub converts : ConvertsFrom x reading m r (answer (convert x reading m r)) stems commands out
+  pub number-is : n ≡ answer (convert x reading m r) .number
+  pub words-are : words ≡ glyphWords (answer (convert x reading m r))
+
+-- converting's answer once finished
+abbrev pub finishedGlyph : Source → Reading → Matrix → Widths → Rooms → ℕ → Type2Glyph
+finishedGlyph x reading m p r room = answer (finished p room (convert x reading m r))
 
 -- what `cribstork_convert_finished` leaves: what converting and finishing leave, the number, and the answer's words
-pub record BoardFinishes (charstring bank : List ℕ) (lenIV : ℕ) (m : Matrix) (p : Widths) (x : Conversion) (stems : List Stem) (commands program : List ℕ) (room : ℕ) (r : ℕ) (stems′ : List Stem) (commands′ program′ out words : List ℕ) : Type 0 where
-  pub finishes : ConvertsFinished charstring bank lenIV m p x stems commands program room (answer (finished p room x)) stems′ commands′ program′ out
-  pub number-is : r ≡ answer (finished p room x) .number
-  pub words-are : words ≡ glyphWords (answer (finished p room x))
+pub record BoardFinishes (x : Source) (reading : Reading) (m : Matrix) (p : Widths) (r : Rooms) (room : ℕ) (n : ℕ) (stems : List Stem) (commands program out words : List ℕ) : Type 0 where
+  pub finishes : ConvertsFinished x reading m p r room (finishedGlyph x reading m p r room) stems commands program out
+  pub number-is : n ≡ finishedGlyph x reading m p r room .number
+  pub words-are : words ≡ glyphWords (finishedGlyph x reading m p r room)

@@ -5,15 +5,18 @@ ghost use lib.ListN.{length, replicate};
 ghost use lib.Dec.{T};
 ghost use lib.Ieee.Scale.{finite};
 ghost use Rattle.charstring.specs.Charstring.{decrypted, written};
-ghost use Rattle.type1_to_type2.specs.Convert as Convert;
+ghost use Rattle.type1.specs.Run.{readingOf};
+ghost use Rattle.type1.specs.Interpret.{sourceOf};
+ghost use Rattle.type1_to_type2.specs.Convert.{roomsOf};
 ghost use Rattle.type1_to_type2.specs.Finish.{finish};
 ghost use Rattle.type1_to_type2.specs.FinishAnswer.{finishedAnswer, finishedOutput};
 ghost use Rattle.widths.specs.Widths.{chosen, zeroWidth};
 ghost use Rattle.board.specs.Answers.{matrixOf, widthsOf, glyphWords, finishedWords, decryptedWords, pairOf, BoardConverts, BoardFinishes};
-use agreement::Widths;
 use geometry::Matrix;
+use type1::Reading;
 use type1::Stem;
 use type1_to_type2::Type2Glyph;
+use type2::Widths;
 
 // The matrix of six entries: a, b, c, d, tx, ty.
 fn matrix_of(m: &[f64; 6]) -> Matrix
@@ -27,6 +30,13 @@ fn matrix_of(m: &[f64; 6]) -> Matrix
         tx: m[4],
         ty: m[5],
     }
+}
+
+// How charstrings with this lenIV are read.
+fn reading_of(len_iv: usize) -> Reading
+    ensures { λ r. ⌜ r ≡ readingOf «len_iv» ⌝ }
+{
+    Reading::new(len_iv)
 }
 
 fn widths_of(default_width: f64, nominal_width: f64) -> Widths
@@ -59,12 +69,14 @@ pub extern "C" fn cribstork_convert(
     out: &mut [u8],
     answer: &mut [u64; 4],
 ) -> u64
-    ensures { λ r. ⌜ BoardConverts (Convert.convert (now (charstring .entry)) (now (bank .entry)) «len_iv» (matrixOf (now (matrix .entry))) (length (now (stems .entry))) (length (now (commands .entry))) (length (now (out .entry)))) (now (stems .entry)) (now (commands .entry)) (length (now (out .entry))) r (now (stems .exit)) (now (commands .exit)) (now (out .exit)) (now (answer .exit)) ⌝ }
+    ensures { λ r. ⌜ BoardConverts (sourceOf (now (charstring .entry)) (now (bank .entry))) (readingOf «len_iv») (matrixOf (now (matrix .entry)))
+        (roomsOf (now (stems .entry)) (now (commands .entry)) (now (out .entry)))
+        r (now (stems .exit)) (now (commands .exit)) (now (out .exit)) (now (answer .exit)) ⌝ }
 {
     let g = type1_to_type2::convert_charstring_transformed(
         charstring,
         bank,
-        len_iv,
+        reading_of(len_iv),
         matrix_of(matrix),
         stems,
         commands,
@@ -83,9 +95,9 @@ pub extern "C" fn cribstork_finish(
     out: &mut [u8],
     answer: &mut [u64; 2],
 ) -> u64
-    ensures { λ r. ⌜ r ≡ finishedAnswer (finish width (now (program .entry)) «default_width» «nominal_width» (length (now (out .entry)))) .number ⌝ }
-    ensures { λ _. ⌜ now (answer .exit) ≡ finishedWords (finishedAnswer (finish width (now (program .entry)) «default_width» «nominal_width» (length (now (out .entry))))) ⌝ }
-    ensures { λ _. ⌜ now (out .exit) ≡ finishedOutput (length (now (out .entry))) (finish width (now (program .entry)) «default_width» «nominal_width» (length (now (out .entry)))) ⌝ }
+    ensures { λ r. ⌜ r ≡ finishedAnswer (finish width (now (program .entry)) (widthsOf «default_width» «nominal_width») (length (now (out .entry)))) .number ⌝ }
+    ensures { λ _. ⌜ now (answer .exit) ≡ finishedWords (finishedAnswer (finish width (now (program .entry)) (widthsOf «default_width» «nominal_width») (length (now (out .entry))))) ⌝ }
+    ensures { λ _. ⌜ now (out .exit) ≡ finishedOutput (length (now (out .entry))) (finish width (now (program .entry)) (widthsOf «default_width» «nominal_width») (length (now (out .entry)))) ⌝ }
 {
     let glyph = Type2Glyph {
         number: 0,
@@ -93,7 +105,7 @@ pub extern "C" fn cribstork_finish(
         width,
         ran: 0,
     };
-    let f = glyph.charstring(program, default_width, nominal_width, out);
+    let f = glyph.charstring(program, widths_of(default_width, nominal_width), out);
     *answer = [f.number, f.len as u64];
     f.number
 }
@@ -114,12 +126,14 @@ pub extern "C" fn cribstork_convert_finished(
     out: &mut [u8],
     answer: &mut [u64; 4],
 ) -> u64
-    ensures { λ r. ⌜ BoardFinishes (now (charstring .entry)) (now (bank .entry)) «len_iv» (matrixOf (now (matrix .entry))) (widthsOf «default_width» «nominal_width») (Convert.convert (now (charstring .entry)) (now (bank .entry)) «len_iv» (matrixOf (now (matrix .entry))) (length (now (stems .entry))) (length (now (commands .entry))) (length (now (program .entry)))) (now (stems .entry)) (now (commands .entry)) (now (program .entry)) (length (now (out .entry))) r (now (stems .exit)) (now (commands .exit)) (now (program .exit)) (now (out .exit)) (now (answer .exit)) ⌝ }
+    ensures { λ r. ⌜ BoardFinishes (sourceOf (now (charstring .entry)) (now (bank .entry))) (readingOf «len_iv») (matrixOf (now (matrix .entry))) (widthsOf «default_width» «nominal_width»)
+        (roomsOf (now (stems .entry)) (now (commands .entry)) (now (program .entry))) (length (now (out .entry)))
+        r (now (stems .exit)) (now (commands .exit)) (now (program .exit)) (now (out .exit)) (now (answer .exit)) ⌝ }
 {
     let g = agreement::convert_finished(
         charstring,
         bank,
-        len_iv,
+        reading_of(len_iv),
         matrix_of(matrix),
         widths_of(default_width, nominal_width),
         stems,
@@ -142,7 +156,7 @@ pub extern "C" fn cribstork_choose_widths(
     ensures { λ _. ⌜ now (scratch .exit) ≡ replicate (length (now (scratch .entry))) zeroWidth ⌝ }
 {
     let c = widths::choose_widths(widths, scratch);
-    *pair = [c.default_width_x, c.nominal_width_x];
+    *pair = [c.widths.default_width_x, c.widths.nominal_width_x];
     c.number
 }
 

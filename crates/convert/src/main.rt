@@ -3,8 +3,8 @@
 ghost use mathlib.Core.Path.{_≡_};
 ghost use Prim.Native.Nat.{_≤_};
 ghost use lib.ListN.{length};
-ghost use Rattle.type1.specs.Interpret.{outcome};
-ghost use Rattle.type1_to_type2.specs.Convert as Convert;
+ghost use Rattle.type1.specs.Interpret.{sourceOf, outcome};
+ghost use Rattle.type1_to_type2.specs.Convert.{roomsWith, convert};
 ghost use Rattle.type1_to_type2.specs.Entry.{Answers};
 ghost use Rattle.convert.specs.Ran.{Runs};
 
@@ -31,6 +31,7 @@ use font::Glyph;
 use font::Trouble;
 use geometry::Matrix;
 use options::Options;
+use type1::Reading;
 use type1_to_type2::Type2Glyph;
 
 // The most bytes of a file, subroutines of a font, bytes of its bank, and glyphs.
@@ -108,35 +109,36 @@ fn stem_store() -> [type1::Stem; STEMS]
 fn run(
     charstring: &[u8],
     bank: &[u8],
-    len_iv: usize,
+    reading: Reading,
     records: usize,
     words: &mut [u64],
 ) -> type1::Interpreted
     requires { ⌜ records ≤ 1024 ⌝ }
-    ensures { λ r. ⌜ Runs r (now (words .entry)) (now (words .exit)) (outcome (now (charstring .entry)) (now (bank .entry)) «len_iv» records (length (now (words .entry)))) ⌝ }
+    ensures { λ r. ⌜ Runs r (now (words .entry)) (now (words .exit)) (outcome (sourceOf (now (charstring .entry)) (now (bank .entry))) reading records (length (now (words .entry)))) ⌝ }
 {
     let mut stems = stem_store();
-    type1::run_charstring(charstring, bank, len_iv, words, &mut stems[..records])
+    type1::run_charstring(charstring, bank, reading, words, &mut stems[..records])
 }
 
 // Converts a charstring with a stem store of its own, of so many records.
 fn convert(
     charstring: &[u8],
     bank: &[u8],
-    len_iv: usize,
+    reading: Reading,
     matrix: Matrix,
     records: usize,
     words: &mut [u64],
     out: &mut [u8],
 ) -> Type2Glyph
     requires { ⌜ records ≤ 1024 ⌝ }
-    ensures { λ r. ⌜ Answers (Convert.convert (now (charstring .entry)) (now (bank .entry)) «len_iv» matrix records (length (now (words .entry))) (length (now (out .entry)))) (length (now (out .entry))) r (now (out .exit)) ⌝ }
+    ensures { λ r. ⌜ Answers (convert (sourceOf (now (charstring .entry)) (now (bank .entry))) reading matrix (roomsWith records (now (words .entry)) (now (out .entry))))
+        (length (now (out .entry))) r (now (out .exit)) ⌝ }
 {
     let mut stems = stem_store();
     type1_to_type2::convert_charstring_transformed(
         charstring,
         bank,
-        len_iv,
+        reading,
         matrix,
         &mut stems[..records],
         words,
@@ -178,7 +180,7 @@ fn convert_lent(
     convert(
         charstring,
         bank,
-        s.len_iv,
+        Reading::new(s.len_iv),
         s.matrix,
         records,
         &mut words[..w],
@@ -234,7 +236,7 @@ fn finish(
     out: &mut [u8],
 ) -> Type2Glyph {
     let p = smaller(room, out.len());
-    let f = g.charstring(program, w.default_width_x, w.nominal_width_x, &mut out[..p]);
+    let f = g.charstring(program, w.widths, &mut out[..p]);
     if f.number != 0 {
         return refused(f.number);
     }
@@ -451,7 +453,7 @@ fn convert_shown(
 ) -> Measured {
     let mut program = output_store();
     let mut out = output_store();
-    let i = run(charstring, bank, s.len_iv, STEMS, words);
+    let i = run(charstring, bank, Reading::new(s.len_iv), STEMS, words);
     let a = with_all_stores(s);
     let all = convert_finished(charstring, bank, a, w, words, &mut program, &mut out);
     let r = convert_asked(charstring, bank, s, w, all, words, &mut program, &mut out);
@@ -563,8 +565,8 @@ fn print_totals(t: Totals, w: widths::Chosen, refusals: &[u64]) {
     print_item(2, bytes::less(t.glyphs, t.converted));
     print::end();
     print_refusals(refusals);
-    print_width(3, w.default_width_x);
-    print_width(4, w.nominal_width_x);
+    print_width(3, w.widths.default_width_x);
+    print_width(4, w.widths.nominal_width_x);
     print::end();
     print_item(5, t.stems);
     print_item(6, t.commands);
@@ -609,9 +611,9 @@ fn print_line(path: &[u8], t: Totals, w: widths::Chosen, refusals: &[u64]) {
     print::tab();
     print_numbers(refusals);
     print::tab();
-    print::double(w.default_width_x);
+    print::double(w.widths.default_width_x);
     print::tab();
-    print::double(w.nominal_width_x);
+    print::double(w.widths.nominal_width_x);
     cell(t.stems);
     cell(t.commands);
     cell(t.output);

@@ -101,8 +101,10 @@ fn finish(
 ) -> type1_to_type2::Finished {
     glyph.charstring(
         string(v, 9),
-        double(v, widths),
-        double(v, place(widths, 8)),
+        type2::Widths {
+            default_width_x: double(v, widths),
+            nominal_width_x: double(v, place(widths, 8)),
+        },
         out,
     )
 }

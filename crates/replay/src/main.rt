@@ -2,9 +2,9 @@
 // Prints for each file of vectors its name, how many were compared and how many differ, then the sums.
 ghost use mathlib.Core.Path.{_≡_};
 ghost use lib.ListN.{length, replicate};
-ghost use Rattle.type1.specs.Interpret.{outcome, Leaves};
-ghost use Rattle.type1_to_type2.specs.Convert as Convert;
-ghost use Rattle.type1_to_type2.specs.Entry.{Converts};
+ghost use Rattle.type1.specs.Interpret.{sourceOf, outcome, Leaves};
+ghost use Rattle.type1_to_type2.specs.Convert.{roomsWith};
+ghost use Rattle.type1_to_type2.specs.Entry.{ConvertsFrom};
 ghost use Rattle.replay.specs.Stores.{usedStem, afterRun, afterConverting};
 
 mod doubles;
@@ -21,6 +21,7 @@ use glyphs::bank_at;
 use glyphs::charstring_at;
 use lent::command_store;
 use runs::is_run;
+use type1::Reading;
 use vector::after_string;
 use vector::byte;
 use vector::double;
@@ -59,21 +60,21 @@ fn with_stems(answer: type1::Interpreted, stems: [type1::Stem; RECORDS]) -> Afte
 }
 
 // Runs a charstring with a stem store of its own.
-fn run(charstring: &[u8], bank: &[u8], len_iv: usize, words: &mut [u64]) -> AfterRun
-    ensures { λ r. ⌜ Leaves (r .answer) (now (words .exit)) (r .stems) (now (words .entry)) (replicate 512 usedStem) (outcome (now (charstring .entry)) (now (bank .entry)) «len_iv» 512 (length (now (words .entry)))) ⌝ }
+fn run(charstring: &[u8], bank: &[u8], reading: Reading, words: &mut [u64]) -> AfterRun
+    ensures { λ r. ⌜ Leaves (r .answer) (now (words .exit)) (r .stems) (now (words .entry)) (replicate 512 usedStem) (outcome (sourceOf (now (charstring .entry)) (now (bank .entry))) reading 512 (length (now (words .entry)))) ⌝ }
 {
     let mut stems = stem_store();
-    let answer = type1::run_charstring(charstring, bank, len_iv, words, &mut stems);
+    let answer = type1::run_charstring(charstring, bank, reading, words, &mut stems);
     with_stems(answer, stems)
 }
 
 fn compare_run(v: &[u8]) -> bool {
-    let len_iv = size(v, 1);
+    let reading = Reading::new(size(v, 1));
     let charstring = string(v, 9);
     let at = after_string(v, 9);
     let bank = string(v, at);
     let mut words = command_store();
-    let r = run(charstring, bank, len_iv, &mut words);
+    let r = run(charstring, bank, reading, &mut words);
     is_run(&words, r, v, after_string(v, at))
 }
 
@@ -96,18 +97,19 @@ fn with_records(
 fn convert(
     charstring: &[u8],
     bank: &[u8],
-    len_iv: usize,
+    reading: Reading,
     matrix: geometry::Matrix,
     words: &mut [u64],
     out: &mut [u8],
 ) -> AfterConverting
-    ensures { λ r. ⌜ Converts (Convert.convert (now (charstring .entry)) (now (bank .entry)) «len_iv» matrix 512 (length (now (words .entry))) (length (now (out .entry)))) (replicate 512 usedStem) (now (words .entry)) (length (now (out .entry))) (r .answer) (r .stems) (now (words .exit)) (now (out .exit)) ⌝ }
+    ensures { λ r. ⌜ ConvertsFrom (sourceOf (now (charstring .entry)) (now (bank .entry))) reading matrix (roomsWith 512 (now (words .entry)) (now (out .entry)))
+        (r .answer) (r .stems) (now (words .exit)) (now (out .exit)) ⌝ }
 {
     let mut stems = stem_store();
     let answer = type1_to_type2::convert_charstring_transformed(
         charstring,
         bank,
-        len_iv,
+        reading,
         matrix,
         &mut stems,
         words,
@@ -121,7 +123,7 @@ fn convert_vector(v: &[u8], words: &mut [u64], out: &mut [u8]) -> AfterConvertin
     convert(
         short_string(v, charstring_at(v)),
         short_string(v, bank_at(v)),
-        nth_short(v, 1, 6) as usize,
+        Reading::new(nth_short(v, 1, 6) as usize),
         short_matrix(v, 1),
         words,
         out,
@@ -143,7 +145,7 @@ fn convert_closepaths(n: usize, bank: &[u8], words: &mut [u64], out: &mut [u8]) 
     convert(
         part(&code, 0, n),
         bank,
-        usize::MAX,
+        Reading::new(usize::MAX),
         geometry::Matrix::identity(),
         words,
         out,

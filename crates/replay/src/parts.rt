@@ -106,8 +106,8 @@ fn width_list() -> [f64; MOST]
 // The widths are the vector's results, which begin at a place.
 fn is_chosen(r: widths::Chosen, v: &[u8], at: usize) -> bool {
     r.number == number(v, at)
-        && same(r.default_width_x, double(v, place(at, 8)))
-        && same(r.nominal_width_x, double(v, place(at, 16)))
+        && same(r.widths.default_width_x, double(v, place(at, 8)))
+        && same(r.widths.nominal_width_x, double(v, place(at, 16)))
         && v.len() == place(at, 24)
 }
 

@@ -58,8 +58,11 @@ pub record Rooms : Type 0 where
   pub words : ℕ
   pub bytes : ℕ
 
+abbrev pub roomsWith : ℕ → List ℕ → List ℕ → Rooms
+roomsWith records commands out = record { records = records; words = length commands; bytes = length out }
+
 abbrev pub roomsOf : List Stem → List ℕ → List ℕ → Rooms
-roomsOf stems commands out = record { records = length stems; words = length commands; bytes = length out }
+roomsOf stems = roomsWith (length stems)
 
 unfoldable pub convert : Source → Reading → Matrix → Rooms → Conversion
 convert x reading m r = pick (finiteMatrix m) (ended m (r .bytes) (outcome x reading (r .records) (r .words))) (refused 1)

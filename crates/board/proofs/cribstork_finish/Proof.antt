@@ -21,7 +21,7 @@ same-length c = search needs
 returns : tie.Need-returns
 returns c =
     let a = c .before .before .before .before .before .before .before .args in
-    let same = finish-all (a .width) (a .program .now) (a .default-width) (a .nominal-width) (length (a .out .now)) in
+    let same = finish-all (a .width) (a .program .now) (widthsOf (a .default-width) (a .nominal-width)) (length (a .out .now)) in
     let given = c .before .before .before .charstring .ensures in (
       ap (λ (y : Finished). y .number) (given .0) ∙ ap (λ (x : Written). finishedAnswer x .number) same,
       (

@@ -65,8 +65,8 @@ add-zero-from c = search needs
 zero-from-requires : tie.Need-zero-from-requires
 zero-from-requires c κs = search needs
 
-add-t16 : tie.Need-add-t16
-add-t16 c = search needs
+add-t15 : tie.Need-add-t15
+add-t15 c = search needs
 
 same-length-3 : tie.Need-same-length-3
 same-length-3 c = search needs
@@ -95,6 +95,6 @@ charstring-spec =
     put-program-requires
     add-zero-from
     zero-from-requires
-    add-t16
+    add-t15
     same-length-3
     returns-3)
