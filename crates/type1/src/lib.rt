@@ -486,7 +486,8 @@ fn is_quick(changed: bool, opened: bool) -> bool
 }
 
 // Reads numbers, which it pushes, closepath, and lines and curves, which it lists where `is_quick` says so, up to
-// another operator or the end of the bytes.
+// another operator or the end of the bytes. The key is stepped after the branch on the plain byte: before it, LLVM
+// would step the key only once it is extended for the plain byte.
 fn token(
     code: &[u8],
     from: usize,
@@ -509,14 +510,14 @@ fn token(
     while i < code.len() {
         let c = code[i];
         let v = charstring::byte_of(c, key, encrypted);
-        let k = charstring::next_key(c, key);
         if v < 32 {
             if v == 9 {
+                key = charstring::next_key(c, key);
                 n = 0;
                 opened = false;
                 i += 1;
-                key = k;
             } else {
+                let k = charstring::next_key(c, key);
                 if !is_quick(st.changed, opened) {
                     return operator_at(
                         code,
@@ -546,6 +547,7 @@ fn token(
                 key = k;
             }
         } else {
+            let k = charstring::next_key(c, key);
             let w = number_at(code, i + 1, k, encrypted, v);
             if w.cut {
                 return found(place(st, n, x, y, entries, opened), i + 1, k, 5, 0);
