@@ -84,21 +84,21 @@ module _ {M : Type 1} (𝓤 : URA M) (H : Heap 𝓤) (A : Atoms 𝓤) (mem : Mem
   ConvertFinishedC = tripleOf 𝓤 H A convert-finished-f.signature (convert-finished-f.spec 𝓤 H A mem run′)
 
 module _ {M : Type 1} (𝓤 : URA M) (H : Heap 𝓤) (A : Atoms 𝓤) (mem : Memory → SProp 𝓤) (run′ : Routine → Fun 𝓤) (W : Given 𝓤 H A) (C : Calls 𝓤 H) where
-  pub reading-of-as : Triple 𝓤 (C #board·reading-of) (ReadingOfC 𝓤 H A mem run′) →  (iv : ℕ) → iv < 2 ^ 64
+  pub reading-of-as : Triple 𝓤 (C #board·reading-of) (ReadingOfC 𝓤 H A mem run′) → (iv : ℕ) → iv < 2 ^ 64
       → ent 𝓤 (mean 𝓤 H A (‵ ftrue)) (C #board·reading-of (vint w64 iv ∷ []) (λ w. mean 𝓤 H A (GotAll 𝓤 Y.the-row (Unit {0} × Unit {0}) (λ (r : Y.the-row .Denot) (lasts : (Unit {0} × Unit {0})). r ≡ readingOf iv) (λ (lasts : (Unit {0} × Unit {0})). (fsep ftrue ftrue)) (‵ ftrue) w)))
-  reading-of-as known  iv iv-fits =
+  reading-of-as known iv iv-fits =
       let y : ReadingOfC 𝓤 H A mem run′ .Ghost = ((tt, tt, tt, (iv, tt), (vint w64 iv ∷ [], tt)), tt) in
       via 𝓤 (ReadingOfC 𝓤 H A mem run′ .pre y) (qed W ((‵ ftrue) ∷ []) ∵ nothing ! $ owned ! usize (Is usize) (uint-makes 𝓤 H A W w64) iv _ (refl, iv-fits) $ fjoin ! $ nothing ! $ join ! $ frame ! $ done !) (known y)
 
-  pub matrix-of-as : Triple 𝓤 (C #board·matrix-of) (MatrixOfC 𝓤 H A mem run′) → (κmatrix : Lft) (qmatrix : Share) (xmatrix : RefT (List Float)) 
+  pub matrix-of-as : Triple 𝓤 (C #board·matrix-of) (MatrixOfC 𝓤 H A mem run′) → (κmatrix : Lft) (qmatrix : Share) (xmatrix : RefT (List Float))
       → ent 𝓤 (mean 𝓤 H A (‵ (flft κmatrix qmatrix) ⊛ ‵ (ShrRef (named 0) κmatrix (Array f64 6) .own xmatrix (vptr (xmatrix .ptr .0) (xmatrix .ptr .1) ∷ [])))) (C #board·matrix-of (vptr (xmatrix .ptr .0) (xmatrix .ptr .1) ∷ []) (λ w. mean 𝓤 H A (GotAll 𝓤 Z.the-row (Unit {0} × Unit {0}) (λ (r : Z.the-row .Denot) (lasts : (Unit {0} × Unit {0})). r ≡ matrixOf (xmatrix .now)) (λ (lasts : (Unit {0} × Unit {0})). (fsep ftrue ftrue)) (‵ (flft κmatrix qmatrix) ⊛ ‵ ftrue) w)))
-  matrix-of-as known κmatrix qmatrix xmatrix   =
+  matrix-of-as known κmatrix qmatrix xmatrix =
       let y : MatrixOfC 𝓤 H A mem run′ .Ghost = (((κmatrix, tt), (qmatrix, tt), tt, (xmatrix, tt), (vptr (xmatrix .ptr .0) (xmatrix .ptr .1) ∷ [], tt)), tt) in
       via 𝓤 (MatrixOfC 𝓤 H A mem run′ .pre y) (qed W ((‵ (flft κmatrix qmatrix) ⊛ ‵ (ShrRef (named 0) κmatrix (Array f64 6) .own xmatrix (vptr (xmatrix .ptr .0) (xmatrix .ptr .1) ∷ []))) ∷ []) ∵ split ! $ nothing ! $ move ! (2 ∷ 0 ∷ []) $ fjoin ! $ nothing ! $ move ! (2 ∷ 0 ∷ []) $ join ! $ join ! $ frame ! $ done !) (known y)
 
-  pub widths-of-as : Triple 𝓤 (C #board·widths-of) (WidthsOfC 𝓤 H A mem run′) →  (dw : Float) (nw : Float) → fits binary64 dw ≡ true → fits binary64 nw ≡ true
+  pub widths-of-as : Triple 𝓤 (C #board·widths-of) (WidthsOfC 𝓤 H A mem run′) → (dw : Float) (nw : Float) → fits binary64 dw ≡ true → fits binary64 nw ≡ true
       → ent 𝓤 (mean 𝓤 H A (‵ ftrue)) (C #board·widths-of (vfloat binary64 dw ∷ vfloat binary64 nw ∷ []) (λ w. mean 𝓤 H A (GotAll 𝓤 X.the-row (Unit {0} × (Unit {0} × Unit {0})) (λ (r : X.the-row .Denot) (lasts : (Unit {0} × (Unit {0} × Unit {0}))). r ≡ widthsOf dw nw) (λ (lasts : (Unit {0} × (Unit {0} × Unit {0}))). (fsep ftrue (fsep ftrue ftrue))) (‵ ftrue) w)))
-  widths-of-as known  dw nw dw-fits nw-fits =
+  widths-of-as known dw nw dw-fits nw-fits =
       let y : WidthsOfC 𝓤 H A mem run′ .Ghost = ((tt, tt, tt, (dw, (nw, tt)), (vfloat binary64 dw ∷ [], (vfloat binary64 nw ∷ [], tt))), tt) in
       via 𝓤 (WidthsOfC 𝓤 H A mem run′ .pre y) (qed W ((‵ ftrue) ∷ []) ∵ nothing ! $ owned ! f64 (Is f64) (float-makes 𝓤 H A W binary64) nw _ (refl, nw-fits) $ fjoin ! $ owned ! f64 (Is f64) (float-makes 𝓤 H A W binary64) dw _ (refl, dw-fits) $ fjoin ! $ nothing ! $ join ! $ frame ! $ done !) (known y)
 
