@@ -27,18 +27,17 @@ use denote.Struct.Laws as LL
 use denote.Triple.Spec.{tripleOf}
 use denote.Triple.Statement.{Contract, Triple}
 use denote.Triple.Walked.{says}
-use Rattle.type1.specs.declared.Stem.{Stem}
+use Rattle.outline.specs.declared.Stem.{Stem}
 use Rattle.type1.specs.declared.St.{St}
-use Rattle.type1.proofs.Stem as T
-use Rattle.type1.proofs.Stem.Laws as T′
+use Rattle.outline.proofs.Stem as T
+use Rattle.outline.proofs.Stem.Laws as T′
 use Rattle.type1.proofs.St as S
 use Rattle.type1.proofs.St.Laws as S′
 use Rattle.type1.proofs.Lent.{at-list, Own}
 use Rattle.type1.proofs.Many.{GotAll}
 use Rattle.type1.proofs.Locals.{machT, machS}
-use Rattle.type1.specs.State.{sameStem, sameStems}
+use Rattle.outline.specs.Outline.{sameStem, sameStems, zeroStem}
 use Rattle.type1.specs.Memory.{stemAt, stemsAt}
-use Rattle.type1.specs.Small.{zeroStem}
 use Rattle.hints.specs.Hints.{mayBeLast}
 use Rattle.type1.proofs.stem_from as stem-from-f
 use Rattle.type1.proofs.stem_from.Symbol.{name as #type1·stem-from}

@@ -15,15 +15,16 @@ use lib.Ieee.{Float, nan}
 use lib.Ieee.Scale.{finite}
 use Rattle.hints.specs.Hints.{isAmong, inForce, mayBeLast}
 use Rattle.hints.specs.Laws.{cut-below}
-use Rattle.type1.specs.declared.Stem.{Stem}
+use Rattle.outline.specs.declared.Stem.{Stem}
 use Rattle.type1.specs.declared.St.{St}
 use Rattle.type1.specs.declared.Ran.{Ran}
-use Rattle.type1.specs.State.{State, withHints, sameStem, isIn, sameStems}
+use Rattle.outline.specs.Outline.{sameStem, isIn, sameStems, pick, stemOf, zeroStem}
+use Rattle.type1.specs.State.{State, withHints}
 use Rattle.type1.specs.Outcomes.{limit-check}
-use Rattle.type1.specs.Run.{pick, within, atMost, going, check, allowed, stemOf, stem}
+use Rattle.type1.specs.Run.{within, atMost, going, check, allowed, stem}
 use Rattle.type1.specs.Memory.{Mem, stemAt, stemsAt, abs, Holds, Meets}
 use Rattle.type1.specs.Memory as Memory
-use Rattle.type1.specs.Small.{ranOf, zeroStem}
+use Rattle.type1.specs.Small.{ranOf}
 
 -- ---- a stem more at the end
 in-more : (l : List Stem) (t s : Stem) → isIn (l ++ (t ∷ [])) s ≡ (isIn l s || sameStem t s)

@@ -5,11 +5,12 @@ use mathlib.Core.List.{List, [], _∷_, _++_}
 use lib.ListN.{length, replicate}
 use lib.Ieee.{Float}
 use Rattle.geometry.specs.declared.Matrix.{Matrix}
-use Rattle.type1.specs.declared.Stem.{Stem}
+use Rattle.outline.specs.declared.Stem.{Stem}
 use Rattle.type1.specs.declared.Reading.{Reading}
-use Rattle.type1.specs.State.{State, plusZero}
+use Rattle.outline.specs.Outline.{plusZero, pick}
+use Rattle.type1.specs.State.{State}
 use Rattle.type1.specs.Run as Run
-use Rattle.type1.specs.Run.{Outcome, pick}
+use Rattle.type1.specs.Run.{Outcome}
 use Rattle.type1.specs.Interpret.{Source, outcome}
 use Rattle.type2.specs.Instruction.{Instr}
 use Rattle.type1_to_type2.specs.declared.Type2Glyph.{Type2Glyph}
@@ -32,6 +33,10 @@ glyphOf w n b = record { program = b; width = w; ran = n }
 pub data Conversion : Type 0 where
   refused : ℕ → Conversion
   converted : Glyph → Conversion
+
+-- document 01, "Numbers the board logs", 14: whether all that is folded of what a run has left is finite
+unfoldable pub foldsFinite : Matrix → State → Bool
+foldsFinite m s = finite (foldedWidth m (s .width)) && (finiteList (foldedList (foldOf m) (s .drawn)) && finiteGroups (foldedGroups (foldOf m) (s .groups)))
 
 -- the instructions for what a run has left
 unfoldable pub instructions : Matrix → State → List Instr

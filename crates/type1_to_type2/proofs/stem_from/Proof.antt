@@ -38,10 +38,10 @@ use denote.Triple.Spec.{Meets, tripleOf}
 use denote.Triple.Table.{entered}
 use denote.Triple.Walked.{says, needs, Stays, stay-none, stay-slice, walkOf, goes-none, goes-slice, Walks, ends-at, walked, walk-meets}
 use denote.Exit.{yes}
-use Rattle.type1.specs.declared.Stem.{Stem}
-use Rattle.type1.specs.Small.{zeroStem}
-use Rattle.type1.proofs.Stem as T
-use Rattle.type1.proofs.Stem.Laws as T′
+use Rattle.outline.specs.declared.Stem.{Stem}
+use Rattle.outline.specs.Outline.{zeroStem}
+use Rattle.outline.proofs.Stem as T
+use Rattle.outline.proofs.Stem.Laws as T′
 use Rattle.type1_to_type2.proofs.stem_from.Key.{name as #type1-to-type2·stem-from}
 use Rattle.type1_to_type2.proofs.stem_from as f
 use Rattle.type1_to_type2.proofs.stem_from.Statement as stated
