@@ -45,7 +45,7 @@ same-length-2 c = search needs
 -- src/lib.rt:50:9
 returns-2 : tie.Need-returns-2
 returns-2 c =
-    subst (λ (r : Type2Glyph). Finishes (c .before .before .before .before .before .before .before .before .before .before .before .args .glyph) (c .before .before .before .before .before .before .before .before .before .before .before .args .widths) (now (c .before .before .before .before .before .before .before .before .before .before .before .args .program)) (length (now (c .before .before .before .before .before .before .before .before .before .before .before .args .out))) r (c .before .before .before .before .before .charstring .last .1 .1 .1 .1 .0)) (sym (c .refused2 .ensures)) (not-finished (c .before .before .before .before .before .before .before .before .before .before .before .args .glyph) (c .before .before .before .before .before .before .before .before .before .before .before .args .widths) (now (c .before .before .before .before .before .before .before .before .before .before .before .args .program)) (length (now (c .before .before .before .before .before .before .before .before .before .before .before .args .out))) (c .before .before .before .before .before .charstring .result) _ (c .before .before .before .before .before .before .before .if1 .left) (c .before .before .before .before .before .charstring .ensures .0) (c .before .before .before .before .before .charstring .ensures .1) (c .before .if2 .taken))
+    subst (λ (r : Type2Glyph). Finishes (c .before .before .before .before .before .before .before .before .before .before .before .args .glyph) (c .before .before .before .before .before .before .before .before .before .before .before .args .widths) (now (c .before .before .before .before .before .before .before .before .before .before .before .args .program)) (length (now (c .before .before .before .before .before .before .before .before .before .before .before .args .out))) r (c .before .before .before .before .before .charstring .last .1 .1 .1 .0)) (sym (c .refused2 .ensures)) (not-finished (c .before .before .before .before .before .before .before .before .before .before .before .args .glyph) (c .before .before .before .before .before .before .before .before .before .before .before .args .widths) (now (c .before .before .before .before .before .before .before .before .before .before .before .args .program)) (length (now (c .before .before .before .before .before .before .before .before .before .before .before .args .out))) (c .before .before .before .before .before .charstring .result) _ (c .before .before .before .before .before .before .before .if1 .left) (c .before .before .before .before .before .charstring .ensures .0) (c .before .before .before .before .before .charstring .ensures .1) (c .before .if2 .taken))
 
 -- src/lib.rt:41:1
 same-length-3 : tie.Need-same-length-3

@@ -67,7 +67,7 @@ use denote.Floats.{passes, float-vals, float-tells, float-makes}
 use Rattle.type1.specs.Run.{readingOf}
 use Rattle.type1.specs.Interpret.{sourceOf}
 use Rattle.type1.proofs.Locals.{machY}
-use Rattle.type1_to_type2.specs.Convert.{roomsOf}
+use Rattle.type1_to_type2.specs.Convert.{roomsOf, convert}
 use Rattle.agreement.specs.Finished.{ConvertsFinished}
 use Rattle.agreement.proofs.Locals.{machX}
 use Rattle.board.specs.Answers.{matrixOf, widthsOf, glyphWords, BoardFinishes}
@@ -205,7 +205,7 @@ module _ {M : Type 1} (𝓤 : URA M) (H : Heap 𝓤) (A : Atoms 𝓤) (W : Given
         move ! (7 ∷ 13 ∷ 3 ∷ []) $ returned ! tt T.the-row mstems bstems ostems νstems4 δstems4 ysstems (zs4 .1 .1 .1 .1 .1 .0) (refl) lstems4 fitstems (move ! (7 ∷ 12 ∷ 4 ∷ []) $ returned ! tt u64 mcommands bcommands ocommands νcommands4 δcommands4 yscommands (zs4 .1 .1 .1 .1 .1 .1 .0) (refl) lcommands4 fitcommands (move ! (7 ∷ 11 ∷ 5 ∷ []) $ returned ! tt u8 mprogram bprogram oprogram νprogram4 δprogram4 ysprogram (zs4 .1 .1 .1 .1 .1 .1 .1 .0) (refl) lprogram4 fitprogram (move ! (7 ∷ 10 ∷ 6 ∷ []) $ returned ! tt u8 mout bout oout νout4 δout4 ysout (zs4 .1 .1 .1 .1 .1 .1 .1 .1 .0) (refl) lout4 fitout (
         assigns ! (addr ! (from ! (hop ! (look ! 42 refl) (stop !)))) (from ! (stop !)) (init ! 16 refl (tt, tt)) $ 
         -- `put_glyph`
-        move ! (14 ∷ 15 ∷ []) $ lend-ref ! tt (Array u64 4) banswer oanswer ysanswer (λ νanswer5 δanswer5. asks-all ! fm u64 (Is u64) (shows 𝓤 H A u64) (Unit {0} × (List ℕ × Unit {0})) (λ (r : u64 .Denot) (lasts : (Unit {0} × (List ℕ × Unit {0}))). (r ≡ r4 .number) × (lasts .1 .0 ≡ glyphWords r4)) (λ (lasts : (Unit {0} × (List ℕ × Unit {0}))). (fsep ftrue (fsep (fres δanswer5 ((Array u64 4) .coded .code (lasts .1 .0))) ftrue))) (‵ (flft (νanswer5 ∷ []) fullShare) ⊛ ‵ ftrue) (‵ (flft (νanswer5 ∷ []) fullShare) ⊛ ‵ (OwnR (Array u64 4) banswer oanswer (νanswer5 ∷ []) δanswer5 ysanswer)) (machG r4 ∷ vptr banswer oanswer ∷ []) (put-glyph-as 𝓤 H A mem run′ W C known-put-glyph (νanswer5 ∷ []) fullShare banswer oanswer δanswer5 ysanswer (r4) (mineG r4 w4 is4) (subst (λ (y : Type2Glyph). So (finite (y .width))) (sym (e4 .glyph)) (finished-finite r3 (length ysout) _ (convert-finite (sourceOf (xcharstring .now) (xbank .now)) r1 r2 (roomsOf ysstems yscommands ysprogram))))) (and-then ! (load ! (from ! (stop !)) (look ! 40 refl)) (and-then ! (load ! (from ! (stop !)) (look ! 16 refl)) (no-more !))) (λ w5 r5 zs5 e5 is5. land ! (from ! (stop !)) (init ! 66 refl (uint-lawful 𝓤 H A W w64 .typed r5 _ is5 .0)) $ rewrite ! 66 (λ (u : Val). ‵ (fat fullShare word l₀ 0 u)) (ap only (is5 .0)) refl $ drop ! $ split ! $ move ! (1 ∷ []) $ drop ! $ move ! (1 ∷ []) $ fsplit ! $ drop ! $ fsplit ! $ move ! (1 ∷ []) $ drop ! $ 
+        move ! (14 ∷ 15 ∷ []) $ lend-ref ! tt (Array u64 4) banswer oanswer ysanswer (λ νanswer5 δanswer5. asks-all ! fm u64 (Is u64) (shows 𝓤 H A u64) (Unit {0} × (List ℕ × Unit {0})) (λ (r : u64 .Denot) (lasts : (Unit {0} × (List ℕ × Unit {0}))). (r ≡ r4 .number) × (lasts .1 .0 ≡ glyphWords r4)) (λ (lasts : (Unit {0} × (List ℕ × Unit {0}))). (fsep ftrue (fsep (fres δanswer5 ((Array u64 4) .coded .code (lasts .1 .0))) ftrue))) (‵ (flft (νanswer5 ∷ []) fullShare) ⊛ ‵ ftrue) (‵ (flft (νanswer5 ∷ []) fullShare) ⊛ ‵ (OwnR (Array u64 4) banswer oanswer (νanswer5 ∷ []) δanswer5 ysanswer)) (machG r4 ∷ vptr banswer oanswer ∷ []) (put-glyph-as 𝓤 H A mem run′ W C known-put-glyph (νanswer5 ∷ []) fullShare banswer oanswer δanswer5 ysanswer (r4) (mineG r4 w4 is4) (subst (λ (y : Type2Glyph). So (finite (y .width))) (sym (e4 .glyph)) (finished-finite r3 (length ysout) (convert (sourceOf (xcharstring .now) (xbank .now)) r1 r2 (roomsOf ysstems yscommands ysprogram)) (convert-finite (sourceOf (xcharstring .now) (xbank .now)) r1 r2 (roomsOf ysstems yscommands ysprogram))))) (and-then ! (load ! (from ! (stop !)) (look ! 40 refl)) (and-then ! (load ! (from ! (stop !)) (look ! 16 refl)) (no-more !))) (λ w5 r5 zs5 e5 is5. land ! (from ! (stop !)) (init ! 66 refl (uint-lawful 𝓤 H A W w64 .typed r5 _ is5 .0)) $ rewrite ! 66 (λ (u : Val). ‵ (fat fullShare word l₀ 0 u)) (ap only (is5 .0)) refl $ drop ! $ split ! $ move ! (1 ∷ []) $ drop ! $ move ! (1 ∷ []) $ fsplit ! $ drop ! $ fsplit ! $ move ! (1 ∷ []) $ drop ! $ 
         move ! (1 ∷ 2 ∷ 0 ∷ []) $ returned-ref ! tt (Array u64 4) banswer oanswer νanswer5 δanswer5 ysanswer (zs5 .1 .0) (owned ! u64 (Is u64) (uint-makes 𝓤 H A W w64) r5 _ (refl, (is5 .1)) $ 
         returns ! (look ! 65 refl) $ forget ! 65 refl $ forget ! 63 refl $ forget ! 61 refl $ forget ! 59 refl $ forget ! 57 refl $ forget ! 55 refl $ forget ! 53 refl $ forget ! 51 refl $ forget ! 49 refl $ forget ! 47 refl $ forget ! 45 refl $ forget ! 43 refl $ forget ! 41 refl $ forget ! 39 refl $ forget ! 37 refl $ forget ! 35 refl $ forget ! 33 refl $ forget ! 31 refl $ forget ! 29 refl $ forget ! 27 refl $ forget ! 25 refl $ forget ! 23 refl $ forget ! 21 refl $ forget ! 19 refl $ forget ! 17 refl $ 
         move ! (65 ∷ 66 ∷ []) $ free1 ! $ move ! (63 ∷ 64 ∷ []) $ free1 ! $ move ! (61 ∷ 62 ∷ []) $ free1 ! $ move ! (59 ∷ 60 ∷ []) $ free1 ! $ move ! (57 ∷ 58 ∷ []) $ free1 ! $ move ! (55 ∷ 56 ∷ []) $ free1 ! $ move ! (53 ∷ 54 ∷ []) $ free1 ! $ move ! (51 ∷ 52 ∷ []) $ free1 ! $ move ! (49 ∷ 50 ∷ []) $ free1 ! $ move ! (47 ∷ 48 ∷ []) $ free1 ! $ move ! (45 ∷ 46 ∷ []) $ free1 ! $ move ! (43 ∷ 44 ∷ []) $ free1 ! $ move ! (41 ∷ 42 ∷ []) $ free1 ! $ move ! (39 ∷ 40 ∷ []) $ free1 ! $ move ! (37 ∷ 38 ∷ []) $ free1 ! $ move ! (35 ∷ 36 ∷ []) $ free1 ! $ move ! (33 ∷ 34 ∷ []) $ free1 ! $ move ! (31 ∷ 32 ∷ []) $ free1 ! $ move ! (29 ∷ 30 ∷ []) $ free1 ! $ move ! (27 ∷ 28 ∷ []) $ free1 ! $ move ! (25 ∷ 26 ∷ []) $ free1 ! $ move ! (23 ∷ 24 ∷ []) $ free1 ! $ move ! (21 ∷ 22 ∷ []) $ free1 ! $ move ! (19 ∷ 20 ∷ []) $ free1 ! $ move ! (17 ∷ 18 ∷ []) $ free1 ! $ free0 ! $ keep ! (0 ∷ 14 ∷ 12 ∷ 13 ∷ 11 ∷ 16 ∷ 15 ∷ 9 ∷ 10 ∷ 7 ∷ 8 ∷ 5 ∷ 6 ∷ 3 ∷ 4 ∷ 1 ∷ 2 ∷ []) $ by ! (exits r5 (vint w64 r5) (zs4 .1 .1 .1 .1 .1 .0) (zs4 .1 .1 .1 .1 .1 .1 .0) (zs4 .1 .1 .1 .1 .1 .1 .1 .0) (zs4 .1 .1 .1 .1 .1 .1 .1 .1 .0) (zs5 .1 .0) (subst (λ (y : Reading). BoardFinishes (sourceOf (xcharstring .now) (xbank .now)) y (matrixOf (xmatrix .now)) (widthsOf dw nw) (roomsOf ysstems yscommands ysprogram) (length ysout) r5 (zs4 .1 .1 .1 .1 .1 .0) (zs4 .1 .1 .1 .1 .1 .1 .0) (zs4 .1 .1 .1 .1 .1 .1 .1 .0) (zs4 .1 .1 .1 .1 .1 .1 .1 .1 .0) (zs5 .1 .0)) e1 (subst (λ (y : Matrix). BoardFinishes (sourceOf (xcharstring .now) (xbank .now)) r1 y (widthsOf dw nw) (roomsOf ysstems yscommands ysprogram) (length ysout) r5 (zs4 .1 .1 .1 .1 .1 .0) (zs4 .1 .1 .1 .1 .1 .1 .0) (zs4 .1 .1 .1 .1 .1 .1 .1 .0) (zs4 .1 .1 .1 .1 .1 .1 .1 .1 .0) (zs5 .1 .0)) e2 (subst (λ (y : Widths). BoardFinishes (sourceOf (xcharstring .now) (xbank .now)) r1 r2 y (roomsOf ysstems yscommands ysprogram) (length ysout) r5 (zs4 .1 .1 .1 .1 .1 .0) (zs4 .1 .1 .1 .1 .1 .1 .0) (zs4 .1 .1 .1 .1 .1 .1 .1 .0) (zs4 .1 .1 .1 .1 .1 .1 .1 .1 .0) (zs5 .1 .0)) e3 (board-finishes (sourceOf (xcharstring .now) (xbank .now)) r1 r2 (roomsOf ysstems yscommands ysprogram) r4 r5 (zs4 .1 .1 .1 .1 .1 .0) r3 (length ysout) (zs4 .1 .1 .1 .1 .1 .1 .0) (zs4 .1 .1 .1 .1 .1 .1 .1 .0) (zs4 .1 .1 .1 .1 .1 .1 .1 .1 .0) (zs5 .1 .0) e4 e5)))) (lstems4) (lcommands4) (lprogram4) (lout4))))))))))))))))))))))))))))))))))))))))))))))

@@ -1,7 +1,9 @@
-use lib.ListN.{length}
+use lib.ListN.{length, take}
+use Rattle.type2.specs.declared.Widths.{Widths}
+use Rattle.type1_to_type2.specs.Finish.{finish}
 use Rattle.type1_to_type2.specs.Writing.{Written}
 use Rattle.type1_to_type2.specs.FinishAnswer.{finishedAnswer, finishedOutput}
-use Rattle.board.specs.Answers.{finishedWords}
+use Rattle.board.specs.Answers.{widthsOf, finishedWords}
 use Rattle.type1_to_type2.specs.declared.Finished.{Finished}
 use mathlib.Core.Path.{ap, _∙_}
 use Rattle.board.proofs.Words.{finish-all}
@@ -12,6 +14,9 @@ use Rattle.board.proofs.cribstork_finish.Reads as reads
 use Rattle.board.proofs.cribstork_finish.Lts as lts
 use Rattle.type1_to_type2.proofs.Type2Glyph.charstring.Reads as charstring-reads
 
+widths-of-requires : tie.Need-widths-of-requires
+widths-of-requires c κs = search needs
+
 charstring-requires : tie.Need-charstring-requires
 charstring-requires c κs = search needs
 
@@ -20,17 +25,17 @@ same-length c = search needs
 
 returns : tie.Need-returns
 returns c =
-    let a = c .before .before .before .before .before .before .before .args in
-    let same = finish-all (a .width) (a .program .now) (widthsOf (a .default-width) (a .nominal-width)) (length (a .out .now)) in
-    let given = c .before .before .before .charstring .ensures in (
+    let a = c .before .before .before .before .before .before .before .before .args in
+    let room = length (a .out .now) in
+    let given = c .before .before .before .charstring .ensures in
+    let same =
+    ap (λ (p : Widths). finish (a .width) (take (length (a .program .now)) (a .program .now)) p room) (c .before .before .before .before .before .widths-of .ensures)
+    ∙ finish-all (a .width) (a .program .now) (widthsOf (a .default-width) (a .nominal-width)) room in (
       ap (λ (y : Finished). y .number) (given .0) ∙ ap (λ (x : Written). finishedAnswer x .number) same,
-      (
-        ap finishedWords (given .0 ∙ ap finishedAnswer same),
-        given .1 ∙ ap (finishedOutput (length (a .out .now))) same,
-      ),
+      (ap finishedWords (given .0 ∙ ap finishedAnswer same), given .1 ∙ ap (finishedOutput room) same),
     )
 
 pub cribstork-finish-spec : {M : Type 1} → statement M
 cribstork-finish-spec =
     tie.close
-    (tie.spec charstring-requires same-length returns)
+    (tie.spec widths-of-requires charstring-requires same-length returns)
