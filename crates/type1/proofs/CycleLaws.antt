@@ -214,7 +214,7 @@ abbrev Without : List (ℕ × Operator) → ℕ → Type 0
 Without [] b = Unit {0}
 Without (e ∷ l) b = ((T (one-of (e .1)) → b ≡ e .0 → ⊥) × Without l b)
 
-chosen : (c d : Bool) (x y : Operator) → one-of x ≡ d → (T c → T d → ⊥) → one-of y ≡ false → one-of (op.pick c x y) ≡ false
+chosen : (c d : Bool) (x y : Operator) → one-of x ≡ d → (T c → T d → ⊥) → one-of y ≡ false → one-of (pick c x y) ≡ false
 chosen false d x y ed f h = h
 chosen true false x y ed f h = ed
 chosen true true x y ed f h = absurd (f tt tt)

@@ -13,6 +13,7 @@ use lib.Ieee.Scale.{finite}
 use Rattle.charstring.specs.Cipher.{maxCharstringBytes}
 use Rattle.geometry.specs.declared.Point.{Point}
 use Rattle.outline.specs.declared.Stem.{Stem}
+use Rattle.hints.specs.Hints.{stemAt}
 use Rattle.type1.specs.declared.St.{St}
 use Rattle.type1.specs.declared.Ran.{Ran}
 use Rattle.type1.specs.Operator.{Operator, ofByte, ofEscape}
@@ -39,9 +40,6 @@ pointsAt zero l = []
 pointsAt (suc n) l = pointsAt n l ++ (record { x = getD l (2 * n) nan; y = getD l (2 * n + 1) nan } ∷ [])
 
 -- n stems, from a place on
-abbrev pub stemAt : List Float → List Bool → ℕ → Stem
-stemAt e a i = record { horizontal = getD a i false; pos = getD e (2 * i) nan; width = getD e (2 * i + 1) nan }
-
 unfoldable pub stemsAt : ℕ → ℕ → List Float → List Bool → List Stem
 stemsAt from zero e a = []
 stemsAt from (suc n) e a = stemsAt from n e a ++ (stemAt e a (from + n) ∷ [])

@@ -29,7 +29,7 @@ sub-small a b n h k = go (ltb a b) (ltb→lt a b)
     go true f = let g = f tt in omega arith
     go false f = omega arith
 
-token-pick : (b : Bool) (x y : Token) → (T b → SmallToken x) → (T (not b) → SmallToken y) → SmallToken (Number.pick b x y)
+token-pick : (b : Bool) (x y : Token) → (T b → SmallToken x) → (T (not b) → SmallToken y) → SmallToken (pick b x y)
 token-pick true x y f g = f tt
 token-pick false x y f g = g tt
 

@@ -1,9 +1,10 @@
 -- Definitions: converting, from the charstring to the program. Document 01, "A glyph's way to the renderer", "Numbers the board logs": 1, 2, the run's steps, folding, writing.
 use Prim.Native.Nat.{ℕ, _-_}
-use mathlib.Core.Bool.{Bool, true, false}
+use mathlib.Core.Bool.{Bool, true, false, _&&_}
 use mathlib.Core.List.{List, [], _∷_, _++_}
 use lib.ListN.{length, replicate}
 use lib.Ieee.{Float}
+use lib.Ieee.Scale.{finite}
 use Rattle.geometry.specs.declared.Matrix.{Matrix}
 use Rattle.outline.specs.declared.Stem.{Stem}
 use Rattle.type1.specs.declared.Reading.{Reading}
@@ -14,7 +15,7 @@ use Rattle.type1.specs.Run.{Outcome}
 use Rattle.type1.specs.Interpret.{Source, outcome}
 use Rattle.type2.specs.Instruction.{Instr}
 use Rattle.type1_to_type2.specs.declared.Type2Glyph.{Type2Glyph}
-use Rattle.folding.specs.Folding.{finiteMatrix, foldOf, foldedList, foldedGroups, foldedWidth, foldsFinite}
+use Rattle.folding.specs.Folding.{finiteMatrix, foldOf, foldedList, foldedGroups, foldedWidth, finiteList, finiteGroups}
 use Rattle.type1_to_type2.specs.Stems.{declared}
 use Rattle.type1_to_type2.specs.Emission.{commands, program}
 use Rattle.type1_to_type2.specs.Writing as Writing

@@ -54,7 +54,8 @@ use Rattle.type1.proofs.LentWith.{returned}
 use Rattle.type1.proofs.Many.{asks-all}
 use Rattle.type1.proofs.Locals.{word, sF, sA, tS, so-is, machT}
 use Rattle.outline.specs.Outline.{zeroStem}
-use Rattle.type1.specs.Memory.{stemAt, stemsAt}
+use Rattle.hints.specs.Hints.{stemAt}
+use Rattle.type1.specs.Memory.{stemsAt}
 use Rattle.type1.proofs.sum.Symbol as sum-def
 use Rattle.type1.proofs.sum.Symbol.{name as #type1·sum}
 use Rattle.type1.proofs.sum.Met as sum-thm
