@@ -14,6 +14,7 @@ use lib.Seq.{getD-set-same, getD-set-other}
 use lib.Ieee.{Float, nan, inf, fin, binary64, ofBits, toBits, fits, isNan}
 use lib.Ieee.Scale.{finite}
 use lib.Ieee.Bits.{ofBits-toBits}
+use Rattle.geometry.specs.declared.Point.{Point}
 use Rattle.outline.specs.declared.Stem.{Stem}
 use Rattle.type1.specs.declared.St.{St}
 use Rattle.type1.specs.declared.Ran.{Ran}
@@ -21,8 +22,8 @@ use Rattle.outline.specs.Outline.{Command, move, line, curve, flex, Group, stem
 use Rattle.outline.specs.Store.{word, pointIn, coordinate, commandIn, drawnIn, groupIn, groupsIn, pointCommand}
 use Rattle.type1.specs.State.{State, withDrawn}
 use Rattle.type1.specs.Run.{Limits, within, Outcome, going, refused, allowed, enter, pointAt}
-use Rattle.type1.specs.Memory.{Mem, abs, Bounds, Fit, Holds, Meets, Good, withCmds, Plain}
-use Rattle.type1.specs.Small.{ranOf, flexOf, Entered}
+use Rattle.type1.specs.Memory.{Mem, abs, Bounds, Fit, Holds, Meets, withCells, withCmds, Plain}
+use Rattle.type1.specs.Small.{ranOf, cellPoint, flexOf, GoodPoint, pointPut, Entered}
 
 -- two stores with the same words below n
 abbrev pub Alike : ℕ → List ℕ → List ℕ → Type 0
@@ -214,27 +215,26 @@ curve-command k b1 b2 b3 b4 b5 b6 x1 y1 x2 y2 x3 y3 c d W p1 p2 p3 p4 p5 p6 f1 f
     let e6 = float-is d k 6 b6 y3 (W .words 6 (omega arith)) p6 f6 in
     simp (e0, e1, e2, e3, e4, e5, e6)
 
--- the twelve coordinates of a flex from an array's place 2 on, and the height
-pub flex-command : (k : ℕ) (cells : List Float) (h : Float) (bs : List ℕ) (bh : ℕ) (c d : List ℕ) → Wrote (14 * k) (4 ∷ (bs ++ (bh ∷ []))) c d → length bs ≡ 12
-    → ((i : ℕ) → i < 12 → getD bs i 0 ≡ toBits binary64 (getD cells (2 + i) nan)) → bh ≡ toBits binary64 h → ((i : ℕ) → i < 12 → T (fits binary64 (getD cells (2 + i) nan))) → T (fits binary64 h) → commandIn d k ≡ flexOf cells h ∷ []
+-- the six points of a flex, and its height
+pub flex-command : (k : ℕ) (p1 p2 p3 p4 p5 p6 : Point) (h : Float) (c d : List ℕ)
+    → Wrote (14 * k) (4 ∷ toBits binary64 (p1 .x) ∷ toBits binary64 (p1 .y) ∷ toBits binary64 (p2 .x) ∷ toBits binary64 (p2 .y) ∷ toBits binary64 (p3 .x) ∷ toBits binary64 (p3 .y) ∷ toBits binary64 (p4 .x) ∷ toBits binary64 (p4 .y) ∷ toBits binary64 (p5 .x) ∷ toBits binary64 (p5 .y) ∷ toBits binary64 (p6 .x) ∷ toBits binary64 (p6 .y) ∷ toBits binary64 h ∷ []) c d
+    → GoodPoint p1 → GoodPoint p2 → GoodPoint p3 → GoodPoint p4 → GoodPoint p5 → GoodPoint p6 → T (fits binary64 h) → commandIn d k ≡ flex p1 p2 p3 p4 p5 p6 h ∷ []
 unfolding commandIn
-flex-command k cells h bs bh c d W len is ih fit fh =
-    let n : length (4 ∷ (bs ++ (bh ∷ []))) ≡ 14 = ap suc (length-append bs (bh ∷ [])) ∙ (let z : suc (length bs + 1) ≡ 14 = omega arith in z) in
+flex-command k p1 p2 p3 p4 p5 p6 h c d W g1 g2 g3 g4 g5 g6 fh =
     let e0 : word d k 0 ≡ 4 = W .words 0 (omega arith) in
-    let at : (i : ℕ) → i < 12 → coordinate d k (suc i) ≡ getD cells (2 + i) nan = (λ i l. float-is d k (suc i) (getD bs i 0) (getD cells (2 + i) nan) (W .words (suc i) (omega arith) ∙ snoc-front bs bh i (omega arith)) (is i l) (fit i l)) in
-    let e13 : coordinate d k 13 ≡ h = float-is d k 13 bh h (W .words 13 (omega arith) ∙ ap (λ (j : ℕ). getD (bs ++ (bh ∷ [])) j 0) (sym len) ∙ snoc-last bs bh) ih fh in
-    let e1 = at 0 (omega arith) in
-    let e2 = at 1 (omega arith) in
-    let e3 = at 2 (omega arith) in
-    let e4 = at 3 (omega arith) in
-    let e5 = at 4 (omega arith) in
-    let e6 = at 5 (omega arith) in
-    let e7 = at 6 (omega arith) in
-    let e8 = at 7 (omega arith) in
-    let e9 = at 8 (omega arith) in
-    let e10 = at 9 (omega arith) in
-    let e11 = at 10 (omega arith) in
-    let e12 = at 11 (omega arith) in
+    let e1 = float-is d k 1 _ _ (W .words 1 (omega arith)) refl (g1 .0 .fit) in
+    let e2 = float-is d k 2 _ _ (W .words 2 (omega arith)) refl (g1 .1 .fit) in
+    let e3 = float-is d k 3 _ _ (W .words 3 (omega arith)) refl (g2 .0 .fit) in
+    let e4 = float-is d k 4 _ _ (W .words 4 (omega arith)) refl (g2 .1 .fit) in
+    let e5 = float-is d k 5 _ _ (W .words 5 (omega arith)) refl (g3 .0 .fit) in
+    let e6 = float-is d k 6 _ _ (W .words 6 (omega arith)) refl (g3 .1 .fit) in
+    let e7 = float-is d k 7 _ _ (W .words 7 (omega arith)) refl (g4 .0 .fit) in
+    let e8 = float-is d k 8 _ _ (W .words 8 (omega arith)) refl (g4 .1 .fit) in
+    let e9 = float-is d k 9 _ _ (W .words 9 (omega arith)) refl (g5 .0 .fit) in
+    let e10 = float-is d k 10 _ _ (W .words 10 (omega arith)) refl (g5 .1 .fit) in
+    let e11 = float-is d k 11 _ _ (W .words 11 (omega arith)) refl (g6 .0 .fit) in
+    let e12 = float-is d k 12 _ _ (W .words 12 (omega arith)) refl (g6 .1 .fit) in
+    let e13 = float-is d k 13 _ _ (W .words 13 (omega arith)) refl fh in
     simp (e0, e1, e2, e3, e4, e5, e6, e7, e8, e9, e10, e11, e12, e13)
 
 -- ---- `enter`: the entry is listed, or the store is full
@@ -302,58 +302,66 @@ module _ (t : St) (m : Mem) (s : State) (H : Holds t m s) (room : ℕ) (r : Ran)
       enter-more t m s H room (curve (pointAt x1 y1) (pointAt x2 y2) (pointAt x3 y3)) r _ e h (W .same) (W .below) (curve-command (t .entries) _ _ _ _ _ _ x1 y1 x2 y2 x3 y3 (m .cmds) _ W refl refl refl refl refl refl f1 f2 f3 f4 f5 f6)
       (λ z. let w = W .words 0 (omega arith) in let q : 3 ≡ 5 = sym w ∙ z in let n : ⊥ = omega arith in n)
 
--- ---- a flex: its coordinates are written one after the other
-abbrev pub bitsOf : ℕ → List Float → List ℕ
-bitsOf zero l = []
-bitsOf (suc i) l = bitsOf i l ++ (toBits binary64 (getD l (2 + i) nan) ∷ [])
+-- ---- a flex: its points are written one after the other
+wrote-point : (at : ℕ) (vs c d : List ℕ) (j : ℕ) (p : Point) (d′ : List ℕ) → Wrote at vs c d → j ≡ at + length vs → j + 1 < length c → d′ ≡ pointPut j p d → Wrote at ((vs ++ (toBits binary64 (p .x) ∷ [])) ++ (toBits binary64 (p .y) ∷ [])) c d′
+wrote-point at vs c d j p d′ W e h is =
+    let n = length-append vs (toBits binary64 (p .x) ∷ []) in
+    subst (Wrote at ((vs ++ (toBits binary64 (p .x) ∷ [])) ++ (toBits binary64 (p .y) ∷ [])) c) (sym is)
+    (wrote-more at (vs ++ (toBits binary64 (p .x) ∷ [])) c (set d j (toBits binary64 (p .x))) (j + 1) (toBits binary64 (p .y)) (wrote-more at vs c d j (toBits binary64 (p .x)) W e (omega arith)) (omega arith) h)
 
-bits-length : (i : ℕ) (l : List Float) → length (bitsOf i l) ≡ i
-bits-length zero l = refl
-bits-length (suc i) l = length-append (bitsOf i l) (toBits binary64 (getD l (2 + i) nan) ∷ []) ∙ (let e = bits-length i l in let z : length (bitsOf i l) + 1 ≡ suc i = omega arith in z)
+module _ (t : St) (m : Mem) (s : State) (H : Holds t m s) (room : ℕ) (r : Ran) (e : r ≡ ranOf (withEntries (t .entries + 1) t) 0) (h : 14 ≤ length (m .cmds) - 14 * t .entries) (p1 p2 p3 p4 p5 p6 : Point) (height : Float) where
+  abbrev begins : ℕ
+  begins = 14 * t .entries
 
-bits-at : (n : ℕ) (l : List Float) (i : ℕ) → i < n → getD (bitsOf n l) i 0 ≡ toBits binary64 (getD l (2 + i) nan)
-bits-at zero l i h = absurd (let z : ⊥ = omega arith in z)
-bits-at (suc n) l i h = split (eqb i n) refl (λ k. bits-at n l i k)
-  where
-    split : (b : Bool) → eqb i n ≡ b → (i < n → getD (bitsOf n l) i 0 ≡ toBits binary64 (getD l (2 + i) nan)) → getD (bitsOf n l ++ (toBits binary64 (getD l (2 + n) nan) ∷ [])) i 0 ≡ toBits binary64 (getD l (2 + i) nan)
-    split true q rec = let p = eqb-true i n q in ap (λ (j : ℕ). getD (bitsOf n l ++ (toBits binary64 (getD l (2 + n) nan) ∷ [])) j 0) (p ∙ sym (bits-length n l)) ∙ snoc-last (bitsOf n l) (toBits binary64 (getD l (2 + n) nan)) ∙ ap (λ (j : ℕ). toBits binary64 (getD l (2 + j) nan)) (sym p)
-    split false q rec = let g : i ≤ n = omega arith in let k = lt-of-le-ne g (eqb-false i n q) in snoc-front (bitsOf n l) (toBits binary64 (getD l (2 + n) nan)) i (let e = bits-length n l in omega arith) ∙ rec k
-
-pub record Flexing (at : ℕ) (cells : List Float) (c d : List ℕ) (i : ℕ) : Type 0 where
-  pub wrote : Wrote at (4 ∷ bitsOf i cells) c d
-  pub few : i ≤ 12
-
--- seen from where its kind is written
-kind-wrote : (at : ℕ) (c : List ℕ) → at < length c → Wrote at (4 ∷ []) c (set c at 4)
-kind-wrote at c h = wrote-more at [] c c at 4 (wrote-none at c) (omega arith) h
-
-pub flex-begun : (at : ℕ) (cells : List Float) (c : List ℕ) → at < length c → Flexing at cells (set c at 4) (set c at 4) 0
-flex-begun at cells c h = record { wrote = record { below = λ i l. refl; words = kind-wrote at c h .words; same = refl }; few = lit≤ tt }
-
-flex-base : (at : ℕ) (cells : List Float) (c d : List ℕ) (i : ℕ) → at < length c → Flexing at cells (set c at 4) d i → Flexing at cells c d i
-flex-base at cells c d i h F =
-    let W = kind-wrote at c h in
-    record { wrote = record { below = λ j l. F .wrote .below j l ∙ W .below j l; words = F .wrote .words; same = F .wrote .same ∙ W .same }; few = F .few }
-
-pub flex-turn : (at : ℕ) (cells : List Float) (c d : List ℕ) (i : ℕ) → Flexing at cells c d i → i < 12 → at + 13 < length c → Flexing at cells c (set d (at + 1 + i) (toBits binary64 (getD cells (2 + i) nan))) (i + 1)
-flex-turn at cells c d i F h l =
-    let n = bits-length i cells in
-    subst (λ (j : ℕ). Flexing at cells c (set d (at + 1 + i) (toBits binary64 (getD cells (2 + i) nan))) j) (sym (add-one i)) (record {
-      wrote = wrote-more at (4 ∷ bitsOf i cells) c d (at + 1 + i) (toBits binary64 (getD cells (2 + i) nan)) (F .wrote) (omega arith) (omega arith);
-      few = omega arith;
-    })
-
-module _ (t : St) (m : Mem) (s : State) (H : Holds t m s) (room : ℕ) (r : Ran) (e : r ≡ ranOf (withEntries (t .entries + 1) t) 0) (h : 14 ≤ length (m .cmds) - 14 * t .entries) where
-  pub flex-entered : (cells : List Float) (height : Float) (d : List ℕ) (i : ℕ) → Flexing (14 * t .entries) cells (set (m .cmds) (14 * t .entries) 4) d i → 12 ≤ i → ((j : ℕ) → j < 14 → Good (getD cells j nan)) → T (fits binary64 height)
-      → Meets r (withCmds (set d (14 * t .entries + 13) (toBits binary64 height)) m) (enter (within room (length (m .cmds))) (flexOf cells height) s)
-  flex-entered cells height d i G l good fh =
-      let F = flex-base (14 * t .entries) cells (m .cmds) d i (omega arith) G in
-      let n : i ≡ 12 = (let a = F .few in omega arith) in
-      let bl = bits-length i cells in
-      let W = wrote-more (14 * t .entries) (4 ∷ bitsOf i cells) (m .cmds) d (14 * t .entries + 13) (toBits binary64 height) (F .wrote) (omega arith) (omega arith) in
-      enter-more t m s H room (flexOf cells height) r (set d (14 * t .entries + 13) (toBits binary64 height)) e h (W .same) (W .below)
-      (flex-command (t .entries) cells height (bitsOf i cells) (toBits binary64 height) (m .cmds) (set d (14 * t .entries + 13) (toBits binary64 height)) W (bl ∙ n) (λ j g. bits-at i cells j (omega arith)) refl (λ j g. good (2 + j) (omega arith) .fit) fh)
+  pub flex-entered : (d1 d2 d3 d4 d5 d6 : List ℕ)
+      → d1 ≡ pointPut (begins + 1) p1 (set (m .cmds) begins 4)
+      → d2 ≡ pointPut (begins + 3) p2 d1
+      → d3 ≡ pointPut (begins + 5) p3 d2
+      → d4 ≡ pointPut (begins + 7) p4 d3
+      → d5 ≡ pointPut (begins + 9) p5 d4
+      → d6 ≡ pointPut (begins + 11) p6 d5
+      → GoodPoint p1 × (GoodPoint p2 × GoodPoint p3) → GoodPoint p4 × (GoodPoint p5 × GoodPoint p6) → T (fits binary64 height)
+      → Meets r (withCmds (set d6 (begins + 13) (toBits binary64 height)) m) (enter (within room (length (m .cmds))) (flex p1 p2 p3 p4 p5 p6 height) s)
+  flex-entered d1 d2 d3 d4 d5 d6 q1 q2 q3 q4 q5 q6 g k fh =
+      let at = begins in
+      let W0 = wrote-more at [] (m .cmds) (m .cmds) at 4 (wrote-none at (m .cmds)) (omega arith) (omega arith) in
+      let W1 = wrote-point at (4 ∷ []) (m .cmds) (set (m .cmds) at 4) (at + 1) p1 d1 W0 refl (omega arith) q1 in
+      let W2 = wrote-point at (4 ∷ toBits binary64 (p1 .x) ∷ toBits binary64 (p1 .y) ∷ []) (m .cmds) d1 (at + 3) p2 d2 W1 refl (omega arith) q2 in
+      let W3 = wrote-point at (4 ∷ toBits binary64 (p1 .x) ∷ toBits binary64 (p1 .y) ∷ toBits binary64 (p2 .x) ∷ toBits binary64 (p2 .y) ∷ []) (m .cmds) d2 (at + 5) p3 d3 W2 refl (omega arith) q3 in
+      let W4 = wrote-point at (4 ∷ toBits binary64 (p1 .x) ∷ toBits binary64 (p1 .y) ∷ toBits binary64 (p2 .x) ∷ toBits binary64 (p2 .y) ∷ toBits binary64 (p3 .x) ∷ toBits binary64 (p3 .y) ∷ []) (m .cmds) d3 (at + 7) p4 d4 W3 refl (omega arith) q4 in
+      let W5 = wrote-point at (4 ∷ toBits binary64 (p1 .x) ∷ toBits binary64 (p1 .y) ∷ toBits binary64 (p2 .x) ∷ toBits binary64 (p2 .y) ∷ toBits binary64 (p3 .x) ∷ toBits binary64 (p3 .y) ∷ toBits binary64 (p4 .x) ∷ toBits binary64 (p4 .y) ∷ []) (m .cmds) d4 (at + 9) p5 d5 W4 refl (omega arith) q5 in
+      let W6 = wrote-point at (4 ∷ toBits binary64 (p1 .x) ∷ toBits binary64 (p1 .y) ∷ toBits binary64 (p2 .x) ∷ toBits binary64 (p2 .y) ∷ toBits binary64 (p3 .x) ∷ toBits binary64 (p3 .y) ∷ toBits binary64 (p4 .x) ∷ toBits binary64 (p4 .y) ∷ toBits binary64 (p5 .x) ∷ toBits binary64 (p5 .y) ∷ []) (m .cmds) d5 (at + 11) p6 d6 W5 refl (omega arith) q6 in
+      let W = wrote-more at (4 ∷ toBits binary64 (p1 .x) ∷ toBits binary64 (p1 .y) ∷ toBits binary64 (p2 .x) ∷ toBits binary64 (p2 .y) ∷ toBits binary64 (p3 .x) ∷ toBits binary64 (p3 .y) ∷ toBits binary64 (p4 .x) ∷ toBits binary64 (p4 .y) ∷ toBits binary64 (p5 .x) ∷ toBits binary64 (p5 .y) ∷ toBits binary64 (p6 .x) ∷ toBits binary64 (p6 .y) ∷ []) (m .cmds) d6 (at + 13) (toBits binary64 height) W6 refl (omega arith) in
+      enter-more t m s H room (flex p1 p2 p3 p4 p5 p6 height) r _ e h (W .same) (W .below)
+      (flex-command (t .entries) p1 p2 p3 p4 p5 p6 height (m .cmds) _ W (g .0) (g .1 .0) (g .1 .1) (k .0) (k .1 .0) (k .1 .1) fh)
       (λ z. let w = W .words 0 (omega arith) in let q : 4 ≡ 5 = sym w ∙ z in let y : ⊥ = omega arith in y)
+
+put-length : (at : ℕ) (p : Point) (c : List ℕ) → length (pointPut at p c) ≡ length c
+put-length at p c = length-set (set c at (toBits binary64 (p .x))) (at + 1) (toBits binary64 (p .y)) ∙ length-set c at (toBits binary64 (p .x))
+
+pub flex-length :
+    (at v : ℕ) (c d1 d2 d3 d4 d5 d6 : List ℕ) (p1 p2 p3 p4 p5 p6 : Point)
+    → d1 ≡ pointPut (at + 1) p1 (set c at 4) → d2 ≡ pointPut (at + 3) p2 d1 → d3 ≡ pointPut (at + 5) p3 d2 → d4 ≡ pointPut (at + 7) p4 d3 → d5 ≡ pointPut (at + 9) p5 d4 → d6 ≡ pointPut (at + 11) p6 d5
+    → length (set d6 (at + 13) v) ≡ length c
+flex-length at v c d1 d2 d3 d4 d5 d6 p1 p2 p3 p4 p5 p6 q1 q2 q3 q4 q5 q6 =
+    length-set d6 (at + 13) v
+    ∙ ap length q6 ∙ put-length (at + 11) p6 d5
+    ∙ ap length q5 ∙ put-length (at + 9) p5 d4
+    ∙ ap length q4 ∙ put-length (at + 7) p4 d3
+    ∙ ap length q3 ∙ put-length (at + 5) p3 d2
+    ∙ ap length q2 ∙ put-length (at + 3) p2 d1
+    ∙ ap length q1 ∙ put-length (at + 1) p1 (set c at 4)
+    ∙ length-set c at 4
+
+-- the points of a flex that stand in an array
+pub enters-cells :
+    (t : St) (r : Ran) (x : List Float) (c c' : List ℕ) (h : Float) (p1 p2 p3 p4 p5 p6 : Point)
+    → p1 ≡ cellPoint x 1 → p2 ≡ cellPoint x 2 → p3 ≡ cellPoint x 3 → p4 ≡ cellPoint x 4 → p5 ≡ cellPoint x 5 → p6 ≡ cellPoint x 6
+    → ((m : Mem) (s : State) (room : ℕ) → Holds t (withCmds c m) s → Meets r (withCmds c' m) (enter (within room (length c)) (flex p1 p2 p3 p4 p5 p6 h) s))
+    → (m : Mem) (s : State) (room : ℕ) → Holds t (withCells x (withCmds c m)) s → Meets r (withCells x (withCmds c' m)) (enter (within room (length c)) (flexOf x h) s)
+enters-cells t r x c c' h p1 p2 p3 p4 p5 p6 e1 e2 e3 e4 e5 e6 E m s room H =
+    let is : flex p1 p2 p3 p4 p5 p6 h ≡ flexOf x h = cc in
+    subst (λ (z : Command). Meets r (withCells x (withCmds c' m)) (enter (within room (length c)) z s)) is (E (withCells x m) s room H)
 
 pub entered-same : (t : St) (r : Ran) (n words : ℕ) → r ≡ ranOf t n → Entered t (r .st) words
 entered-same t r n words e = subst (λ (q : Ran). Entered t (q .st) words) (sym e) (record { bounds = λ b. b; x = refl; y = refl })

@@ -4,8 +4,8 @@ use mathlib.Core.Path.{_≡_}
 use mathlib.Core.Bool.{Bool, true, false}
 use mathlib.Core.List.{List}
 use lib.Dec.{T, eqb}
-use lib.ListN.{getD}
-use lib.Ieee.{Float, nan}
+use lib.ListN.{getD, set}
+use lib.Ieee.{Float, nan, binary64, toBits}
 use lib.Ieee.Scale.{finite}
 use Rattle.charstring.specs.Cipher.{maxCharstringBytes}
 use Rattle.geometry.specs.declared.Point.{Point}
@@ -37,6 +37,14 @@ cellPoint l i = record { x = getD l (2 * i) nan; y = getD l (2 * i + 1) nan }
 
 abbrev pub flexOf : List Float → Float → Command
 flexOf l h = flex (cellPoint l 1) (cellPoint l 2) (cellPoint l 3) (cellPoint l 4) (cellPoint l 5) (cellPoint l 6) h
+
+-- a point whose coordinates are finite doubles
+abbrev pub GoodPoint : Point → Type 0
+GoodPoint p = Good (p .x) × Good (p .y)
+
+-- a point's coordinates as two words of the command store
+abbrev pub pointPut : ℕ → Point → List ℕ → List ℕ
+pointPut at p c = set (set c at (toBits binary64 (p .x))) (at + 1) (toBits binary64 (p .y))
 
 -- the state after a path command, in bounds
 pub record Grown (t u : St) (words room : ℕ) : Type 0 where

@@ -29,6 +29,7 @@ ghost use Rattle.type1.specs.Small as Small;
 ghost use Rattle.type1.specs.Cycle.{memOf, Ready, opD, runD};
 ghost use Rattle.type1.specs.Entry.{zeroSt, startFlow, numberOf, answerOf, Cleared};
 ghost use Rattle.type1.specs.Interpret.{sourceOf, outcome, refusedWith, Leaves};
+use geometry::Point;
 use outline::CURVE;
 use outline::ENTRY;
 use outline::FLEX;
@@ -471,7 +472,8 @@ fn is_quick(changed: bool, opened: bool) -> bool
 }
 
 // Reads numbers, which it pushes, closepath, and lines and curves, which it lists where `is_quick` says so, up to
-// another operator or the end of the bytes.
+// another operator or the end of the bytes. The key is stepped after the branch on the plain byte: before it, LLVM
+// would step the key only once it is extended for the plain byte.
 fn token(
     code: &[u8],
     from: usize,
@@ -494,14 +496,14 @@ fn token(
     while i < code.len() {
         let c = code[i];
         let v = charstring::byte_of(c, key, encrypted);
-        let k = charstring::next_key(c, key);
         if v < 32 {
             if v == 9 {
+                key = charstring::next_key(c, key);
                 n = 0;
                 opened = false;
                 i += 1;
-                key = k;
             } else {
+                let k = charstring::next_key(c, key);
                 if !is_quick(st.changed, opened) {
                     return operator_at(
                         code,
@@ -531,6 +533,7 @@ fn token(
                 key = k;
             }
         } else {
+            let k = charstring::next_key(c, key);
             let w = number_at(code, i + 1, k, encrypted, v);
             if w.cut {
                 return found(place(st, n, x, y, entries, opened), i + 1, k, 5, 0);
@@ -655,12 +658,33 @@ fn enter_curve(
     made(st, 17)
 }
 
-// A flex through the points after the first in `cells`, with its height.
-fn enter_flex(height: f64, st: St, cells: &[f64; 19], cmds: &mut [u64]) -> Ran
+// A point's coordinates as words.
+fn put_point(at: usize, p: Point, cmds: &mut [u64])
+    requires { ⌜ (at + 1 < length (now cmds)) × Small.GoodPoint p ⌝ }
+    ensures { λ _. ⌜ now (cmds .exit) ≡ Small.pointPut at p (now (cmds .entry)) ⌝ }
+{
+    cmds[at] = f64::to_bits(p.x);
+    cmds[at + 1] = f64::to_bits(p.y);
+}
+
+// A flex with its height, to p6.
+fn enter_flex(
+    p1: Point,
+    p2: Point,
+    p3: Point,
+    p4: Point,
+    p5: Point,
+    p6: Point,
+    height: f64,
+    st: St,
+    cmds: &mut [u64],
+) -> Ran
     requires { ⌜ 14 * st .entries ≤ length (now cmds) ⌝ }
-    requires { ⌜ T (finite height) × ((i : ℕ) → i < 14 → Good (getD (now cells) i nan)) ⌝ }
-    ensures { λ r. ⌜ ((m : Mem) (s : State.State) (room : ℕ) → Holds st (withCells (now (cells .entry)) (withCmds (now (cmds .entry)) m)) s →
-        Meets r (withCells (now (cells .entry)) (withCmds (now (cmds .exit)) m)) (Run.enter (within room (length (now (cmds .entry)))) (Small.flexOf (now (cells .entry)) height) s)) ⌝ }
+    requires { ⌜ Small.GoodPoint p1 × (Small.GoodPoint p2 × Small.GoodPoint p3) ⌝ }
+    requires { ⌜ Small.GoodPoint p4 × (Small.GoodPoint p5 × Small.GoodPoint p6) ⌝ }
+    requires { ⌜ T (finite height) ⌝ }
+    ensures { λ r. ⌜ ((m : Mem) (s : State.State) (room : ℕ) → Holds st (withCmds (now (cmds .entry)) m) s →
+        Meets r (withCmds (now (cmds .exit)) m) (Run.enter (within room (length (now (cmds .entry)))) (State.flex p1 p2 p3 p4 p5 p6 height) s)) ⌝ }
     ensures { λ r. ⌜ Plain st (r .st) ⌝ }
 {
     let k = st.entries;
@@ -669,15 +693,48 @@ fn enter_flex(height: f64, st: St, cells: &[f64; 19], cmds: &mut [u64]) -> Ran
         return made(st, 17);
     }
     cmds[at] = FLEX;
-    let mut i = 0;
-    while i < 12 {
-        cmds[at + 1 + i] = f64::to_bits(cells[2 + i]);
-        i += 1;
-    }
+    put_point(at + 1, p1, cmds);
+    put_point(at + 3, p2, cmds);
+    put_point(at + 5, p3, cmds);
+    put_point(at + 7, p4, cmds);
+    put_point(at + 9, p5, cmds);
+    put_point(at + 11, p6, cmds);
     cmds[at + 13] = f64::to_bits(height);
     let mut s = st;
     s.entries = k + 1;
     made(s, 0)
+}
+
+// A point that a flex collected.
+fn collected(cells: &[f64; 19], i: usize) -> Point
+    requires { ⌜ i < 8 ⌝ }
+    ensures { λ r. ⌜ r ≡ Small.cellPoint (now (cells .entry)) i ⌝ }
+{
+    Point {
+        x: cells[2 * i],
+        y: cells[2 * i + 1],
+    }
+}
+
+// The flex of the seven points collected, of which the first is not used.
+fn list_flex(height: f64, st: St, cells: &[f64; 19], cmds: &mut [u64]) -> Ran
+    requires { ⌜ 14 * st .entries ≤ length (now cmds) ⌝ }
+    requires { ⌜ T (finite height) × ((i : ℕ) → i < 14 → Good (getD (now cells) i nan)) ⌝ }
+    ensures { λ r. ⌜ ((m : Mem) (s : State.State) (room : ℕ) → Holds st (withCells (now (cells .entry)) (withCmds (now (cmds .entry)) m)) s →
+        Meets r (withCells (now (cells .entry)) (withCmds (now (cmds .exit)) m)) (Run.enter (within room (length (now (cmds .entry)))) (Small.flexOf (now (cells .entry)) height) s)) ⌝ }
+    ensures { λ r. ⌜ Plain st (r .st) ⌝ }
+{
+    enter_flex(
+        collected(cells, 1),
+        collected(cells, 2),
+        collected(cells, 3),
+        collected(cells, 4),
+        collected(cells, 5),
+        collected(cells, 6),
+        height,
+        st,
+        cmds,
+    )
 }
 
 // ---- hints
@@ -1340,7 +1397,7 @@ fn end_flex(
     if c.flow != 0 {
         return c;
     }
-    let e = enter_flex(height, c.st, cells, cmds);
+    let e = list_flex(height, c.st, cells, cmds);
     if e.flow != 0 {
         return e;
     }

@@ -17,6 +17,9 @@ smaller-requires-2 c κs = search needs
 smaller-requires-3 : tie.Need-smaller-requires-3
 smaller-requires-3 c κs = search needs
 
+new-requires : tie.Need-new-requires
+new-requires c κs = search needs
+
 slice-relend-prefix-convert : tie.Need-slice-relend-prefix-convert
 slice-relend-prefix-convert c = search needs
 
@@ -49,6 +52,7 @@ convert-lent-spec =
     fourteen-times-requires
     smaller-requires-2
     smaller-requires-3
+    new-requires
     slice-relend-prefix-convert
     slice-aggregate-convert
     slice-relend-prefix-convert-2

@@ -7,12 +7,6 @@ use Rattle.type1.proofs.Flex.{ends-not, ends-commit, ends-enter, ends-f
 use borrow.Author.Needs.{needs}
 use Rattle.type1.proofs.end_flex.Statement.{statement}
 use Rattle.type1.proofs.end_flex.Tie as tie
-use Rattle.type1.proofs.end_flex.Reads as reads
-use Rattle.type1.proofs.end_flex.Lts as lts
-use Rattle.othersubrs.proofs.is_whole_flex.Reads as is-whole-flex-reads
-use Rattle.type1.proofs.commit.Reads as commit-reads
-use Rattle.type1.proofs.enter_flex.Reads as enter-flex-reads
-use Rattle.type1.proofs.made.Reads as made-reads
 
 is-whole-flex-requires : tie.Need-is-whole-flex-requires
 is-whole-flex-requires c κs = search needs
@@ -34,8 +28,8 @@ returns-2 : tie.Need-returns-2
 returns-2 c =
     (ends-commit _ _ _ _ _ _ _ ((whole-told (c .before .before .before .before .before .before .before .before .before .args .st .flexing) (c .before .before .before .before .before .before .before .before .before .args .st .points) (sym (c .before .before .before .before .before .before .before .is-whole-flex .ensures) ∙ not-false _ (c .before .before .before .before .before .before .if1 .left))) .0) ((whole-told (c .before .before .before .before .before .before .before .before .before .args .st .flexing) (c .before .before .before .before .before .before .before .before .before .args .st .points) (sym (c .before .before .before .before .before .before .before .is-whole-flex .ensures) ∙ not-false _ (c .before .before .before .before .before .before .if1 .left))) .1) _ _ (c .before .before .before .before .commit .ensures .0) (c .if2 .taken), flex-space (c .before .before .before .before .before .before .before .before .before .args .st) _ (c .before .before .before .before .commit .result .st) _ (c .before .before .before .before .commit .ensures .1 .0) refl)
 
-enter-flex-requires : tie.Need-enter-flex-requires
-enter-flex-requires c κs =
+list-flex-requires : tie.Need-list-flex-requires
+list-flex-requires c κs =
     (omega (arith, c .before .before .before .before .before .commit .ensures .1 .1 .bounds .entries, c .before .before .before .before .cmds .given), (c .before .before .before .before .before .before .before .before .before .before .pre .1 .1 .0, λ i h. c .before .before .before .before .before .before .before .before .before .before .pre .1 .1 .1 ((whole-told (c .before .before .before .before .before .before .before .before .before .before .args .st .flexing) (c .before .before .before .before .before .before .before .before .before .before .args .st .points) (sym (c .before .before .before .before .before .before .before .before .is-whole-flex .ensures) ∙ not-false _ (c .before .before .before .before .before .before .before .if1 .left))) .0) i (omega (arith, (whole-told (c .before .before .before .before .before .before .before .before .before .before .args .st .flexing) (c .before .before .before .before .before .before .before .before .before .before .args .st .points) (sym (c .before .before .before .before .before .before .before .before .is-whole-flex .ensures) ∙ not-false _ (c .before .before .before .before .before .before .before .if1 .left))) .1))))
 
 same-length-2 : tie.Need-same-length-2
@@ -43,7 +37,7 @@ same-length-2 c = search needs
 
 returns-3 : tie.Need-returns-3
 returns-3 c =
-    (ends-enter _ _ _ _ _ _ _ ((whole-told (c .before .before .before .before .before .before .before .before .before .before .before .before .before .before .before .args .st .flexing) (c .before .before .before .before .before .before .before .before .before .before .before .before .before .before .before .args .st .points) (sym (c .before .before .before .before .before .before .before .before .before .before .before .before .before .is-whole-flex .ensures) ∙ not-false _ (c .before .before .before .before .before .before .before .before .before .before .before .before .if1 .left))) .0) ((whole-told (c .before .before .before .before .before .before .before .before .before .before .before .before .before .before .before .args .st .flexing) (c .before .before .before .before .before .before .before .before .before .before .before .before .before .before .before .args .st .points) (sym (c .before .before .before .before .before .before .before .before .before .before .before .before .before .is-whole-flex .ensures) ∙ not-false _ (c .before .before .before .before .before .before .before .before .before .before .before .before .if1 .left))) .1) _ _ (c .before .before .before .before .before .before .before .before .before .before .commit .ensures .0) (c .before .before .before .before .before .before .if2 .left) (c .before .before .before .before .before .before .before .before .before .cmds .given) _ _ (c .before .before .before .before .enter-flex .ensures .0) (c .before .before .before .before .enter-flex .ensures .1 .groups) (c .if3 .taken), flex-space (c .before .before .before .before .before .before .before .before .before .before .before .before .before .before .before .args .st) _ (c .before .before .before .before .enter-flex .result .st) _ (c .before .before .before .before .before .before .before .before .before .before .commit .ensures .1 .0) (c .before .before .before .before .enter-flex .ensures .1 .groups))
+    (ends-enter _ _ _ _ _ _ _ ((whole-told (c .before .before .before .before .before .before .before .before .before .before .before .before .before .before .before .args .st .flexing) (c .before .before .before .before .before .before .before .before .before .before .before .before .before .before .before .args .st .points) (sym (c .before .before .before .before .before .before .before .before .before .before .before .before .before .is-whole-flex .ensures) ∙ not-false _ (c .before .before .before .before .before .before .before .before .before .before .before .before .if1 .left))) .0) ((whole-told (c .before .before .before .before .before .before .before .before .before .before .before .before .before .before .before .args .st .flexing) (c .before .before .before .before .before .before .before .before .before .before .before .before .before .before .before .args .st .points) (sym (c .before .before .before .before .before .before .before .before .before .before .before .before .before .is-whole-flex .ensures) ∙ not-false _ (c .before .before .before .before .before .before .before .before .before .before .before .before .if1 .left))) .1) _ _ (c .before .before .before .before .before .before .before .before .before .before .commit .ensures .0) (c .before .before .before .before .before .before .if2 .left) (c .before .before .before .before .before .before .before .before .before .cmds .given) _ _ (c .before .before .before .before .list-flex .ensures .0) (c .before .before .before .before .list-flex .ensures .1 .groups) (c .if3 .taken), flex-space (c .before .before .before .before .before .before .before .before .before .before .before .before .before .before .before .args .st) _ (c .before .before .before .before .list-flex .result .st) _ (c .before .before .before .before .before .before .before .before .before .before .commit .ensures .1 .0) (c .before .before .before .before .list-flex .ensures .1 .groups))
 
 made-requires-2 : tie.Need-made-requires-2
 made-requires-2 c κs = search needs
@@ -53,7 +47,7 @@ same-length-3 c = search needs
 
 returns-4 : tie.Need-returns-4
 returns-4 c =
-    (ends-full _ _ _ _ _ _ _ ((whole-told (c .before .before .before .before .before .before .before .before .before .before .before .before .before .before .before .before .before .before .args .st .flexing) (c .before .before .before .before .before .before .before .before .before .before .before .before .before .before .before .before .before .before .args .st .points) (sym (c .before .before .before .before .before .before .before .before .before .before .before .before .before .before .before .before .is-whole-flex .ensures) ∙ not-false _ (c .before .before .before .before .before .before .before .before .before .before .before .before .before .before .before .if1 .left))) .0) ((whole-told (c .before .before .before .before .before .before .before .before .before .before .before .before .before .before .before .before .before .before .args .st .flexing) (c .before .before .before .before .before .before .before .before .before .before .before .before .before .before .before .before .before .before .args .st .points) (sym (c .before .before .before .before .before .before .before .before .before .before .before .before .before .before .before .before .is-whole-flex .ensures) ∙ not-false _ (c .before .before .before .before .before .before .before .before .before .before .before .before .before .before .before .if1 .left))) .1) _ _ (c .before .before .before .before .before .before .before .before .before .before .before .before .before .commit .ensures .0) (c .before .before .before .before .before .before .before .before .before .if2 .left) (c .before .before .before .before .before .before .before .before .before .before .before .before .cmds .given) _ _ (c .before .before .before .before .before .before .before .enter-flex .ensures .0) (c .before .before .before .before .before .before .before .enter-flex .ensures .1 .groups) (c .before .before .before .if3 .left) _ (c .made2 .ensures) (c .before .if4 .taken), flex-space (c .before .before .before .before .before .before .before .before .before .before .before .before .before .before .before .before .before .before .args .st) _ (c .made2 .result .st) _ (c .before .before .before .before .before .before .before .before .before .before .before .before .before .commit .ensures .1 .0) (ap (λ (q : Ran). q .st .groups) (c .made2 .ensures) ∙ c .before .before .before .before .before .before .before .enter-flex .ensures .1 .groups))
+    (ends-full _ _ _ _ _ _ _ ((whole-told (c .before .before .before .before .before .before .before .before .before .before .before .before .before .before .before .before .before .before .args .st .flexing) (c .before .before .before .before .before .before .before .before .before .before .before .before .before .before .before .before .before .before .args .st .points) (sym (c .before .before .before .before .before .before .before .before .before .before .before .before .before .before .before .before .is-whole-flex .ensures) ∙ not-false _ (c .before .before .before .before .before .before .before .before .before .before .before .before .before .before .before .if1 .left))) .0) ((whole-told (c .before .before .before .before .before .before .before .before .before .before .before .before .before .before .before .before .before .before .args .st .flexing) (c .before .before .before .before .before .before .before .before .before .before .before .before .before .before .before .before .before .before .args .st .points) (sym (c .before .before .before .before .before .before .before .before .before .before .before .before .before .before .before .before .is-whole-flex .ensures) ∙ not-false _ (c .before .before .before .before .before .before .before .before .before .before .before .before .before .before .before .if1 .left))) .1) _ _ (c .before .before .before .before .before .before .before .before .before .before .before .before .before .commit .ensures .0) (c .before .before .before .before .before .before .before .before .before .if2 .left) (c .before .before .before .before .before .before .before .before .before .before .before .before .cmds .given) _ _ (c .before .before .before .before .before .before .before .list-flex .ensures .0) (c .before .before .before .before .before .before .before .list-flex .ensures .1 .groups) (c .before .before .before .if3 .left) _ (c .made2 .ensures) (c .before .if4 .taken), flex-space (c .before .before .before .before .before .before .before .before .before .before .before .before .before .before .before .before .before .before .args .st) _ (c .made2 .result .st) _ (c .before .before .before .before .before .before .before .before .before .before .before .before .before .commit .ensures .1 .0) (ap (λ (q : Ran). q .st .groups) (c .made2 .ensures) ∙ c .before .before .before .before .before .before .before .list-flex .ensures .1 .groups))
 
 element-copy-out-ps : tie.Need-element-copy-out-ps
 element-copy-out-ps c = search needs
@@ -93,7 +87,7 @@ same-length-4 c = search needs
 
 returns-5 : tie.Need-returns-5
 returns-5 c =
-    (ends-done _ _ _ _ _ _ _ ((whole-told (c .before .before .before .before .before .before .before .before .before .before .before .before .before .before .before .before .before .before .before .before .before .before .args .st .flexing) (c .before .before .before .before .before .before .before .before .before .before .before .before .before .before .before .before .before .before .before .before .before .before .args .st .points) (sym (c .before .before .before .before .before .before .before .before .before .before .before .before .before .before .before .before .before .before .before .before .is-whole-flex .ensures) ∙ not-false _ (c .before .before .before .before .before .before .before .before .before .before .before .before .before .before .before .before .before .before .before .if1 .left))) .0) ((whole-told (c .before .before .before .before .before .before .before .before .before .before .before .before .before .before .before .before .before .before .before .before .before .before .args .st .flexing) (c .before .before .before .before .before .before .before .before .before .before .before .before .before .before .before .before .before .before .before .before .before .before .args .st .points) (sym (c .before .before .before .before .before .before .before .before .before .before .before .before .before .before .before .before .before .before .before .before .is-whole-flex .ensures) ∙ not-false _ (c .before .before .before .before .before .before .before .before .before .before .before .before .before .before .before .before .before .before .before .if1 .left))) .1) _ _ (c .before .before .before .before .before .before .before .before .before .before .before .before .before .before .before .before .before .commit .ensures .0) (c .before .before .before .before .before .before .before .before .before .before .before .before .before .if2 .left) (c .before .before .before .before .before .before .before .before .before .before .before .before .before .before .before .before .cmds .given) _ _ (c .before .before .before .before .before .before .before .before .before .before .before .enter-flex .ensures .0) (c .before .before .before .before .before .before .before .before .before .before .before .enter-flex .ensures .1 .groups) (c .before .before .before .before .before .before .before .if3 .left) _ (c .made3 .ensures) (c .before .before .before .before .before .if4 .left), flex-space (c .before .before .before .before .before .before .before .before .before .before .before .before .before .before .before .before .before .before .before .before .before .before .args .st) _ (c .made3 .result .st) _ (c .before .before .before .before .before .before .before .before .before .before .before .before .before .before .before .before .before .commit .ensures .1 .0) (ap (λ (q : Ran). q .st .groups) (c .made3 .ensures) ∙ c .before .before .before .before .before .before .before .before .before .before .before .enter-flex .ensures .1 .groups))
+    (ends-done _ _ _ _ _ _ _ ((whole-told (c .before .before .before .before .before .before .before .before .before .before .before .before .before .before .before .before .before .before .before .before .before .before .args .st .flexing) (c .before .before .before .before .before .before .before .before .before .before .before .before .before .before .before .before .before .before .before .before .before .before .args .st .points) (sym (c .before .before .before .before .before .before .before .before .before .before .before .before .before .before .before .before .before .before .before .before .is-whole-flex .ensures) ∙ not-false _ (c .before .before .before .before .before .before .before .before .before .before .before .before .before .before .before .before .before .before .before .if1 .left))) .0) ((whole-told (c .before .before .before .before .before .before .before .before .before .before .before .before .before .before .before .before .before .before .before .before .before .before .args .st .flexing) (c .before .before .before .before .before .before .before .before .before .before .before .before .before .before .before .before .before .before .before .before .before .before .args .st .points) (sym (c .before .before .before .before .before .before .before .before .before .before .before .before .before .before .before .before .before .before .before .before .is-whole-flex .ensures) ∙ not-false _ (c .before .before .before .before .before .before .before .before .before .before .before .before .before .before .before .before .before .before .before .if1 .left))) .1) _ _ (c .before .before .before .before .before .before .before .before .before .before .before .before .before .before .before .before .before .commit .ensures .0) (c .before .before .before .before .before .before .before .before .before .before .before .before .before .if2 .left) (c .before .before .before .before .before .before .before .before .before .before .before .before .before .before .before .before .cmds .given) _ _ (c .before .before .before .before .before .before .before .before .before .before .before .list-flex .ensures .0) (c .before .before .before .before .before .before .before .before .before .before .before .list-flex .ensures .1 .groups) (c .before .before .before .before .before .before .before .if3 .left) _ (c .made3 .ensures) (c .before .before .before .before .before .if4 .left), flex-space (c .before .before .before .before .before .before .before .before .before .before .before .before .before .before .before .before .before .before .before .before .before .before .args .st) _ (c .made3 .result .st) _ (c .before .before .before .before .before .before .before .before .before .before .before .before .before .before .before .before .before .commit .ensures .1 .0) (ap (λ (q : Ran). q .st .groups) (c .made3 .ensures) ∙ c .before .before .before .before .before .before .before .before .before .before .before .list-flex .ensures .1 .groups))
 
 pub end-flex-spec : {M : Type 1} → statement M
 end-flex-spec =
@@ -105,7 +99,7 @@ end-flex-spec =
     commit-requires
     same-length
     returns-2
-    enter-flex-requires
+    list-flex-requires
     same-length-2
     returns-3
     made-requires-2

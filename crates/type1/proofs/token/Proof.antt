@@ -16,206 +16,168 @@ abbrev μ-loop : tie.MeasureT-loop
 μ-loop code from start encrypted st ops₀ cmds₀ i₀ key₀ n₀ x₀ y₀ entries₀ opened₀ ops cmds i key n x y entries opened =
     length code - i
 
--- src/lib.rt:518:5
 loop-holds : tie.Need-loop-holds Inv-loop μ-loop
 loop-holds c =
     begins _ _ _ _ _ _ _ (omega arith) (c .before .before .pre .0) (c .before .before .pre .1 .0) (c .before .before .pre .1 .1)
 
--- src/lib.rt:519:17
 shared-slice-read-c : tie.Need-shared-slice-read-c Inv-loop μ-loop
 shared-slice-read-c c = search needs
 
--- src/lib.rt:520:13
 byte-of-requires : tie.Need-byte-of-requires Inv-loop μ-loop
 byte-of-requires c κs = search needs
 
--- src/lib.rt:521:13
 next-key-requires : tie.Need-next-key-requires Inv-loop μ-loop
 next-key-requires c κs = search needs
 
--- src/lib.rt:526:17
 add-i : tie.Need-add-i Inv-loop μ-loop
 add-i c =
     omega arith
 
--- src/lib.rt:518:5
 loop-less : tie.Need-loop-less Inv-loop μ-loop
 loop-less c =
     omega arith
 
--- src/lib.rt:518:5
 loop-again : tie.Need-loop-again Inv-loop μ-loop
 loop-again c =
-    closed _ _ _ _ _ _ _ _ _ _ _ _ _ _ _ _ (c .before .before .before .before .before .before .loop .inv) _ _ _ (search needs) refl (c .before .before .before .byte-of .ensures) (c .before .before .next-key .ensures) (c .if2 .taken)
+    closed _ _ _ _ _ _ _ _ _ _ _ _ _ _ _ _ (c .before .before .before .before .before .before .loop .inv) _ _ _ (search needs) refl (c .before .before .before .byte-of .ensures) (c .next-key .ensures) (c .before .if2 .taken)
 
--- src/lib.rt:529:21
+next-key-requires-2 : tie.Need-next-key-requires-2 Inv-loop μ-loop
+next-key-requires-2 c κs = search needs
+
 is-quick-requires : tie.Need-is-quick-requires Inv-loop μ-loop
 is-quick-requires c κs = search needs
 
--- src/lib.rt:530:46
 add-operator-at : tie.Need-add-operator-at Inv-loop μ-loop
 add-operator-at c =
     omega arith
 
--- src/lib.rt:530:70
 place-requires : tie.Need-place-requires Inv-loop μ-loop
 place-requires c κs = search needs
 
--- src/lib.rt:530:21
 operator-at-requires : tie.Need-operator-at-requires Inv-loop μ-loop
 operator-at-requires c κs =
-    (c .before .before .before .before .if1 .taken, omega arith)
+    (c .before .before .before .before .before .if1 .taken, omega arith)
 
--- src/lib.rt:530:21
 same-length : tie.Need-same-length Inv-loop μ-loop
 same-length c = search needs
 
--- src/lib.rt:530:21
 returns : tie.Need-returns Inv-loop μ-loop
 returns c =
-    at-operator _ _ _ _ _ _ _ _ _ _ _ _ _ _ _ _ (c .before .before .before .before .before .before .before .before .before .before .loop .inv) _ _ _ (search needs) refl (c .before .before .before .before .before .before .before .byte-of .ensures) (c .before .before .before .before .before .before .next-key .ensures) _ _ _ refl (c .before .place .ensures) (c .operator-at .ensures)
+    at-operator _ _ _ _ _ _ _ _ _ _ _ _ _ _ _ _ (c .before .before .before .before .before .before .before .before .before .before .loop .inv) _ _ _ (search needs) refl (c .before .before .before .before .before .before .before .byte-of .ensures) (c .before .before .before .before .next-key2 .ensures) _ _ _ refl (c .before .place .ensures) (c .operator-at .ensures)
 
--- src/lib.rt:532:21
 draw-requires : tie.Need-draw-requires Inv-loop μ-loop
 draw-requires c κs =
     (c .before .before .before .before .before .before .before .before .before .before .loop .inv .few, c .before .before .before .before .before .before .before .before .before .before .loop .inv .space)
 
--- src/lib.rt:534:46
 add-operator-at-2 : tie.Need-add-operator-at-2 Inv-loop μ-loop
 add-operator-at-2 c =
     omega arith
 
--- src/lib.rt:534:70
 place-requires-2 : tie.Need-place-requires-2 Inv-loop μ-loop
 place-requires-2 c κs = search needs
 
--- src/lib.rt:534:21
 operator-at-requires-2 : tie.Need-operator-at-requires-2 Inv-loop μ-loop
 operator-at-requires-2 c κs =
-    (c .before .before .before .before .before .before .before .before .before .before .before .if1 .taken, omega arith)
+    (c .before .before .before .before .before .before .before .before .before .before .before .before .if1 .taken, omega arith)
 
--- src/lib.rt:534:21
 same-length-2 : tie.Need-same-length-2 Inv-loop μ-loop
 same-length-2 c =
     c .before .before .before .before .before .before .draw .ensures .same ∙ c .before .before .before .before .before .before .before .before .before .before .before .before .before .before .before .before .before .loop .inv .whole
 
--- src/lib.rt:534:21
 returns-2 : tie.Need-returns-2 Inv-loop μ-loop
 returns-2 c =
-    at-operator _ _ _ _ _ _ _ _ _ _ _ _ _ _ _ _ (c .before .before .before .before .before .before .before .before .before .before .before .before .before .before .before .before .before .loop .inv) _ _ _ (search needs) refl (c .before .before .before .before .before .before .before .before .before .before .before .before .before .before .byte-of .ensures) (c .before .before .before .before .before .before .before .before .before .before .before .before .before .next-key .ensures) _ _ _ (c .before .before .before .before .before .before .draw .ensures .none (not-true _ (c .before .before .if4 .taken))) (c .before .place2 .ensures) (c .operator-at2 .ensures)
+    at-operator _ _ _ _ _ _ _ _ _ _ _ _ _ _ _ _ (c .before .before .before .before .before .before .before .before .before .before .before .before .before .before .before .before .before .loop .inv) _ _ _ (search needs) refl (c .before .before .before .before .before .before .before .before .before .before .before .before .before .before .byte-of .ensures) (c .before .before .before .before .before .before .before .before .before .before .before .next-key2 .ensures) _ _ _ (c .before .before .before .before .before .before .draw .ensures .none (not-true _ (c .before .before .if4 .taken))) (c .before .place2 .ensures) (c .operator-at2 .ensures)
 
--- src/lib.rt:539:17
 add-entries : tie.Need-add-entries Inv-loop μ-loop
 add-entries c =
     omega (arith, c .before .before .before .before .draw .ensures .space (not-false _ (c .if4 .left)))
 
--- src/lib.rt:540:17
 add-i-2 : tie.Need-add-i-2 Inv-loop μ-loop
 add-i-2 c =
     omega arith
 
--- src/lib.rt:518:5
 loop-less-2 : tie.Need-loop-less-2 Inv-loop μ-loop
 loop-less-2 c =
     omega arith
 
--- src/lib.rt:518:5
 loop-again-2 : tie.Need-loop-again-2 Inv-loop μ-loop
 loop-again-2 c =
-    listed _ _ _ _ _ _ _ _ _ _ _ _ _ _ _ _ (c .before .before .before .before .before .before .before .before .before .before .before .before .before .before .before .loop .inv) _ _ _ (search needs) refl (c .before .before .before .before .before .before .before .before .before .before .before .before .byte-of .ensures) (c .before .before .before .before .before .before .before .before .before .before .before .next-key .ensures) _ _ (quick-is (c .before .before .before .before .before .before .before .before .before .before .before .before .before .before .before .before .before .before .args .st .changed) _ _ (c .before .before .before .before .before .before .before .before .is-quick .ensures) (not-false _ (c .before .before .before .before .before .before .before .if3 .left)) .0) (quick-is (c .before .before .before .before .before .before .before .before .before .before .before .before .before .before .before .before .before .before .args .st .changed) _ _ (c .before .before .before .before .before .before .before .before .is-quick .ensures) (not-false _ (c .before .before .before .before .before .before .before .if3 .left)) .1) (c .before .before .before .before .before .before .before .before .before .before .if1 .taken) (c .before .before .before .before .draw .ensures) (not-false _ (c .if4 .left))
+    listed _ _ _ _ _ _ _ _ _ _ _ _ _ _ _ _ (c .before .before .before .before .before .before .before .before .before .before .before .before .before .before .before .loop .inv) _ _ _ (search needs) refl (c .before .before .before .before .before .before .before .before .before .before .before .before .byte-of .ensures) (c .before .before .before .before .before .before .before .before .before .next-key2 .ensures) _ _ (quick-is (c .before .before .before .before .before .before .before .before .before .before .before .before .before .before .before .before .before .before .args .st .changed) _ _ (c .before .before .before .before .before .before .before .before .is-quick .ensures) (not-false _ (c .before .before .before .before .before .before .before .if3 .left)) .0) (quick-is (c .before .before .before .before .before .before .before .before .before .before .before .before .before .before .before .before .before .before .args .st .changed) _ _ (c .before .before .before .before .before .before .before .before .is-quick .ensures) (not-false _ (c .before .before .before .before .before .before .before .if3 .left)) .1) (c .before .before .before .before .before .before .before .before .before .before .before .if1 .taken) (c .before .before .before .before .draw .ensures) (not-false _ (c .if4 .left))
 
--- src/lib.rt:544:37
+next-key-requires-3 : tie.Need-next-key-requires-3 Inv-loop μ-loop
+next-key-requires-3 c κs = search needs
+
 add-number-at : tie.Need-add-number-at Inv-loop μ-loop
 add-number-at c =
     omega arith
 
--- src/lib.rt:544:17
 number-at-requires : tie.Need-number-at-requires Inv-loop μ-loop
 number-at-requires c κs =
-    (c .if1 .left, omega arith)
+    (c .before .if1 .left, omega arith)
 
--- src/lib.rt:546:30
 place-requires-3 : tie.Need-place-requires-3 Inv-loop μ-loop
 place-requires-3 c κs = search needs
 
--- src/lib.rt:546:67
 add-found : tie.Need-add-found Inv-loop μ-loop
 add-found c =
     omega arith
 
--- src/lib.rt:546:17
 found-requires : tie.Need-found-requires Inv-loop μ-loop
 found-requires c κs = search needs
 
--- src/lib.rt:546:17
 same-length-3 : tie.Need-same-length-3 Inv-loop μ-loop
 same-length-3 c =
     c .before .before .before .before .before .before .before .before .before .loop .inv .whole
 
--- src/lib.rt:546:17
 returns-3 : tie.Need-returns-3 Inv-loop μ-loop
 returns-3 c =
-    at-cut _ _ _ _ _ _ _ _ _ _ _ _ _ _ _ _ (c .before .before .before .before .before .before .before .before .before .loop .inv) _ _ _ (search needs) refl (c .before .before .before .before .before .before .byte-of .ensures) (c .before .before .before .before .before .next-key .ensures) _ (c .before .before .before .number-at .ensures) _ _ (c .before .before .if5 .taken) (c .before .place3 .ensures) (c .found .ensures)
+    at-cut _ _ _ _ _ _ _ _ _ _ _ _ _ _ _ _ (c .before .before .before .before .before .before .before .before .before .loop .inv) _ _ _ (search needs) refl (c .before .before .before .before .before .before .byte-of .ensures) (c .before .before .before .before .next-key3 .ensures) _ (c .before .before .before .number-at .ensures) _ _ (c .before .before .if5 .taken) (c .before .place3 .ensures) (c .found .ensures)
 
--- src/lib.rt:549:30
 place-requires-4 : tie.Need-place-requires-4 Inv-loop μ-loop
 place-requires-4 c κs = search needs
 
--- src/lib.rt:549:67
 add-found-2 : tie.Need-add-found-2 Inv-loop μ-loop
 add-found-2 c =
     omega arith
 
--- src/lib.rt:549:17
 found-requires-2 : tie.Need-found-requires-2 Inv-loop μ-loop
 found-requires-2 c κs = search needs
 
--- src/lib.rt:549:17
 same-length-4 : tie.Need-same-length-4 Inv-loop μ-loop
 same-length-4 c =
     c .before .before .before .before .before .before .before .before .before .before .loop .inv .whole
 
--- src/lib.rt:549:17
 returns-4 : tie.Need-returns-4 Inv-loop μ-loop
 returns-4 c =
-    at-full _ _ _ _ _ _ _ _ _ _ _ _ _ _ _ _ (c .before .before .before .before .before .before .before .before .before .before .loop .inv) _ _ _ (search needs) refl (c .before .before .before .before .before .before .before .byte-of .ensures) (c .before .before .before .before .before .before .next-key .ensures) _ (c .before .before .before .before .number-at .ensures) _ _ (c .before .before .before .if5 .left) (c .before .before .if6 .taken) (c .before .place4 .ensures) (c .found2 .ensures)
+    at-full _ _ _ _ _ _ _ _ _ _ _ _ _ _ _ _ (c .before .before .before .before .before .before .before .before .before .before .loop .inv) _ _ _ (search needs) refl (c .before .before .before .before .before .before .before .byte-of .ensures) (c .before .before .before .before .before .next-key3 .ensures) _ (c .before .before .before .before .number-at .ensures) _ _ (c .before .before .before .if5 .left) (c .before .before .if6 .taken) (c .before .place4 .ensures) (c .found2 .ensures)
 
--- src/lib.rt:551:13
 mul-ops : tie.Need-mul-ops Inv-loop μ-loop
 mul-ops c = search needs
 
--- src/lib.rt:551:13
 element-write-ops : tie.Need-element-write-ops Inv-loop μ-loop
 element-write-ops c = search needs
 
--- src/lib.rt:552:13
 add-n : tie.Need-add-n Inv-loop μ-loop
 add-n c =
     omega (arith, c .before .before .before .before .before .before .before .before .loop .inv .few)
 
--- src/lib.rt:518:5
 loop-less-3 : tie.Need-loop-less-3 Inv-loop μ-loop
 loop-less-3 c =
     omega (arith, c .before .before .number-at .ensures .on .0, c .before .before .number-at .ensures .on .1)
 
--- src/lib.rt:518:5
 loop-again-3 : tie.Need-loop-again-3 Inv-loop μ-loop
 loop-again-3 c =
-    pushed _ _ _ _ _ _ _ _ _ _ _ _ _ _ _ _ (c .before .before .before .before .before .before .before .before .loop .inv) _ _ _ (search needs) refl (c .before .before .before .before .before .byte-of .ensures) (c .before .before .before .before .next-key .ensures) _ (c .before .before .number-at .ensures) (c .before .if5 .left) (c .if6 .left) (omega arith)
+    pushed _ _ _ _ _ _ _ _ _ _ _ _ _ _ _ _ (c .before .before .before .before .before .before .before .before .loop .inv) _ _ _ (search needs) refl (c .before .before .before .before .before .byte-of .ensures) (c .before .before .before .next-key3 .ensures) _ (c .before .before .number-at .ensures) (c .before .if5 .left) (c .if6 .left) (omega arith)
 
--- src/lib.rt:557:11
 place-requires-5 : tie.Need-place-requires-5 Inv-loop μ-loop
 place-requires-5 c κs = search needs
 
--- src/lib.rt:557:5
 found-requires-3 : tie.Need-found-requires-3 Inv-loop μ-loop
 found-requires-3 c κs = search needs
 
--- src/lib.rt:499:1
 same-length-5 : tie.Need-same-length-5 Inv-loop μ-loop
 same-length-5 c = search needs
 
--- src/lib.rt:499:1
 returns-5 : tie.Need-returns-5 Inv-loop μ-loop
 returns-5 c =
     at-end _ _ _ _ _ _ _ _ _ _ _ _ _ _ _ _ (c .before .before .before .loop .inv) _ _ (search needs) (c .before .before .before .before .before .before .pre .0) (c .before .place5 .ensures) (c .found3 .ensures)
@@ -233,6 +195,7 @@ token-spec =
     add-i
     loop-less
     loop-again
+    next-key-requires-2
     is-quick-requires
     add-operator-at
     place-requires
@@ -249,6 +212,7 @@ token-spec =
     add-i-2
     loop-less-2
     loop-again-2
+    next-key-requires-3
     add-number-at
     number-at-requires
     place-requires-3
