@@ -684,7 +684,7 @@ fn enter_flex(
     requires { ⌜ Small.GoodPoint p4 × (Small.GoodPoint p5 × Small.GoodPoint p6) ⌝ }
     requires { ⌜ T (finite height) ⌝ }
     ensures { λ r. ⌜ ((m : Mem) (s : State.State) (room : ℕ) → Holds st (withCmds (now (cmds .entry)) m) s →
-        Meets r (withCmds (now (cmds .exit)) m) (Run.enter (within room (length (now (cmds .entry)))) (State.flex p1 p2 p3 p4 p5 p6 height) s)) ⌝ }
+        Meets r (withCmds (now (cmds .exit)) m) (Run.enter (within room (length (now (cmds .entry)))) (Outline.flex p1 p2 p3 p4 p5 p6 height) s)) ⌝ }
     ensures { λ r. ⌜ Plain st (r .st) ⌝ }
 {
     let k = st.entries;
