@@ -50,7 +50,8 @@ use Rattle.outline.proofs.Stem.Laws as T′
 use Rattle.type1.proofs.Lent.{at-list, Own, lend}
 use Rattle.type1.proofs.LentWith.{returned}
 use Rattle.type1.proofs.Leaving.{filled, bare, leave}
-use Rattle.type1.proofs.Many.{asks-all, guards}
+use Rattle.type1.proofs.Many.{asks-all}
+use Rattle.outline.proofs.Steps.{guards}
 use Rattle.type1.proofs.Locals.{word, sF, sA, tS, so-is, machT}
 use Rattle.outline.specs.Outline.{sameStem, sameStems, zeroStem}
 use Rattle.hints.specs.Hints.{stemAt}

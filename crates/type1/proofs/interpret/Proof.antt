@@ -58,7 +58,8 @@ use Rattle.type1.proofs.Interpreted.Laws as I′
 use Rattle.type1.proofs.Leaving.{filled, bare, leave}
 use Rattle.type1.proofs.Lent.{at-list, Own, lend}
 use Rattle.type1.proofs.LentWith.{returned}
-use Rattle.type1.proofs.Many.{at-one, OwnR, lend-ref, returned-ref, lend-shr, returned-shr, asks-all, guards}
+use Rattle.type1.proofs.Many.{at-one, OwnR, lend-ref, returned-ref, lend-shr, returned-shr, asks-all}
+use Rattle.outline.proofs.Steps.{guards}
 use Rattle.type1.proofs.Locals.{word, byte, machS, machN, machI, machY}
 use Rattle.outline.specs.Outline.{zeroStem}
 use Rattle.type1.specs.Memory.{Meets}

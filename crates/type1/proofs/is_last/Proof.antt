@@ -49,7 +49,8 @@ use Rattle.type1.proofs.St.Laws as S′
 use Rattle.type1.proofs.Lent.{at-list, Own, lend}
 use Rattle.type1.proofs.LentWith.{returned}
 use Rattle.type1.proofs.Leaving.{filled, bare, leave}
-use Rattle.type1.proofs.Many.{asks-all, guards}
+use Rattle.type1.proofs.Many.{asks-all}
+use Rattle.outline.proofs.Steps.{guards}
 use Rattle.type1.proofs.Locals.{word, machS}
 use Rattle.outline.specs.Outline.{sameStems}
 use Rattle.type1.specs.Memory.{stemsAt}

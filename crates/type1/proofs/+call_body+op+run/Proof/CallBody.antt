@@ -57,7 +57,8 @@ use Rattle.type1.proofs.Called.Laws as D′
 use Rattle.type1.proofs.Lent.{at-list, Own, lend}
 use Rattle.type1.proofs.LentWith.{returned}
 use Rattle.type1.proofs.Leaving.{filled, bare, leave}
-use Rattle.type1.proofs.Many.{at-one, OwnR, lend-ref, returned-ref, lend-shr, returned-shr, asks-all, guards}
+use Rattle.type1.proofs.Many.{at-one, OwnR, lend-ref, returned-ref, lend-shr, returned-shr, asks-all}
+use Rattle.outline.proofs.Steps.{guards}
 use Rattle.type1.proofs.Locals.{tB, machS, machN, machD, machY}
 use Rattle.bank.specs.Bank.{Valid, bytesAt, found}
 use Rattle.type1.specs.State.{State}

@@ -54,7 +54,8 @@ use Rattle.type1.proofs.Ran.Laws as N′
 use Rattle.type1.proofs.Lent.{at-list, Own, lend}
 use Rattle.type1.proofs.LentWith.{returned}
 use Rattle.type1.proofs.Leaving.{filled, bare, leave}
-use Rattle.type1.proofs.Many.{at-one, OwnR, lend-ref, returned-ref, lend-shr, returned-shr, asks-all, asks-two, guards}
+use Rattle.type1.proofs.Many.{at-one, OwnR, lend-ref, returned-ref, lend-shr, returned-shr, asks-all, asks-two}
+use Rattle.outline.proofs.Steps.{guards}
 use Rattle.type1.proofs.Locals.{word, half, tB, tF, tA, sF, sA, tU, tS, machS, machN, machY}
 use Rattle.bank.specs.Bank.{Valid}
 use Rattle.outline.specs.Outline.{sameStems}

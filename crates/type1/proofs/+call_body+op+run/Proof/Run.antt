@@ -61,7 +61,8 @@ use Rattle.type1.proofs.Begun.Laws as B′
 use Rattle.type1.proofs.Lent.{at-list, Own, lend}
 use Rattle.type1.proofs.LentWith.{returned}
 use Rattle.type1.proofs.Leaving.{filled, bare, leave}
-use Rattle.type1.proofs.Many.{at-one, OwnR, lend-ref, returned-ref, asks-all, guards}
+use Rattle.type1.proofs.Many.{at-one, OwnR, lend-ref, returned-ref, asks-all}
+use Rattle.outline.proofs.Steps.{guards}
 use Rattle.type1.proofs.Locals.{word, byte, half, tB, tF, tA, tU, tS, so-is, machS, machK, machN, machB, machY}
 use Rattle.charstring.specs.Cipher.{Bytes}
 use Rattle.charstring.specs.Cursor.{start}
