@@ -23,7 +23,7 @@ use denote.Steps.{owned, nothing}
 use denote.Struct.Laws as LL
 use denote.Triple.Spec.{tripleOf}
 use denote.Triple.Statement.{Contract, Triple}
-use Rattle.type1.specs.declared.Stem.{Stem}
+use Rattle.outline.specs.declared.Stem.{Stem}
 use Rattle.type1.specs.Interpret.{sourceOf}
 use Rattle.type1.proofs.Locals.{machY}
 use Rattle.type1.specs.declared.Reading.{Reading}
@@ -32,7 +32,7 @@ use Rattle.type1.proofs.Reading.Laws as Y′
 use Rattle.geometry.specs.declared.Matrix.{Matrix}
 use Rattle.type1_to_type2.specs.declared.Type2Glyph.{Type2Glyph}
 use Rattle.type2.specs.declared.Widths.{Widths}
-use Rattle.type1.proofs.Stem as T
+use Rattle.outline.proofs.Stem as T
 use Rattle.geometry.proofs.Matrix as Z
 use Rattle.geometry.proofs.Matrix.Laws as Z′
 use Rattle.type1_to_type2.proofs.Type2Glyph as G

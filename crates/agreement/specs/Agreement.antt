@@ -24,11 +24,11 @@ use Rattle.type2.specs.Instruction.{numbers, bytes, allFine}
 use Rattle.renderer.specs.Machine as Machine
 use Rattle.renderer.specs.Machine.{machine}
 use Rattle.type2.specs.Bools.{and-both}
-use Rattle.folding.specs.Folding.{foldOf, foldedList, foldedGroups, foldedWidth, foldsFinite, finiteList, finiteGroups}
+use Rattle.folding.specs.Folding.{foldOf, foldedList, foldedGroups, foldedWidth, finiteList, finiteGroups}
 use Rattle.type1_to_type2.specs.Stems.{stemsOf}
 use Rattle.type1_to_type2.specs.Emission.{pointsOf, program}
 use Rattle.type1_to_type2.specs.Writing.{wrote}
-use Rattle.type1_to_type2.specs.Convert.{Glyph, Rooms, converted, instructions, convert}
+use Rattle.type1_to_type2.specs.Convert.{foldsFinite, Glyph, Rooms, converted, instructions, convert}
 use Rattle.type2.specs.declared.Widths.{Widths}
 use Rattle.agreement.specs.Finished.{withProgram}
 use Rattle.type1_to_type2.specs.Finish.{widthFor, first, finish}

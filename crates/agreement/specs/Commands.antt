@@ -7,8 +7,8 @@ use mathlib.Core.Bool.{Bool, true, false, not, cond}
 use mathlib.Core.List.{List, [], _∷_, _++_, append-nil}
 use lib.ListN.{length}
 use lib.Dec.{T, eqb, eqb→eq}
-use Rattle.type1.specs.declared.Stem.{Stem}
-use Rattle.type1.specs.State.{Command, move, line, curve, flex, Group}
+use Rattle.outline.specs.declared.Stem.{Stem}
+use Rattle.outline.specs.Outline.{Command, move, line, curve, flex, Group}
 use Rattle.type1.specs.Sound.{All, Rising, points}
 use Rattle.type1.specs.Sound as Sound
 use Rattle.renderer.specs.Machine.{Mask}

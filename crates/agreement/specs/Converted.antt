@@ -8,18 +8,19 @@ use mathlib.Core.List.{List}
 use Rattle.bank.specs.Bank.{valid}
 use Rattle.geometry.specs.declared.Matrix.{Matrix}
 use Rattle.type1.specs.declared.Reading.{Reading}
+use Rattle.outline.specs.Outline.{pick}
 use Rattle.type1.specs.State.{State, start}
 use Rattle.type1.specs.Run as Run
-use Rattle.type1.specs.Run.{Outcome, going, returning, ending, Limits, within, Font, check, pick}
+use Rattle.type1.specs.Run.{Outcome, going, returning, ending, Limits, within, Font, check}
 use Rattle.type1.specs.Interpret.{Source, runOf, outcome}
 use Rattle.type1.specs.Sound.{Ends, LimitOr}
 use Rattle.type1.specs.Outcomes.{ends-going, ends-ending}
 use Rattle.type1.specs.Invariants.{run-not-returning}
 use Rattle.type1.specs.Limited.{within-limiting, run-limited, limited-going, limited-ending}
-use Rattle.folding.specs.Folding.{finiteMatrix, foldedWidth, foldsFinite}
+use Rattle.folding.specs.Folding.{finiteMatrix, foldedWidth}
 use Rattle.type1_to_type2.specs.Writing as Writing
 use Rattle.type1_to_type2.specs.Writing.{Written, wrote, write}
-use Rattle.type1_to_type2.specs.Convert.{Glyph, glyphOf, Rooms, refused, converted, instructions, writes, folded, ended, convert}
+use Rattle.type1_to_type2.specs.Convert.{foldsFinite, Glyph, glyphOf, Rooms, refused, converted, instructions, writes, folded, ended, convert}
 use Rattle.agreement.specs.Demand3.{unlimitedRun}
 use Rattle.agreement.specs.Simulation.{OutcomeIs, Unrefused, Folds}
 

@@ -10,11 +10,11 @@ use lib.Ieee.{Float, binary64}
 use Rattle.binary64.specs.Value.{pl, mi}
 use Rattle.geometry.specs.declared.Point.{Point}
 use Rattle.geometry.specs.declared.Matrix.{Matrix}
-use Rattle.type1.specs.declared.Stem.{Stem}
+use Rattle.outline.specs.declared.Stem.{Stem}
 use Rattle.type1.specs.declared.Reading.{Reading}
 use Rattle.type1.specs.Interpret.{Source, runOf}
 use Rattle.type1.specs.State as State
-use Rattle.type1.specs.State.{Command, Group}
+use Rattle.outline.specs.Outline.{Command, Group}
 use Rattle.type1.specs.Run as Run
 use Rattle.type1.specs.Sound.{All}
 use Rattle.type2.specs.Number.{zp, zm, Is}

@@ -4,10 +4,10 @@ use mathlib.Core.Path.{_≡_}
 use mathlib.Core.List.{List}
 use lib.ListN.{length, replicate, take}
 use Rattle.geometry.specs.declared.Matrix.{Matrix}
-use Rattle.type1.specs.declared.Stem.{Stem}
+use Rattle.outline.specs.declared.Stem.{Stem}
 use Rattle.type1.specs.declared.Reading.{Reading}
 use Rattle.type1.specs.Interpret.{Source}
-use Rattle.type1.specs.Small.{zeroStem}
+use Rattle.outline.specs.Outline.{zeroStem}
 use Rattle.type1_to_type2.specs.declared.Type2Glyph.{Type2Glyph}
 use Rattle.type1_to_type2.specs.Convert.{Glyph, Conversion, refused, converted, writes, Rooms, convert, answer, output}
 use Rattle.type1_to_type2.specs.Finish.{finish}

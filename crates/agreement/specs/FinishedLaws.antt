@@ -7,7 +7,7 @@ use lib.ListN.{length, replicate, take}
 use lib.Seq.{take-append-seam}
 use Rattle.charstring.specs.Cipher.{Bytes}
 use Rattle.geometry.specs.declared.Matrix.{Matrix}
-use Rattle.type1.specs.declared.Stem.{Stem}
+use Rattle.outline.specs.declared.Stem.{Stem}
 use Rattle.type1.specs.declared.Reading.{Reading}
 use Rattle.type1.specs.Interpret.{Source}
 use Rattle.type1_to_type2.specs.declared.Type2Glyph.{Type2Glyph}

@@ -15,8 +15,8 @@ use Rattle.geometry.specs.declared.Point.{Point}
 use Rattle.geometry.specs.declared.Matrix.{Matrix}
 use Rattle.folding.specs.declared.Fold.{Fold}
 use Rattle.geometry.specs.Transform as Transform
-use Rattle.type1.specs.declared.Stem.{Stem}
-use Rattle.type1.specs.State.{Command, move, line, curve, flex, Group}
+use Rattle.outline.specs.declared.Stem.{Stem}
+use Rattle.outline.specs.Outline.{Command, move, line, curve, flex, Group}
 use Rattle.type1.specs.Memory.{Good}
 use Rattle.type1.specs.Sound as Sound
 use Rattle.type1.specs.Sound.{All, OfPoint, OfCommand, Rising, points}

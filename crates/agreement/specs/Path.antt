@@ -17,8 +17,8 @@ use Rattle.type2.specs.Signed.{add-bal, one-sided}
 use Rattle.renderer.specs.Operators.{acted}
 use Rattle.geometry.specs.declared.Point.{Point}
 use Rattle.renderer.specs.Machine as Machine
-use Rattle.type1.specs.declared.Stem.{Stem}
-use Rattle.type1.specs.State.{Command, move, line, curve, flex}
+use Rattle.outline.specs.declared.Stem.{Stem}
+use Rattle.outline.specs.Outline.{Command, move, line, curve, flex}
 use Rattle.type1_to_type2.specs.Stems.{maskOf}
 use Rattle.type2.specs.Path.{delta}
 use Rattle.type1_to_type2.specs.Emission.{kindOf, pointsOf, heightOf, follow, deltas, arrives, go, Cmd, hints, shape, items}

@@ -16,8 +16,8 @@ use Rattle.type2.specs.Instruction.{Instr, instr, bytes, fine, allFine}
 use Rattle.type2.specs.Bools.{and-both}
 use Rattle.renderer.specs.Operators.{Ready, settledWith, widthOf, numbers-run, operands-run, stem-run}
 use Rattle.renderer.specs.Machine as Machine
-use Rattle.type1.specs.declared.Stem.{Stem}
-use Rattle.type1.specs.State.{plusZero, origin}
+use Rattle.outline.specs.declared.Stem.{Stem}
+use Rattle.outline.specs.Outline.{plusZero, origin}
 use Rattle.type1_to_type2.specs.Stems.{Declared, stemsOf}
 use Rattle.type1_to_type2.specs.Emission.{idle, pack, pair, secondEdge, stemsFrom, items, Cmd, program}
 use Rattle.type1_to_type2.specs.Finish.{first}

@@ -13,13 +13,13 @@ use lib.Ieee.Scale.{finite}
 use Rattle.binary64.specs.Value.{Multiple, Whole}
 use Rattle.geometry.specs.declared.Point.{Point}
 use Rattle.geometry.specs.declared.Matrix.{Matrix}
-use Rattle.type1.specs.declared.Stem.{Stem}
+use Rattle.outline.specs.declared.Stem.{Stem}
 use Rattle.type1.specs.declared.Reading.{Reading}
 use Rattle.type1.specs.Interpret.{Source}
 use Rattle.type1.specs.State as Type1
 use Rattle.type1.specs.Memory as Type1Memory
+use Rattle.outline.specs.Outline.{Command, Group}
 use Rattle.type1.specs.Run.{Outcome, going, ending}
-use Rattle.type1.specs.State.{Command, Group}
 use Rattle.type2.specs.Number.{zp, zm, units, Is}
 use Rattle.type2.specs.Instruction.{Instr, numbers, bytes, fine, allFine}
 use Rattle.renderer.specs.Machine as Machine
@@ -28,10 +28,10 @@ use Rattle.renderer.specs.Machine.{Entry, Mask, State, Step, fault, stop, on, w
 use Rattle.renderer.specs.Operators.{Ready, settledWith, acted}
 use Rattle.type1_to_type2.specs.Stems.{Declared, stemsOf, maskOf}
 use Rattle.type1_to_type2.specs.Emission.{program, commands, pack, deltas, arrives, pointsOf, Cmd, hints, shape, Item, mask, go, Waiting, idle, held, flush}
-use Rattle.folding.specs.Folding.{foldOf, foldedList, foldedGroups, foldedWidth, foldsFinite}
+use Rattle.folding.specs.Folding.{foldOf, foldedList, foldedGroups, foldedWidth}
 use Rattle.type1_to_type2.specs.Writing as Writing
 use Rattle.type1_to_type2.specs.Writing.{write}
-use Rattle.type1_to_type2.specs.Convert.{Glyph, instructions}
+use Rattle.type1_to_type2.specs.Convert.{foldsFinite, Glyph, instructions}
 use Rattle.type1_to_type2.specs.Finish.{first}
 use Rattle.agreement.specs.Demand3.{unlimitedRun, Near, SamePoint, SamePoints, SameDrawing}
 

@@ -28,12 +28,12 @@ use denote.Struct.Laws as LL
 use denote.Triple.Spec.{tripleOf}
 use denote.Triple.Statement.{Contract, Triple}
 use denote.Triple.Walked.{says}
-use Rattle.type1.specs.declared.Stem.{Stem}
+use Rattle.outline.specs.declared.Stem.{Stem}
 use Rattle.type1.specs.declared.Reading.{Reading}
 use Rattle.geometry.specs.declared.Matrix.{Matrix}
 use Rattle.type1_to_type2.specs.declared.Type2Glyph.{Type2Glyph}
 use Rattle.type2.specs.declared.Widths.{Widths}
-use Rattle.type1.proofs.Stem as T
+use Rattle.outline.proofs.Stem as T
 use Rattle.type1.proofs.Reading as Y
 use Rattle.type1.proofs.Reading.Laws as Y′
 use Rattle.geometry.proofs.Matrix as Z

@@ -6,7 +6,7 @@ use lib.ListN.{length, getD}
 use lib.Ieee.{Float, nan, binary64, toBits}
 use Rattle.charstring.specs.declared.Decrypted.{Decrypted}
 use Rattle.geometry.specs.declared.Matrix.{Matrix}
-use Rattle.type1.specs.declared.Stem.{Stem}
+use Rattle.outline.specs.declared.Stem.{Stem}
 use Rattle.type1.specs.declared.Reading.{Reading}
 use Rattle.type1.specs.Interpret.{Source}
 use Rattle.type1_to_type2.specs.declared.Type2Glyph.{Type2Glyph}

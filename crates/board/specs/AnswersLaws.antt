@@ -8,17 +8,18 @@ use lib.Dec.{T}
 use lib.Ieee.{Float}
 use lib.Ieee.Scale.{finite}
 use Rattle.geometry.specs.declared.Matrix.{Matrix}
-use Rattle.type1.specs.declared.Stem.{Stem}
+use Rattle.outline.specs.declared.Stem.{Stem}
 use Rattle.type1.specs.declared.Reading.{Reading}
+use Rattle.outline.specs.Outline.{pick}
 use Rattle.type1.specs.State.{State}
 use Rattle.type1.specs.Run as Run
-use Rattle.type1.specs.Run.{Outcome, pick}
+use Rattle.type1.specs.Run.{Outcome}
 use Rattle.type1.specs.Interpret.{Source, outcome}
 use Rattle.type1_to_type2.specs.declared.Type2Glyph.{Type2Glyph}
-use Rattle.folding.specs.Folding.{finiteMatrix, foldOf, foldedList, foldedGroups, foldedWidth, finiteList, finiteGroups, foldsFinite}
+use Rattle.folding.specs.Folding.{finiteMatrix, foldOf, foldedList, foldedGroups, foldedWidth, finiteList, finiteGroups}
 use Rattle.type1_to_type2.specs.Writing as Writing
 use Rattle.type1_to_type2.specs.Writing.{Written, write}
-use Rattle.type1_to_type2.specs.Convert.{Glyph, glyphOf, Conversion, refused, converted, Rooms, convert, ended, folded, instructions, writes, answer}
+use Rattle.type1_to_type2.specs.Convert.{foldsFinite, Glyph, glyphOf, Conversion, refused, converted, Rooms, convert, ended, folded, instructions, writes, answer}
 use Rattle.type1_to_type2.specs.Finish.{finish}
 use Rattle.type1_to_type2.specs.Entry.{ConvertsFrom}
 use Rattle.type2.specs.declared.Widths.{Widths}

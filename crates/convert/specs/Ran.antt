@@ -1,7 +1,7 @@
 -- Definitions: what a run leaves, with stem stores of its own. Document 01, "Bytes run", "What each entry is held to" (a).
 use Prim.Native.Nat.{ℕ}
 use mathlib.Core.List.{List}
-use Rattle.type1.specs.declared.Stem.{Stem}
+use Rattle.outline.specs.declared.Stem.{Stem}
 use Rattle.type1.specs.declared.Interpreted.{Interpreted}
 use Rattle.type1.specs.Run.{Outcome}
 use Rattle.type1.specs.Interpret.{Leaves}

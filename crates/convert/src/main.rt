@@ -94,10 +94,10 @@ fn refusal_list() -> [u64; 32]
     [0; 32]
 }
 
-fn stem_store() -> [type1::Stem; STEMS]
+fn stem_store() -> [outline::Stem; STEMS]
     ensures { λ r. ⌜ 1024 ≡ length r ⌝ }
 {
-    let none = type1::Stem {
+    let none = outline::Stem {
         horizontal: false,
         pos: 0.0,
         width: 0.0,

@@ -5,8 +5,8 @@ use lib.Ieee.{Float, binary64, add, sub, mul, eq, lt}
 use Rattle.geometry.specs.declared.Point.{Point}
 use Rattle.geometry.specs.declared.Matrix.{Matrix}
 use Rattle.geometry.specs.Transform as Transform
-use Rattle.type1.specs.declared.Stem.{Stem}
-use Rattle.type1.specs.State.{plusZero}
+use Rattle.outline.specs.declared.Stem.{Stem}
+use Rattle.outline.specs.Outline.{plusZero}
 use Rattle.folding.specs.declared.Fold.{Fold}
 use Rattle.folding.specs.Folding.{foldedPoint, stemStays, foldedStem, edge, scaled, twentyOne, minus21, minus20, transformedStem}
 

@@ -10,8 +10,8 @@ use Rattle.geometry.specs.declared.Point.{Point}
 use Rattle.geometry.specs.declared.Matrix.{Matrix}
 use Rattle.geometry.specs.Transform as Transform
 use Rattle.folding.specs.declared.Fold.{Fold}
-use Rattle.type1.specs.declared.Stem.{Stem}
-use Rattle.type1.specs.State.{Command, move, line, curve, flex, Group, State, plusZero}
+use Rattle.outline.specs.declared.Stem.{Stem}
+use Rattle.outline.specs.Outline.{Command, move, line, curve, flex, Group, plusZero}
 
 -- document 01, "Numbers the board logs", 1: an entry of the matrix is not finite
 unfoldable pub finiteMatrix : Matrix → Bool
@@ -120,10 +120,6 @@ finiteStems (s ∷ l) = finite (s .pos) && (finite (s .width) && finiteStems l)
 unfoldable pub finiteGroups : List Group → Bool
 finiteGroups [] = true
 finiteGroups (g ∷ l) = finiteStems (g .stems) && finiteGroups l
-
--- of what a run has left
-unfoldable pub foldsFinite : Matrix → State → Bool
-foldsFinite m s = finite (foldedWidth m (s .width)) && (finiteList (foldedList (foldOf m) (s .drawn)) && finiteGroups (foldedGroups (foldOf m) (s .groups)))
 
 -- the number that is answered where writing was refused. Document 01, "Numbers the board logs": "folding, writing in byte order". So a number from before writing comes first (0 is none), then 14 for a folded point, then what writing was refused with
 unfoldable pub refusal : ℕ → ℕ → Bool → ℕ

@@ -3,7 +3,7 @@ ghost use mathlib.Core.Path.{_≡_};
 ghost use Rattle.folding.specs.Folding as Folding;
 use geometry::Matrix;
 use geometry::Point;
-use type1::Stem;
+use outline::Stem;
 
 // Whether every entry of the matrix is finite.
 pub fn finite_matrix(m: Matrix) -> bool

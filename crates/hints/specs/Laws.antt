@@ -1,7 +1,6 @@
 -- Laws: stems in arrays, one by one.
 --     among-more, among-at       none of the first i is the stem, nor is the one at i; the one at i is
 --     cut-below                  256 or fewer are not cut
---     other-way, same-way, other-edge      two stems, field by field
 --     force-at, force-none       what `inForce` is when the stems have been gone through
 --     may-quiet, may-none, may-count       what `mayBeLast` is, by its tests
 --     group-number               16 or 17, by the two tests
@@ -15,8 +14,9 @@ use mathlib.Core.List.{List}
 use borrow.Author.Tests.{eqb-true, eqb-false, lt-ltb, le-ltb, ltb-false}
 use lib.Dec.{eqb, leb, ltb}
 use lib.Arith.{lt-of-le-ne}
-use lib.Ieee.{Float, eq}
-use Rattle.hints.specs.Hints.{sameStem, sameAt, isAmong, cut, inForce, mayBeLast, newGroup}
+use lib.Ieee.{Float}
+use Rattle.outline.specs.declared.Stem.{Stem}
+use Rattle.hints.specs.Hints.{sameAt, isAmong, cut, inForce, mayBeLast, newGroup}
 
 or-true : (b : Bool) → (b || true) ≡ true
 or-true true = refl
@@ -33,47 +33,31 @@ cut-below n h = by-test (ltb n 256) refl
     by-test true q = refl
     by-test false q = let k = ltb-false n 256 q in omega arith
 
--- ---- two stems, field by field
-pub other-way : (h g : Bool) (p w q v : Float) → h ≡ not g → false ≡ sameStem h p w g q v
-other-way true true p w q v e = absurd (true≢false e)
-other-way true false p w q v e = refl
-other-way false true p w q v e = refl
-other-way false false p w q v e = absurd (true≢false (sym e))
-
-pub same-way : (h g : Bool) (p w q v : Float) → h ≡ g → eq p q ≡ true → eq w v ≡ sameStem h p w g q v
-same-way true true p w q v e k = sym (ap (λ (b : Bool). b && eq w v) k)
-same-way false false p w q v e k = sym (ap (λ (b : Bool). b && eq w v) k)
-same-way true false p w q v e k = absurd (true≢false e)
-same-way false true p w q v e k = absurd (true≢false (sym e))
-
-pub other-edge : (h g : Bool) (p w q v : Float) → eq p q ≡ false → false ≡ sameStem h p w g q v
-other-edge h g p w q v k = sym (ap (λ (b : Bool). Bool·beq h g && (b && eq w v)) k ∙ and-false (Bool·beq h g))
-
 -- ---- stems in arrays
 module _ (e : List Float) (a : List Bool) where
-  module _ (h : Bool) (p w : Float) where
-    pub among-more : (i : ℕ) → isAmong i e a h p w ≡ false → sameAt e a i h p w ≡ false → isAmong (i + 1) e a h p w ≡ false
+  module _ (s : Stem) where
+    pub among-more : (i : ℕ) → isAmong i e a s ≡ false → sameAt e a i s ≡ false → isAmong (i + 1) e a s ≡ false
     unfolding isAmong
-    among-more i l k = ap (λ (n : ℕ). isAmong n e a h p w) (add-one i) ∙ ap₂ (λ (x y : Bool). x || y) l k
+    among-more i l k = ap (λ (n : ℕ). isAmong n e a s) (add-one i) ∙ ap₂ (λ (x y : Bool). x || y) l k
 
-    pub among-at : (i n : ℕ) → i < n → sameAt e a i h p w ≡ true → isAmong n e a h p w ≡ true
+    pub among-at : (i n : ℕ) → i < n → sameAt e a i s ≡ true → isAmong n e a s ≡ true
     unfolding isAmong
     among-at i zero l k = absurd (let z : ⊥ = omega arith in z)
     among-at i (suc n) l k = split (eqb i n) refl (λ b. among-at i n b k)
       where
-        split : (b : Bool) → eqb i n ≡ b → (i < n → isAmong n e a h p w ≡ true) → (isAmong n e a h p w || sameAt e a n h p w) ≡ true
-        split true q rec = ap (λ (x : Bool). isAmong n e a h p w || x) (ap (λ (j : ℕ). sameAt e a j h p w) (sym (eqb-true i n q)) ∙ k) ∙ or-true (isAmong n e a h p w)
-        split false q rec = let g : i ≤ n = omega arith in ap (λ (x : Bool). x || sameAt e a n h p w) (rec (lt-of-le-ne g (eqb-false i n q)))
+        split : (b : Bool) → eqb i n ≡ b → (i < n → isAmong n e a s ≡ true) → (isAmong n e a s || sameAt e a n s) ≡ true
+        split true q rec = ap (λ (x : Bool). isAmong n e a s || x) (ap (λ (j : ℕ). sameAt e a j s) (sym (eqb-true i n q)) ∙ k) ∙ or-true (isAmong n e a s)
+        split false q rec = let g : i ≤ n = omega arith in ap (λ (x : Bool). x || sameAt e a n s) (rec (lt-of-le-ne g (eqb-false i n q)))
 
   -- ---- of so many, cut at 256
-  module _ (h : Bool) (p w : Float) (count n : ℕ) (is : n ≡ cut count) where
-    pub force-at : (i : ℕ) → i < n → sameAt e a i h p w ≡ true → true ≡ inForce count e a h p w
+  module _ (s : Stem) (count n : ℕ) (is : n ≡ cut count) where
+    pub force-at : (i : ℕ) → i < n → sameAt e a i s ≡ true → true ≡ inForce count e a s
     unfolding inForce
-    force-at i l k = sym (ap (λ (j : ℕ). isAmong j e a h p w) (sym is) ∙ among-at h p w i n l k)
+    force-at i l k = sym (ap (λ (j : ℕ). isAmong j e a s) (sym is) ∙ among-at s i n l k)
 
-    pub force-none : (i : ℕ) → i ≤ n → n ≤ i → isAmong i e a h p w ≡ false → false ≡ inForce count e a h p w
+    pub force-none : (i : ℕ) → i ≤ n → n ≤ i → isAmong i e a s ≡ false → false ≡ inForce count e a s
     unfolding inForce
-    force-none i l m k = sym (ap (λ (j : ℕ). isAmong j e a h p w) (let z : cut count ≡ i = omega arith in z) ∙ k)
+    force-none i l m k = sym (ap (λ (j : ℕ). isAmong j e a s) (let z : cut count ≡ i = omega arith in z) ∙ k)
 
 -- ---- whether the stems in force can be the last group's
 pub may-quiet : (c : Bool) (g l n : ℕ) → c ≡ false → false ≡ mayBeLast c g l n

@@ -2,27 +2,13 @@
 // declared.
 ghost use mathlib.Core.Path.{_≡_};
 ghost use Prim.Native.Nat.{_≤_};
-ghost use Rattle.hints.specs.Hints.{sameStem, cut, inForce, mayBeLast, newGroup, areFew, needMasks};
+ghost use Rattle.hints.specs.Hints.{cut, inForce, mayBeLast, newGroup, areFew, needMasks};
+
+use outline::ENTRY;
+use outline::Stem;
 
 // Groups, and stems in force, at the most.
 const MOST: usize = 256;
-
-// Words of an entry of the command store.
-const ENTRY: usize = 14;
-
-// Whether two stems are equal, as numbers.
-pub fn same_stem(h: bool, p: f64, w: f64, horizontal: bool, pos: f64, width: f64) -> bool
-    ensures { λ r. ⌜ r ≡ sameStem h p w horizontal pos width ⌝ }
-{
-    if h {
-        if !horizontal {
-            return false;
-        }
-    } else if horizontal {
-        return false;
-    }
-    if p == pos { w == width } else { false }
-}
 
 fn at_most(count: usize) -> usize
     ensures { λ r. ⌜ (r ≡ cut count) × (r ≤ 256) ⌝ }
@@ -31,27 +17,18 @@ fn at_most(count: usize) -> usize
 }
 
 // Whether the stem equals one of so many in force, 256 at the most.
-pub fn in_force(
-    horizontal: bool,
-    pos: f64,
-    width: f64,
-    count: usize,
-    edges: &[f64; 512],
-    across: &[bool; 256],
-) -> bool
-    ensures { λ r. ⌜ r ≡ inForce count (now (edges .entry)) (now (across .entry)) horizontal pos width ⌝ }
+pub fn in_force(s: Stem, count: usize, edges: &[f64; 512], across: &[bool; 256]) -> bool
+    ensures { λ r. ⌜ r ≡ inForce count (now (edges .entry)) (now (across .entry)) s ⌝ }
 {
     let n = at_most(count);
     let mut i = 0;
     while i < n {
-        if same_stem(
-            across[i],
-            edges[2 * i],
-            edges[2 * i + 1],
-            horizontal,
-            pos,
-            width,
-        ) {
+        let t = Stem {
+            horizontal: across[i],
+            pos: edges[2 * i],
+            width: edges[2 * i + 1],
+        };
+        if outline::same_stem(t, s) {
             return true;
         }
         i += 1;

@@ -1,9 +1,9 @@
 -- Definitions: the stem store before a run, and what a run and converting leave. Document 01, "What each entry is held to", d.
 use mathlib.Core.Bool.{true}
 use mathlib.Core.List.{List}
-use Rattle.type1.specs.declared.Stem.{Stem}
+use Rattle.outline.specs.declared.Stem.{Stem}
 use Rattle.type1.specs.declared.Interpreted.{Interpreted}
-use Rattle.type1.specs.State.{plusZero}
+use Rattle.outline.specs.Outline.{plusZero}
 use Rattle.type1_to_type2.specs.declared.Type2Glyph.{Type2Glyph}
 use Rattle.replay.specs.declared.AfterRun.{AfterRun}
 use Rattle.replay.specs.declared.AfterConverting.{AfterConverting}

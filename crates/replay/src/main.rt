@@ -36,10 +36,10 @@ use vector::string;
 const RECORDS: usize = 512;
 
 // The stem store before a call: no record is zero.
-fn stem_store() -> [type1::Stem; RECORDS]
+fn stem_store() -> [outline::Stem; RECORDS]
     ensures { λ r. ⌜ r ≡ replicate 512 usedStem ⌝ }
 {
-    let used = type1::Stem {
+    let used = outline::Stem {
         horizontal: true,
         pos: 0.0,
         width: 0.0,
@@ -50,10 +50,10 @@ fn stem_store() -> [type1::Stem; RECORDS]
 // What a run answers, and the stem store after it.
 struct AfterRun {
     answer: type1::Interpreted,
-    stems: [type1::Stem; RECORDS],
+    stems: [outline::Stem; RECORDS],
 }
 
-fn with_stems(answer: type1::Interpreted, stems: [type1::Stem; RECORDS]) -> AfterRun
+fn with_stems(answer: type1::Interpreted, stems: [outline::Stem; RECORDS]) -> AfterRun
     ensures { λ r. ⌜ r ≡ afterRun answer stems ⌝ }
 {
     AfterRun { answer, stems }
@@ -81,12 +81,12 @@ fn compare_run(v: &[u8]) -> bool {
 // What converting answers, and the stem store after it.
 struct AfterConverting {
     answer: type1_to_type2::Type2Glyph,
-    stems: [type1::Stem; RECORDS],
+    stems: [outline::Stem; RECORDS],
 }
 
 fn with_records(
     answer: type1_to_type2::Type2Glyph,
-    stems: [type1::Stem; RECORDS],
+    stems: [outline::Stem; RECORDS],
 ) -> AfterConverting
     ensures { λ r. ⌜ r ≡ afterConverting answer stems ⌝ }
 {

@@ -11,23 +11,23 @@ use compare::from_pattern;
 use compare::same;
 
 // The record at a place; a zero record beyond the end.
-fn stem_at(stems: [type1::Stem; RECORDS], at: usize) -> type1::Stem {
+fn stem_at(stems: [outline::Stem; RECORDS], at: usize) -> outline::Stem {
     if at < RECORDS {
         return stems[at];
     }
-    type1::Stem {
+    outline::Stem {
         horizontal: false,
         pos: 0.0,
         width: 0.0,
     }
 }
 
-fn direction(s: type1::Stem) -> u64 {
+fn direction(s: outline::Stem) -> u64 {
     if s.horizontal { 1 } else { 0 }
 }
 
 // The record is that of the vector's place.
-fn is_stem(s: type1::Stem, v: &[u8], at: usize) -> bool {
+fn is_stem(s: outline::Stem, v: &[u8], at: usize) -> bool {
     direction(s) == number(v, at)
         && same(s.pos, double(v, place(at, 8)))
         && same(s.width, double(v, place(at, 16)))
@@ -35,7 +35,7 @@ fn is_stem(s: type1::Stem, v: &[u8], at: usize) -> bool {
 
 // The place after the stems of a group; 0 where one is not among the records.
 fn after_stems(
-    stems: [type1::Stem; RECORDS],
+    stems: [outline::Stem; RECORDS],
     first: usize,
     count: usize,
     v: &[u8],
@@ -73,7 +73,7 @@ fn after_group(
     words: &[u64],
     entry: usize,
     used: u64,
-    stems: [type1::Stem; RECORDS],
+    stems: [outline::Stem; RECORDS],
     v: &[u8],
     at: usize,
 ) -> usize {
@@ -173,11 +173,11 @@ fn after_commands(words: &[u64], entries: usize, v: &[u8], from: usize) -> usize
     }
 }
 
-fn is_blank(s: type1::Stem) -> bool {
+fn is_blank(s: outline::Stem) -> bool {
     direction(s) == 0 && same(s.pos, 0.0) && same(s.width, 0.0)
 }
 
-pub(crate) fn all_blank(stems: [type1::Stem; RECORDS]) -> bool {
+pub(crate) fn all_blank(stems: [outline::Stem; RECORDS]) -> bool {
     let mut i: usize = 0;
     while i < RECORDS {
         if !is_blank(stems[i]) {

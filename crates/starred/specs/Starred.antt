@@ -12,17 +12,17 @@ use Rattle.charstring.specs.Cipher.{notEncrypted, plain, plainByte, step}
 use Rattle.bank.specs.Bank.{be16, be32, valid}
 use Rattle.type1.specs.Operator.{ofByte, ofEscape}
 use Rattle.type1.specs.Number.{token}
-use Rattle.type1.specs.State.{plusZero}
+use Rattle.outline.specs.Outline.{plusZero}
 use Rattle.type1.specs.Run.{readingOf, push, commit, enter, list, moveBy, openSubpath, lineTo, lineBy, divD, operate, charge, execute, runBytes, runBody, run}
 use Rattle.type1.specs.Interpret.{sourceOf, outcome}
 use Rattle.type2.specs.Number.{units, numberBytes, wholeBytes, fixedBytes, quantized}
-use Rattle.folding.specs.Folding.{finiteMatrix, isIdentity, foldedPoint, foldedList, foldedGroups, foldedWidth, finiteList, finiteGroups, foldsFinite}
+use Rattle.folding.specs.Folding.{finiteMatrix, isIdentity, foldedPoint, foldedList, foldedGroups, foldedWidth, finiteList, finiteGroups}
 use Rattle.type1_to_type2.specs.Stems.{allStems, distinct, ofDirection, sorted, inOrder, declared}
 use Rattle.type1_to_type2.specs.Emission.{stemsFrom, deltas, arrives, startsAt, commands, items, pack, program}
 use Rattle.type1_to_type2.specs.Writing as Writing
 use Rattle.type1_to_type2.specs.Writing.{Written, wrote, put, putNumbers, write}
 use Rattle.type1_to_type2.specs.Convert as Convert
-use Rattle.type1_to_type2.specs.Convert.{Conversion, glyphOf, converted, instructions, convert}
+use Rattle.type1_to_type2.specs.Convert.{foldsFinite, Conversion, glyphOf, converted, instructions, convert}
 use Rattle.type1_to_type2.specs.Finish.{widthFor, finish}
 use Rattle.sorting.specs.Order.{count, allFinite}
 use Rattle.widths.specs.Widths.{answerOf, keep, best, commonest, nominal, widthsOf, chosen}

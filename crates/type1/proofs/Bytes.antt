@@ -22,9 +22,10 @@ use Rattle.type1.specs.declared.Ran.{Ran}
 use Rattle.type1.specs.declared.Drawn.{Drawn}
 use Rattle.type1.specs.Operator.{Operator, closepath, ofByte, ofEscape}
 use Rattle.type1.specs.Number.{Token, cut, number, operator, token, tokenTwo, tokenFive, tokenEscape, oneByte, twoBytes, twoBytesBelow, fourBytes, double}
+use Rattle.outline.specs.Outline.{pick}
 use Rattle.type1.specs.State.{State, withOperands}
 use Rattle.type1.specs.Outcomes.{limit-check}
-use Rattle.type1.specs.Run.{pick, Limits, within, Outcome, going, returning, ending, refused, andThen, check, push, consume, operate, runBytes}
+use Rattle.type1.specs.Run.{Limits, within, Outcome, going, returning, ending, refused, andThen, check, push, consume, operate, runBytes}
 use Rattle.type1.specs.Memory.{Mem, abs, Fit, Meets, operatorOf}
 use Rattle.type1.specs.Small.{ranOf, withOpened}
 use Rattle.type1.specs.Sound.{Sound, SoundOut, SmallToken}

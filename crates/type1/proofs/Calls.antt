@@ -20,8 +20,9 @@ use Rattle.bank.specs.declared.Found.the-variants.{At, Nothing}
 use Rattle.bank.specs.declared.Callee.{Callee}
 use Rattle.type1.specs.declared.St.{St}
 use Rattle.type1.specs.declared.Reading.{Reading}
-use Rattle.type1.specs.State.{State, plusZero, withRan}
-use Rattle.type1.specs.Run.{pick, Outcome, going, refused, check, andThen, returned, top, without, Font, charge, named, callBody, callSubr}
+use Rattle.outline.specs.Outline.{plusZero, pick}
+use Rattle.type1.specs.State.{State, withRan}
+use Rattle.type1.specs.Run.{Outcome, going, refused, check, andThen, returned, top, without, Font, charge, named, callBody, callSubr}
 use Rattle.type1.specs.Memory.{Mem, abs, Holds}
 use Rattle.type1.specs.Reading.{Calls, withCount}
 use Rattle.type1.proofs.Stacks.{small, small-fit, operand-count, top-is, without-holds}

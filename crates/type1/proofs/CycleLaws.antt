@@ -16,7 +16,7 @@ use Rattle.charstring.specs.Cursor.{start, rest}
 use Rattle.charstring.specs.Laws.{rest-start, rest-none}
 use Rattle.bank.specs.Bank.{bytesAt, found}
 use Rattle.geometry.specs.declared.Point.{Point}
-use Rattle.type1.specs.declared.Stem.{Stem}
+use Rattle.outline.specs.declared.Stem.{Stem}
 use Rattle.type1.specs.declared.St.{St}
 use Rattle.type1.specs.declared.Reading.{Reading}
 use Rattle.type1.specs.declared.Ran.{Ran}
@@ -24,8 +24,9 @@ use Rattle.type1.specs.declared.Tok.{Tok}
 use Rattle.type1.specs.declared.Called.{Called}
 use Rattle.type1.specs.Operator as op
 use Rattle.type1.specs.Operator.{Operator, look, oneByte, twoBytes, ofByte, ofEscape}
+use Rattle.outline.specs.Outline.{pick}
 use Rattle.type1.specs.State.{State}
-use Rattle.type1.specs.Run.{pick, Limits, within, Outcome, going, returning, ending, refused, andThen, returned, Font, operate, callSubr, execute, runBytes, runBody}
+use Rattle.type1.specs.Run.{Limits, within, Outcome, going, returning, ending, refused, andThen, returned, Font, operate, callSubr, execute, runBytes, runBody}
 use Rattle.type1.specs.Memory.{Mem, pointsAt, stemsAt, flexIn, abs, Fit, Holds, Good, Meets, operatorOf, kept}
 use Rattle.type1.specs.Small.{ranOf, Finite}
 use Rattle.type1.specs.Reading.{cursorOf, isRead, ReadsAs, readMem, goesOn, Reads, Calls}
@@ -213,7 +214,7 @@ abbrev Without : List (ℕ × Operator) → ℕ → Type 0
 Without [] b = Unit {0}
 Without (e ∷ l) b = ((T (one-of (e .1)) → b ≡ e .0 → ⊥) × Without l b)
 
-chosen : (c d : Bool) (x y : Operator) → one-of x ≡ d → (T c → T d → ⊥) → one-of y ≡ false → one-of (op.pick c x y) ≡ false
+chosen : (c d : Bool) (x y : Operator) → one-of x ≡ d → (T c → T d → ⊥) → one-of y ≡ false → one-of (pick c x y) ≡ false
 chosen false d x y ed f h = h
 chosen true false x y ed f h = ed
 chosen true true x y ed f h = absurd (f tt tt)

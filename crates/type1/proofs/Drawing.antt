@@ -7,15 +7,17 @@ use mathlib.Core.List.{List}
 use lib.Dec.{T}
 use lib.ListN.{length, getD, set}
 use lib.Ieee.{Float, nan, binary64, add, fits, toBits}
-use Rattle.type1.specs.declared.Stem.{Stem}
+use Rattle.outline.specs.declared.Stem.{Stem}
 use Rattle.type1.specs.declared.St.{St}
 use Rattle.type1.specs.declared.Ran.{Ran}
 use Rattle.type1.specs.declared.Drawn.{Drawn}
 use Rattle.type1.specs.Operator as op
 use Rattle.type1.specs.Operator.{Operator}
-use Rattle.type1.specs.State.{Command, line, curve, State, plusZero}
+use Rattle.outline.specs.Outline.{Command, line, curve, plusZero}
+use Rattle.outline.specs.Store.{pointCommand}
+use Rattle.type1.specs.State.{State}
 use Rattle.type1.specs.Run.{Limits, within, Outcome, refused, pointAt, isFinite, enter, list, lineBy, curveBy, operate}
-use Rattle.type1.specs.Memory.{Mem, Holds, Meets, operatorOf, withOps, withCmds, withStems, pointCommand}
+use Rattle.type1.specs.Memory.{Mem, Holds, Meets, operatorOf, withOps, withCmds, withStems}
 use Rattle.type1.specs.Small.{ranOf}
 use Rattle.type1.specs.Reading.{placed, drawnTo, isRead, Stores, Adds, Draws}
 use Rattle.type1.proofs.Store.{withEntries, enter-full, wrote-3, wrote-7, point-entered, curve-entered}

@@ -27,12 +27,12 @@ use denote.Struct.Laws as LL
 use denote.Triple.Spec.{tripleOf}
 use denote.Triple.Statement.{Contract, Triple}
 use denote.Triple.Walked.{says}
-use Rattle.type1.specs.declared.Stem.{Stem}
+use Rattle.outline.specs.declared.Stem.{Stem}
 use Rattle.type1.specs.declared.Reading.{Reading}
 use Rattle.type1.proofs.Reading as Y
 use Rattle.type1.proofs.Reading.Laws as Y′
 use Rattle.type1.specs.declared.St.{St}
-use Rattle.type1.proofs.Stem as T
+use Rattle.outline.proofs.Stem as T
 use Rattle.type1.proofs.St as S
 use Rattle.type1.proofs.St.Laws as S′
 use Rattle.type1.proofs.Ran as N
@@ -41,10 +41,10 @@ use Rattle.type1.proofs.Lent.{at-list, Own}
 use Rattle.type1.proofs.Many.{at-one, OwnR, GotAll}
 use Rattle.type1.proofs.Locals.{machS, machY}
 use Rattle.bank.specs.Bank.{Valid}
+use Rattle.outline.specs.Outline.{zeroStem}
 use Rattle.type1.specs.Memory.{Meets}
 use Rattle.type1.specs.Small.{ranOf}
 use Rattle.type1.specs.Cycle.{memOf, Ready, runD}
-use Rattle.type1.specs.Small.{zeroStem}
 use Rattle.type1.specs.Entry.{zeroSt, startFlow, numberOf, answerOf, Cleared}
 use Rattle.type1.specs.Interpret.{sourceOf, outcome, refusedWith, Leaves}
 use Rattle.type1.proofs.start_run as start-run-f

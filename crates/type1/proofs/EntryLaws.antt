@@ -12,15 +12,17 @@ use Rattle.charstring.specs.Cipher.{Bytes, maxCharstringBytes}
 use Rattle.bank.specs.Bank.{Valid, valid}
 use Rattle.bank.specs.Call.{refusedBefore}
 use Rattle.bank.specs.Laws.{valid-is}
-use Rattle.type1.specs.declared.Stem.{Stem}
+use Rattle.outline.specs.declared.Stem.{Stem}
 use Rattle.type1.specs.declared.St.{St}
 use Rattle.type1.specs.declared.Reading.{Reading}
 use Rattle.type1.specs.declared.Ran.{Ran}
 use Rattle.type1.specs.declared.Interpreted.{Interpreted}
-use Rattle.type1.specs.State.{State, plusZero, start, withRan, stemCount}
-use Rattle.type1.specs.Run.{pick, within, Outcome, going, returning, ending, refused, check, andThen, returned, charge, runBody, run}
-use Rattle.type1.specs.Memory.{Mem, stemsAt, drawnIn, groupsIn, abs, Fit, Holds, Meets}
-use Rattle.type1.specs.Small.{ranOf, zeroStem}
+use Rattle.outline.specs.Outline.{plusZero, stemCount, pick, zeroStem}
+use Rattle.outline.specs.Store.{drawnIn, groupsIn}
+use Rattle.type1.specs.State.{State, start, withRan}
+use Rattle.type1.specs.Run.{within, Outcome, going, returning, ending, refused, check, andThen, returned, charge, runBody, run}
+use Rattle.type1.specs.Memory.{Mem, stemsAt, abs, Fit, Holds, Meets}
+use Rattle.type1.specs.Small.{ranOf}
 use Rattle.type1.specs.Sound.{Ends, Outermost, Sound}
 use Rattle.type1.specs.SoundLaws.{start-sound, sound-stable}
 use Rattle.type1.specs.Invariants.{run-outermost, run-finite}

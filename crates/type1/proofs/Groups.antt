@@ -13,12 +13,14 @@ use lib.Seq.{paste, length-paste, take-paste, take-append-le, drop-at}
 use lib.Ieee.{Float}
 use Rattle.hints.specs.Hints as Hints
 use Rattle.hints.specs.Laws.{group-number}
-use Rattle.type1.specs.declared.Stem.{Stem}
+use Rattle.outline.specs.declared.Stem.{Stem}
 use Rattle.type1.specs.declared.St.{St}
 use Rattle.type1.specs.declared.Ran.{Ran}
-use Rattle.type1.specs.State.{Command, Group, State, settled, stemCount, lastIs, sameStems}
-use Rattle.type1.specs.Run.{pick, Limits, within, Outcome, going, check, allowed, entries, newGroup, commit}
-use Rattle.type1.specs.Memory.{Mem, word, commandIn, drawnIn, groupIn, groupsIn, stemsAt, abs, Bounds, Fit, Holds, Meets, kept, after, withCmds, withStems, Told, Path}
+use Rattle.outline.specs.Outline.{Command, Group, stemCount, lastIs, sameStems, pick}
+use Rattle.outline.specs.Store.{word, commandIn, drawnIn, groupIn, groupsIn}
+use Rattle.type1.specs.State.{State, settled}
+use Rattle.type1.specs.Run.{Limits, within, Outcome, going, check, allowed, entries, newGroup, commit}
+use Rattle.type1.specs.Memory.{Mem, stemsAt, abs, Bounds, Fit, Holds, Meets, kept, after, withCmds, withStems, Told, Path}
 use Rattle.type1.specs.Small.{ranOf, Grown, Space}
 use Rattle.type1.proofs.Store.{Wrote, drawn-same, groups-same, entries-is}
 use Rattle.type1.proofs.Hints.{stems-length}

@@ -15,15 +15,17 @@ use lib.Ieee.{Float, nan}
 use lib.Ieee.Scale.{finite}
 use Rattle.hints.specs.Hints.{isAmong, inForce, mayBeLast}
 use Rattle.hints.specs.Laws.{cut-below}
-use Rattle.type1.specs.declared.Stem.{Stem}
+use Rattle.outline.specs.declared.Stem.{Stem}
 use Rattle.type1.specs.declared.St.{St}
 use Rattle.type1.specs.declared.Ran.{Ran}
-use Rattle.type1.specs.State.{State, withHints, sameStem, isIn, sameStems}
+use Rattle.outline.specs.Outline.{sameStem, isIn, sameStems, pick, stemOf, zeroStem}
+use Rattle.type1.specs.State.{State, withHints}
 use Rattle.type1.specs.Outcomes.{limit-check}
-use Rattle.type1.specs.Run.{pick, within, atMost, going, check, allowed, stemOf, stem}
-use Rattle.type1.specs.Memory.{Mem, stemAt, stemsAt, abs, Holds, Meets}
+use Rattle.type1.specs.Run.{within, atMost, going, check, allowed, stem}
+use Rattle.hints.specs.Hints.{stemAt}
+use Rattle.type1.specs.Memory.{Mem, stemsAt, abs, Holds, Meets}
 use Rattle.type1.specs.Memory as Memory
-use Rattle.type1.specs.Small.{ranOf, zeroStem}
+use Rattle.type1.specs.Small.{ranOf}
 
 -- ---- a stem more at the end
 in-more : (l : List Stem) (t s : Stem) → isIn (l ++ (t ∷ [])) s ≡ (isIn l s || sameStem t s)
@@ -44,14 +46,14 @@ unfolding stemsAt
 stems-suc e a i = ap (λ (n : ℕ). stemsAt 0 i e a ++ (stemAt e a n ∷ [])) (zero-add i)
 
 -- what `hints::in_force` says of a stem
-among-is : (e : List Float) (a : List Bool) (n : ℕ) (h : Bool) (p w : Float) → isAmong n e a h p w ≡ isIn (stemsAt 0 n e a) (stemOf h p w)
+among-is : (e : List Float) (a : List Bool) (n : ℕ) (s : Stem) → isAmong n e a s ≡ isIn (stemsAt 0 n e a) s
 unfolding isAmong isIn stemsAt
-among-is e a zero h p w = refl
-among-is e a (suc n) h p w = ap (λ (b : Bool). b || sameStem (stemAt e a n) (stemOf h p w)) (among-is e a n h p w) ∙ sym (ap (λ (l : List Stem). isIn l (stemOf h p w)) (stems-suc e a n) ∙ in-more (stemsAt 0 n e a) (stemAt e a n) (stemOf h p w))
+among-is e a zero s = refl
+among-is e a (suc n) s = ap (λ (b : Bool). b || sameStem (stemAt e a n) s) (among-is e a n s) ∙ sym (ap (λ (l : List Stem). isIn l s) (stems-suc e a n) ∙ in-more (stemsAt 0 n e a) (stemAt e a n) s)
 
-pub in-force-is : (e : List Float) (a : List Bool) (n : ℕ) (h : Bool) (p w : Float) → n ≤ 256 → inForce n e a h p w ≡ isIn (stemsAt 0 n e a) (stemOf h p w)
+pub in-force-is : (e : List Float) (a : List Bool) (n : ℕ) (s : Stem) → n ≤ 256 → inForce n e a s ≡ isIn (stemsAt 0 n e a) s
 unfolding inForce
-in-force-is e a n h p w l = ap (λ (k : ℕ). isAmong k e a h p w) (cut-below n l) ∙ among-is e a n h p w
+in-force-is e a n s l = ap (λ (k : ℕ). isAmong k e a s) (cut-below n l) ∙ among-is e a n s
 
 -- ---- the same stems in other arrays
 pub stems-same : (from k : ℕ) (e e' : List Float) (a a' : List Bool) → ((i : ℕ) → i < k → stemAt e a (from + i) ≡ stemAt e' a' (from + i)) → stemsAt from k e a ≡ stemsAt from k e' a'

@@ -8,7 +8,7 @@ use mir.Syntax.{Ty, Lifetime, mut, imm, w8, w16, w64, tyInt, tyFloat, tyArray, t
 use mir.Val.{Val}
 use denote.Memory.{pointee}
 use denote.Struct.Laws as LL
-use Rattle.type1.specs.declared.Stem.{Stem}
+use Rattle.outline.specs.declared.Stem.{Stem}
 use Rattle.type1.specs.declared.St.{St}
 use Rattle.type1.specs.declared.Reading.{Reading}
 use Rattle.type1.specs.declared.Tok.{Tok}
@@ -16,8 +16,8 @@ use Rattle.type1.specs.declared.Ran.{Ran}
 use Rattle.type1.specs.declared.Called.{Called}
 use Rattle.type1.specs.declared.Begun.{Begun}
 use Rattle.type1.specs.declared.Interpreted.{Interpreted}
-use Rattle.type1.proofs.Stem as T
-use Rattle.type1.proofs.Stem.Laws as T′
+use Rattle.outline.proofs.Stem as T
+use Rattle.outline.proofs.Stem.Laws as T′
 use Rattle.type1.proofs.St as S
 use Rattle.type1.proofs.St.Laws as S′
 use Rattle.type1.proofs.Reading as Y

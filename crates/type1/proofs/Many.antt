@@ -5,7 +5,6 @@
 --     GotAll           what the `post` of any function says: toks are its lifetimes' tokens, zs the last values, one for each parameter, and L what says them
 --     asks-all         [side; Γ] becomes [the result; toks; L zs; Γ]
 --     GotTwo, asks-two the same where two clauses are ensured.        says-three    a goal P ∗ ⌜a⌝ ∗ ⌜b⌝ ∗ ⌜c⌝: three clauses are shown, and P is left
---     guards           `if c { a }` and then b, with a name for neither
 -- Assumes `Given`.
 use mathlib.Core.Path.{refl}
 use Prim.Native.Nat.{ℕ}
@@ -110,7 +109,3 @@ module _ {M : Type 1} {𝓤 : URA M} {H : Heap 𝓤} {A : Atoms 𝓤} {K : Type 
       → ent 𝓤 (mean 𝓤 H A side) (C f vs (λ w. mean 𝓤 H A (GotTwo 𝓤 Res Ls φ ψ L toks w))) → Opds K W (side ∷ Γ) E xs vs
       → ((w : Val) (r : Res .Denot) (zs : Ls) → φ r zs × ψ r zs → P r (w ∷ []) → Seq K W (‵ (Res .own r (w ∷ [])) ∷ toks ∷ ‵ (L zs) ∷ Γ) (lands C Λ E d w rest p)) → Seq K W (side ∷ Γ) (runs C Λ E (seq (call f xs d) rest) p)
   asks-two t fm Res P sh Ls φ ψ L toks side vs known os k = calls-from t fm side vs (λ w. mean 𝓤 H A (GotTwo 𝓤 Res Ls φ ψ L toks w)) known os (λ w. got-two t tt Res P sh Ls φ ψ L toks w (k w))
-
-  pub guards : K → {c : Operand} {a b : Body} {y : Bool} → Opd K W Γ E c (vbool y)
-      → (T y → Seq K W Γ (runs C Λ E a (anyQ (afterSeq 𝓤 H (Wp 𝓤 H C Λ E b (post 𝓤 H p)) (post 𝓤 H p))))) → (T (not y) → Seq K W Γ (runs C Λ E b p)) → Seq K W Γ (runs C Λ E (seq (cond c a skip) b) p)
-  guards t c held failed = first t $ branches t c held (λ n. skips t $ record { prf = failed n .prf })

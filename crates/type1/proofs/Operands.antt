@@ -10,12 +10,13 @@ use lib.ListN.{length, getD, take, length-take}
 use lib.Seq.{getD-take}
 use lib.Ieee.{Float, nan}
 use lib.Ieee.Scale.{finite}
-use Rattle.type1.specs.declared.Stem.{Stem}
+use Rattle.outline.specs.declared.Stem.{Stem}
 use Rattle.type1.specs.declared.St.{St}
 use Rattle.type1.specs.declared.Ran.{Ran}
 use Rattle.type1.specs.Operator as op
 use Rattle.type1.specs.Operator.{Operator}
-use Rattle.type1.specs.State.{State, withOperands, plusZero}
+use Rattle.outline.specs.Outline.{plusZero}
+use Rattle.type1.specs.State.{State, withOperands}
 use Rattle.type1.specs.Run.{Limits, within, Outcome, refused, check, top, cleared, needs, moveBy, lineBy, curveBy, setPoint, pointAt, operate}
 use Rattle.type1.specs.Memory.{Mem, abs, Bounds, Fit, Holds, Meets, kept, after, withCmds, withOps, Told}
 use Rattle.type1.specs.Reading.{withCount}

@@ -20,7 +20,8 @@ use Rattle.othersubrs.specs.OtherSubrs.{mayTake, taken}
 use Rattle.othersubrs.specs.Laws.{not-taken}
 use Rattle.type1.specs.declared.St.{St}
 use Rattle.type1.specs.declared.Ran.{Ran}
-use Rattle.type1.specs.State.{State, plusZero, withOperands, withFlex}
+use Rattle.outline.specs.Outline.{plusZero}
+use Rattle.type1.specs.State.{State, withOperands, withFlex}
 use Rattle.type1.specs.State as State
 use Rattle.type1.specs.Run.{Limits, within, Outcome, going, refused, check, top, without, is, backwards, handBack, heightOf, otherSubr0, otherSubr2, otherSubr, callOtherSubr}
 use Rattle.type1.specs.Memory.{Mem, pointsAt, stemsAt, abs, Holds, Meets, kept, after, withOps, withPs, withCells, withCmds, Told}

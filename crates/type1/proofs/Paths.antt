@@ -13,11 +13,12 @@ use lib.Ieee.{Float, binary64, add, eq}
 use lib.Ieee.Scale.{finite}
 use lib.Ieee.Fits.{and-l, and-r}
 use Rattle.geometry.specs.declared.Point.{Point}
-use Rattle.type1.specs.declared.Stem.{Stem}
+use Rattle.outline.specs.declared.Stem.{Stem}
 use Rattle.type1.specs.declared.St.{St}
 use Rattle.type1.specs.declared.Ran.{Ran}
-use Rattle.type1.specs.State.{Command, move, line, curve, State, withPoint, withOpen}
-use Rattle.type1.specs.Run.{pick, Limits, within, Outcome, going, returning, ending, refused, andThen, check, commit, enter, list, pointAt, isFinite, shifted, noFlex, moveBy, openSubpath, lineTo, lineBy, curveTo, curveBy, samePoint, setPoint}
+use Rattle.outline.specs.Outline.{Command, move, line, curve, pick}
+use Rattle.type1.specs.State.{State, withPoint, withOpen}
+use Rattle.type1.specs.Run.{Limits, within, Outcome, going, returning, ending, refused, andThen, check, commit, enter, list, pointAt, isFinite, shifted, noFlex, moveBy, openSubpath, lineTo, lineBy, curveTo, curveBy, samePoint, setPoint}
 use Rattle.type1.specs.Memory.{Mem, stemsAt, flexIn, abs, Bounds, Fit, Holds, Meets, kept, after, withCmds, withStems, Plain, Path}
 use Rattle.type1.specs.Small.{ranOf, withXY, withOpened, openedRan, Grown, Entered, Space}
 use Rattle.type1.proofs.Hints.{stems-length}

@@ -20,9 +20,10 @@ use Rattle.othersubrs.specs.OtherSubrs.{handNumber, handedBack}
 use Rattle.othersubrs.specs.Laws.{handed-all}
 use Rattle.type1.specs.declared.St.{St}
 use Rattle.type1.specs.declared.Ran.{Ran}
-use Rattle.type1.specs.State.{State, plusZero, withOperands, withPostscript, withPoint, withBearing, withDivided, withFlex}
+use Rattle.outline.specs.Outline.{plusZero, pick}
+use Rattle.type1.specs.State.{State, withOperands, withPostscript, withPoint, withBearing, withDivided, withFlex}
 use Rattle.type1.specs.Outcomes.{limit-check}
-use Rattle.type1.specs.Run.{pick, within, atMost, Outcome, going, refused, check, allowed, top, cleared, without, needs, push, popD, divD, backwards, handBack, collected, otherSubr2, pointAt}
+use Rattle.type1.specs.Run.{within, atMost, Outcome, going, refused, check, allowed, top, cleared, without, needs, push, popD, divD, backwards, handBack, collected, otherSubr2, pointAt}
 use Rattle.type1.specs.Memory.{Mem, pointsAt, flexIn, abs, Bounds, Fit, Holds, Meets, withOps, withPs, withCells}
 use Rattle.type1.specs.Reading.{withCount}
 use Rattle.type1.specs.Small.{ranOf, withXY}

@@ -15,12 +15,14 @@ use lib.Ieee.{Float, nan, inf, fin, binary64, ofBits, toBits, fits, isNan}
 use lib.Ieee.Scale.{finite}
 use lib.Ieee.Bits.{ofBits-toBits}
 use Rattle.geometry.specs.declared.Point.{Point}
-use Rattle.type1.specs.declared.Stem.{Stem}
+use Rattle.outline.specs.declared.Stem.{Stem}
 use Rattle.type1.specs.declared.St.{St}
 use Rattle.type1.specs.declared.Ran.{Ran}
-use Rattle.type1.specs.State.{Command, move, line, curve, flex, Group, State, withDrawn, stemCount, lastIs}
-use Rattle.type1.specs.Run.{pick, Limits, within, Outcome, going, refused, allowed, enter, pointAt}
-use Rattle.type1.specs.Memory.{Mem, word, pointIn, coordinate, commandIn, drawnIn, groupIn, groupsIn, abs, Bounds, Fit, Holds, Meets, withCells, withCmds, pointCommand, Plain}
+use Rattle.outline.specs.Outline.{Command, move, line, curve, flex, Group, stemCount, lastIs, pick}
+use Rattle.outline.specs.Store.{word, pointIn, coordinate, commandIn, drawnIn, groupIn, groupsIn, pointCommand}
+use Rattle.type1.specs.State.{State, withDrawn}
+use Rattle.type1.specs.Run.{Limits, within, Outcome, going, refused, allowed, enter, pointAt}
+use Rattle.type1.specs.Memory.{Mem, abs, Bounds, Fit, Holds, Meets, withCells, withCmds, Plain}
 use Rattle.type1.specs.Small.{ranOf, cellPoint, flexOf, GoodPoint, pointPut, Entered}
 
 -- two stores with the same words below n

@@ -10,9 +10,10 @@ use lib.ListN.{length, take, getD, set, length-append, List·getD-append, drop-o
 use lib.Seq.{paste, paste-suc, take-all, getD-at}
 use lib.Dec.{T, ltb, ltb→lt, nltb→le}
 use lib.Ieee.{Float}
-use Rattle.type1.specs.declared.Stem.{Stem}
-use Rattle.type1.specs.Memory.{stemAt, stemsAt}
-use Rattle.type1.specs.Small.{zeroStem}
+use Rattle.outline.specs.declared.Stem.{Stem}
+use Rattle.outline.specs.Outline.{zeroStem}
+use Rattle.hints.specs.Hints.{stemAt}
+use Rattle.type1.specs.Memory.{stemsAt}
 
 not-below : (i n : ℕ) → ltb i n ≡ false → n ≤ i
 not-below i n is = nltb→le i n (subst (λ (c : Bool). T (not c)) (sym is) tt)

@@ -9,8 +9,7 @@ use lib.Ieee.{Float, nan}
 use Rattle.bank.specs.Call.{refusedBefore}
 use Rattle.type1.specs.declared.St.{St}
 use Rattle.type1.specs.declared.Interpreted.{Interpreted}
-use Rattle.type1.specs.State.{plusZero}
-use Rattle.type1.specs.Run.{pick}
+use Rattle.outline.specs.Outline.{plusZero, pick}
 
 -- before the first byte, with so many bytes counted
 abbrev pub zeroSt : ℕ → St

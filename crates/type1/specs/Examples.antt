@@ -13,8 +13,9 @@ use Rattle.bank.specs.Bank.{be16, be32, body}
 use Rattle.geometry.specs.declared.Point.{Point}
 use Rattle.type1.specs.Operator.{ofByte, ofEscape}
 use Rattle.type1.specs.Number.{oneByte, twoBytes, twoBytesBelow, fourBytes, token, double}
-use Rattle.type1.specs.State.{Command, move, line, curve, flex, Group, start, isIn, sameStems, lastIs, stemCount}
-use Rattle.type1.specs.Run.{readingOf, Limits, within, unlimited, Outcome, going, returning, ending, refused, pointAt, stemOf, push, stem, newGroup, commit, enter, list, moveBy, openSubpath, lineTo, lineBy, curveTo, curveBy, setPoint, backwards, handBack, endFlex, otherSubr0, otherSubr2, otherSubr, callOtherSubr, popD, divD, stems3, operate, charge, named, callBody, callSubr, execute, runBytes, runBody, run}
+use Rattle.outline.specs.Outline.{Command, move, line, curve, flex, Group, isIn, sameStems, lastIs, stemCount, stemOf}
+use Rattle.type1.specs.State.{start}
+use Rattle.type1.specs.Run.{readingOf, Limits, within, unlimited, Outcome, going, returning, ending, refused, pointAt, push, stem, newGroup, commit, enter, list, moveBy, openSubpath, lineTo, lineBy, curveTo, curveBy, setPoint, backwards, handBack, endFlex, otherSubr0, otherSubr2, otherSubr, callOtherSubr, popD, divD, stems3, operate, charge, named, callBody, callSubr, execute, runBytes, runBody, run}
 
 -- ---- numbers: Adobe Type 1 Font Format, section 6.2
 least-one : oneByte 32 ≡ negsuc 106

@@ -5,13 +5,13 @@ use mathlib.Core.Path.{_≡_}
 use mathlib.Core.List.{List}
 use lib.ListN.{length, replicate}
 use Rattle.bank.specs.Bank.{valid}
-use Rattle.type1.specs.declared.Stem.{Stem}
+use Rattle.outline.specs.declared.Stem.{Stem}
 use Rattle.type1.specs.declared.Reading.{Reading}
 use Rattle.type1.specs.declared.Interpreted.{Interpreted}
-use Rattle.type1.specs.State.{State, plusZero, start, stemCount}
+use Rattle.outline.specs.Outline.{plusZero, stemCount, zeroStem}
+use Rattle.outline.specs.Store.{word, drawnIn, groupsIn}
+use Rattle.type1.specs.State.{State, start}
 use Rattle.type1.specs.Run.{Limits, Outcome, going, returning, ending, refused, check, within, run}
-use Rattle.type1.specs.Memory.{word, drawnIn, groupsIn}
-use Rattle.type1.specs.Small.{zeroStem}
 use Rattle.type1.specs.Sound.{Sound}
 
 -- what is read: a charstring, and the bank of its subroutines

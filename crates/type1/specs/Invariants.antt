@@ -21,7 +21,8 @@ use Rattle.binary64.specs.Value.{mag, Multiple, Whole}
 use Rattle.binary64.specs.Whole.{add-whole}
 use Rattle.charstring.specs.Cipher.{Bytes, maxCharstringBytes}
 use Rattle.type1.specs.Number.{double}
-use Rattle.type1.specs.State.{State, plusZero, start, withRan}
+use Rattle.outline.specs.Outline.{plusZero}
+use Rattle.type1.specs.State.{State, start, withRan}
 use Rattle.type1.specs.Run.{Limits, Outcome, going, returning, ending, refused, andThen, check, Font, charge, returned, runBody, run}
 use Rattle.type1.specs.Sound.{All, Numbers, Sound, Fine, Ends, Outermost, Kept, Holding, pointsOf, Weighs, Rising, Placed}
 use Rattle.type1.specs.Outcomes.{weaken-ends}

@@ -12,12 +12,13 @@ use lib.Ieee.{Float, nan, binary64, add, div, eq, le, toUnsigned, toSigned}
 use lib.Ieee.Fits.{and-l, and-r}
 use lib.Ieee.Scale.{finite}
 use Rattle.geometry.specs.declared.Point.{Point}
-use Rattle.type1.specs.declared.Stem.{Stem}
+use Rattle.outline.specs.declared.Stem.{Stem}
 use Rattle.type1.specs.Operator as op
 use Rattle.type1.specs.Operator.{Operator}
 use Rattle.type1.specs.Number.{number, operator, double}
-use Rattle.type1.specs.State.{Command, move, line, curve, flex, Group, State, plusZero, origin, withOperands, withPostscript, withPoint, withBearing, withOpen, withFlex, withHints, settled, withDrawn, withDivided, withRan, isIn, lastIs, stemCount}
-use Rattle.type1.specs.Run.{Limits, Outcome, going, refused, andThen, pick, top, cleared, without, needs, push, stemOf, stem, entries, newGroup, commit, enter, list, shifted, isFinite, noFlex, moveBy, openSubpath, lineTo, lineBy, curveTo, curveBy, samePoint, setPoint, backwards, handBack, endFlex, heightOf, otherSubr0, collected, otherSubr2, is, otherSubr, callOtherSubr, popD, divD, stems3, pointAt, operate}
+use Rattle.outline.specs.Outline.{Command, move, line, curve, flex, Group, plusZero, origin, isIn, lastIs, stemCount, pick, stemOf}
+use Rattle.type1.specs.State.{State, withOperands, withPostscript, withPoint, withBearing, withOpen, withFlex, withHints, settled, withDrawn, withDivided, withRan}
+use Rattle.type1.specs.Run.{Limits, Outcome, going, refused, andThen, top, cleared, without, needs, push, stem, entries, newGroup, commit, enter, list, shifted, isFinite, noFlex, moveBy, openSubpath, lineTo, lineBy, curveTo, curveBy, samePoint, setPoint, backwards, handBack, endFlex, heightOf, otherSubr0, collected, otherSubr2, is, otherSubr, callOtherSubr, popD, divD, stems3, pointAt, operate}
 use Rattle.type1.specs.Sound.{All, OfPoint, OfStem, OfCommand, OfFlex, OfGroup, Numbers, Ends, Sums, Kept, Holding, Held, Stable}
 use Rattle.type1.specs.Outcomes.{check-ends, allowed-ends, pick-ends, needs-ends, then-ends, weaken-ends, all-append, all-snoc, all-take, all-drop, all-getD, all-getD-default, all-map}
 

@@ -15,8 +15,9 @@ use Rattle.geometry.specs.declared.Point.{Point}
 use Rattle.type1.specs.Operator as op
 use Rattle.type1.specs.Operator.{Operator}
 use Rattle.type1.specs.Number.{Token, cut, number, operator, token, double}
-use Rattle.type1.specs.State.{Command, move, line, curve, flex, State, plusZero, origin, withPoint, withPostscript, withFlex, withHints, withOpen, isIn, lastIs, stemCount}
-use Rattle.type1.specs.Run.{Limits, within, unlimited, Outcome, going, returning, ending, refused, andThen, pick, check, allowed, top, cleared, without, needs, push, stemOf, stem, entries, newGroup, commit, enter, list, shifted, isFinite, noFlex, moveBy, openSubpath, lineTo, lineBy, curveTo, curveBy, samePoint, setPoint, backwards, handBack, endFlex, heightOf, otherSubr0, is, otherSubr, callOtherSubr, popD, stems3, pointAt, operate, Font, charge, named, returned, callBody, callSubr, execute, consume, runBytes, runBody, run}
+use Rattle.outline.specs.Outline.{Command, move, line, curve, flex, plusZero, origin, isIn, lastIs, stemCount, pick, stemOf}
+use Rattle.type1.specs.State.{State, withPoint, withPostscript, withFlex, withHints, withOpen}
+use Rattle.type1.specs.Run.{Limits, within, unlimited, Outcome, going, returning, ending, refused, andThen, check, allowed, top, cleared, without, needs, push, stem, entries, newGroup, commit, enter, list, shifted, isFinite, noFlex, moveBy, openSubpath, lineTo, lineBy, curveTo, curveBy, samePoint, setPoint, backwards, handBack, endFlex, heightOf, otherSubr0, is, otherSubr, callOtherSubr, popD, stems3, pointAt, operate, Font, charge, named, returned, callBody, callSubr, execute, consume, runBytes, runBody, run}
 use Rattle.type1.specs.Sound.{isLimit, Limiting, LimitOr}
 
 -- ---- through the ways steps are put together

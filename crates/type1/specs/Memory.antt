@@ -12,12 +12,15 @@ use lib.Ieee.{Float, nan, binary64, ofBits, fits}
 use lib.Ieee.Scale.{finite}
 use Rattle.charstring.specs.Cipher.{maxCharstringBytes}
 use Rattle.geometry.specs.declared.Point.{Point}
-use Rattle.type1.specs.declared.Stem.{Stem}
+use Rattle.outline.specs.declared.Stem.{Stem}
+use Rattle.hints.specs.Hints.{stemAt}
 use Rattle.type1.specs.declared.St.{St}
 use Rattle.type1.specs.declared.Ran.{Ran}
 use Rattle.type1.specs.Operator.{Operator, ofByte, ofEscape}
-use Rattle.type1.specs.State.{Command, move, line, curve, flex, Group, State, sameStems, lastIs, stemCount}
-use Rattle.type1.specs.Run.{pick, Limits, within, Outcome, going, returning, ending, refused}
+use Rattle.outline.specs.Store.{word, drawnIn, groupsIn}
+use Rattle.outline.specs.Outline.{Command, move, line, curve, flex, Group, sameStems, lastIs, stemCount, pick}
+use Rattle.type1.specs.State.{State}
+use Rattle.type1.specs.Run.{Limits, within, Outcome, going, returning, ending, refused}
 
 -- ---- the arrays
 pub record Mem : Type 0 where
@@ -37,42 +40,9 @@ pointsAt zero l = []
 pointsAt (suc n) l = pointsAt n l ++ (record { x = getD l (2 * n) nan; y = getD l (2 * n + 1) nan } ∷ [])
 
 -- n stems, from a place on
-abbrev pub stemAt : List Float → List Bool → ℕ → Stem
-stemAt e a i = record { horizontal = getD a i false; pos = getD e (2 * i) nan; width = getD e (2 * i + 1) nan }
-
 unfoldable pub stemsAt : ℕ → ℕ → List Float → List Bool → List Stem
 stemsAt from zero e a = []
 stemsAt from (suc n) e a = stemsAt from n e a ++ (stemAt e a (from + n) ∷ [])
-
--- ---- the command store: 1 a move, 2 a line, 3 a curve, 4 a flex, 5 a group's start
-abbrev pub word : List ℕ → ℕ → ℕ → ℕ
-word c k i = getD c (14 * k + i) 0
-
-abbrev pub coordinate : List ℕ → ℕ → ℕ → Float
-coordinate c k i = ofBits binary64 (word c k i)
-
-abbrev pub pointIn : List ℕ → ℕ → ℕ → Point
-pointIn c k i = record { x = coordinate c k i; y = coordinate c k (i + 1) }
-
--- the command of entry k, none where it is a group's start
-unfoldable pub commandIn : List ℕ → ℕ → List Command
-commandIn c k =
-    pick (eqb (word c k 0) 1) (move (pointIn c k 1) ∷ [])
-    (pick (eqb (word c k 0) 2) (line (pointIn c k 1) ∷ [])
-    (pick (eqb (word c k 0) 3) (curve (pointIn c k 1) (pointIn c k 3) (pointIn c k 5) ∷ [])
-    (pick (eqb (word c k 0) 4) (flex (pointIn c k 1) (pointIn c k 3) (pointIn c k 5) (pointIn c k 7) (pointIn c k 9) (pointIn c k 11) (coordinate c k 13) ∷ []) [])))
-
-unfoldable pub drawnIn : ℕ → List ℕ → List Command
-drawnIn zero c = []
-drawnIn (suc k) c = drawnIn k c ++ commandIn c k
-
--- the group that starts at entry k, with n entries drawn before it: where its records begin, and how many there are
-unfoldable pub groupIn : List ℕ → List Stem → ℕ → ℕ → List Group
-groupIn c z k n = pick (eqb (word c k 0) 5) (record { stems = take (word c k 2) (drop (word c k 1) z); before = n } ∷ []) []
-
-unfoldable pub groupsIn : ℕ → List ℕ → List Stem → List Group
-groupsIn zero c z = []
-groupsIn (suc k) c z = groupsIn k c z ++ groupIn c z k (length (drawnIn k c))
 
 -- ---- the state that is held
 abbrev pub flexIn : Bool → ℕ → List Float → Option (List Point)
@@ -142,11 +112,7 @@ Meets r m (refused n) = (r .flow ≡ n) × (3 ≤ n)
 
 -- the operator of a token: its byte, or 256 and the byte after a 12
 unfoldable pub operatorOf : ℕ → Operator
-operatorOf n = pickOp (ltb n 256) (ofByte n) (ofEscape (n - 256))
-  where
-    pickOp : Bool → Operator → Operator → Operator
-    pickOp true a b = a
-    pickOp false a b = b
+operatorOf n = pick (ltb n 256) (ofByte n) (ofEscape (n - 256))
 
 -- ---- arrays and fields that a function changes
 
@@ -196,7 +162,3 @@ pub record Path (t : St) (r : Ran) (room : ℕ) : Type 0 where
   pub quiet : t .changed ≡ false → r .st .groups ≡ t .groups
   pub settled : r .flow ≡ 0 → r .st .changed ≡ false
   pub space : (r .st .groups ≡ t .groups → ⊥) → t .stems + t .hints ≤ room
-
--- a move or a line, by its kind
-abbrev pub pointCommand : ℕ → Point → Command
-pointCommand k p = pick (eqb k 1) (move p) (line p)

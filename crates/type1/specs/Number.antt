@@ -6,6 +6,7 @@ use lib.Dec.{ltb, leb, eqb}
 use lib.IntN.{ℤ, pos, subℕ}
 use lib.Ieee.{Float, binary64, ofInt}
 use Rattle.type1.specs.Operator.{Operator, ofByte, ofEscape}
+use Rattle.outline.specs.Outline.{pick}
 
 -- 32 to 246: v - 139
 abbrev pub oneByte : ℕ → ℤ
@@ -28,10 +29,6 @@ pub data Token : Type 0 where
   cut : Token
   number : ℕ → ℤ → Token
   operator : ℕ → Operator → Token
-
-abbrev pub pick : Bool → Token → Token → Token
-pick true a b = a
-pick false a b = b
 
 abbrev pub tokenTwo : ℕ → List ℕ → Token
 tokenTwo v [] = cut

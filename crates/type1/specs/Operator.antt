@@ -3,16 +3,13 @@ use Prim.Native.Nat.{ℕ}
 use mathlib.Core.Bool.{Bool, true, false}
 use mathlib.Core.List.{List, [], _∷_}
 use lib.Dec.{eqb}
+use Rattle.outline.specs.Outline.{pick}
 
 -- T1's names of them; `unknown` is any other byte
 pub data Operator : Type 0 where
   hstem vstem vmoveto rlineto hlineto vlineto rrcurveto closepath callsubr return hsbw endchar rmoveto hmoveto vhcurveto hvcurveto : Operator
   dotsection vstem3 hstem3 seac sbw div callothersubr pop setcurrentpoint : Operator
   unknown : Operator
-
-abbrev pub pick : Bool → Operator → Operator → Operator
-pick true a b = a
-pick false a b = b
 
 -- what a table has for a byte; what it has not is unknown
 abbrev pub look : List (ℕ × Operator) → ℕ → Operator

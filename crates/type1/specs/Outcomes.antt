@@ -7,8 +7,9 @@ use mathlib.Core.Bool.{Bool, true, false, not}
 use mathlib.Core.List.{List, [], _∷_, _++_}
 use lib.Dec.{T, eqb, leb, leb→le}
 use lib.ListN.{length, take, drop, getD}
+use Rattle.outline.specs.Outline.{pick}
 use Rattle.type1.specs.State.{State}
-use Rattle.type1.specs.Run.{Outcome, going, returning, ending, refused, andThen, pick, check, allowed, needs, returned}
+use Rattle.type1.specs.Run.{Outcome, going, returning, ending, refused, andThen, check, allowed, needs, returned}
 use Rattle.type1.specs.Sound.{All, Ends, Goes}
 
 -- ---- a limit by its test

@@ -20,8 +20,9 @@ use Rattle.type1.specs.declared.Called.{Called}
 use Rattle.type1.specs.Operator as op
 use Rattle.type1.specs.Operator.{Operator}
 use Rattle.type1.specs.Number.{cut, number, operator, token, double}
-use Rattle.type1.specs.State.{Command, State}
-use Rattle.type1.specs.Run.{pick, Limits, within, Outcome, going, refused, andThen, returned, enter, operate, callSubr, runBytes}
+use Rattle.outline.specs.Outline.{Command, pick}
+use Rattle.type1.specs.State.{State}
+use Rattle.type1.specs.Run.{Limits, within, Outcome, going, refused, andThen, returned, enter, operate, callSubr, runBytes}
 use Rattle.type1.specs.Memory.{Mem, abs, Fit, Holds, Meets, withOps, withCmds, after, operatorOf}
 use Rattle.type1.specs.Small.{ranOf}
 use Rattle.type1.specs.Sound.{Sound}

@@ -12,17 +12,14 @@ use lib.Ieee.Scale.{finite}
 use Rattle.charstring.specs.Cipher.{plain, maxCharstringBytes}
 use Rattle.bank.specs.Bank.{body}
 use Rattle.geometry.specs.declared.Point.{Point}
-use Rattle.type1.specs.declared.Stem.{Stem}
+use Rattle.outline.specs.declared.Stem.{Stem}
 use Rattle.type1.specs.declared.Reading.{Reading}
 use Rattle.type1.specs.Operator as op
 use Rattle.type1.specs.Operator.{Operator}
 use Rattle.type1.specs.Number.{Token, cut, number, operator, token, double}
-use Rattle.type1.specs.State.{Command, move, line, curve, flex, Group, State, plusZero, origin, withOperands, withPostscript, withPoint, withBearing, withOpen, withFlex, withHints, settled, withDrawn, withDivided, withRan, isIn, lastIs, stemCount}
-
--- a choice by a test
-abbrev pub pick : {A : Type 0} → Bool → A → A → A
-pick true a b = a
-pick false a b = b
+use Rattle.outline.specs.Store.{entryWords}
+use Rattle.outline.specs.Outline.{Command, move, line, curve, flex, Group, plusZero, origin, isIn, lastIs, stemCount, pick, stemOf}
+use Rattle.type1.specs.State.{State, withOperands, withPostscript, withPoint, withBearing, withOpen, withFlex, withHints, settled, withDrawn, withDivided, withRan}
 
 -- ---- limits: 0 where so many have room, else the number that is refused with
 
@@ -40,7 +37,7 @@ atMost most k n = pick (leb n most) 0 k
 
 -- document 01's numbers 15 to 17: 256 operands, 256 on the PostScript stack, 256 stems in force, 256 groups, and the lent stores, of so many records and words, 14 words to an entry
 abbrev pub within : ℕ → ℕ → Limits
-within records words = record { operands = atMost 256 15; postscript = atMost 256 15; hints = atMost 256 16; groups = atMost 256 16; stems = atMost records 16; commands = λ n. atMost words 17 (14 * n) }
+within records words = record { operands = atMost 256 15; postscript = atMost 256 15; hints = atMost 256 16; groups = atMost 256 16; stems = atMost records 16; commands = λ n. atMost words 17 (entryWords * n) }
 
 -- the run that is fed nothing of the converter's stores
 abbrev pub unlimited : Limits
@@ -88,9 +85,6 @@ unfoldable pub push : Limits → Float → State → Outcome
 push lim v s = allowed (lim .operands (length (s .operands) + 1)) (going (withOperands (s .operands ++ (v ∷ [])) s))
 
 -- ---- hints
-
-abbrev pub stemOf : Bool → Float → Float → Stem
-stemOf h p w = record { horizontal = h; pos = p; width = w }
 
 -- "A stem equal to one in force is not added"; its edge is finite (14), and a 257th in force is refused with 16
 unfoldable pub stem : Limits → Bool → Float → Float → State → Outcome

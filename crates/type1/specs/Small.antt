@@ -11,9 +11,8 @@ use Rattle.charstring.specs.Cipher.{maxCharstringBytes}
 use Rattle.geometry.specs.declared.Point.{Point}
 use Rattle.type1.specs.declared.St.{St}
 use Rattle.type1.specs.declared.Ran.{Ran}
-use Rattle.type1.specs.declared.Stem.{Stem}
-use Rattle.type1.specs.State.{Command, flex, plusZero}
-use Rattle.type1.specs.Run.{pick}
+use Rattle.outline.specs.declared.Stem.{Stem}
+use Rattle.outline.specs.Outline.{Command, flex, plusZero, pick}
 use Rattle.type1.specs.Memory.{Bounds, Good}
 
 abbrev pub ranOf : St → ℕ → Ran
@@ -71,7 +70,3 @@ pub record Finite (t : St) (ops cells : List Float) : Type 0 where
 -- a group that was made has room in a stem store of so many records
 abbrev pub Space : St → St → ℕ → Type 0
 Space t u room = (u .groups ≡ t .groups → ⊥) → t .stems + t .hints ≤ room
-
--- the zero record: vertical, 0, 0 (document 01, "Forms of the Rust that need another")
-abbrev pub zeroStem : Stem
-zeroStem = record { horizontal = false; pos = plusZero; width = plusZero }

@@ -13,9 +13,10 @@ use lib.Ieee.Scale.{finite}
 use Rattle.binary64.specs.Value.{Whole}
 use Rattle.charstring.specs.Cipher.{Bytes, maxCharstringBytes}
 use Rattle.geometry.specs.declared.Point.{Point}
-use Rattle.type1.specs.declared.Stem.{Stem}
+use Rattle.outline.specs.declared.Stem.{Stem}
 use Rattle.type1.specs.Number.{Token, cut, number, operator, double}
-use Rattle.type1.specs.State.{Command, move, line, curve, flex, Group, State, plusZero, withRan}
+use Rattle.outline.specs.Outline.{Command, move, line, curve, flex, Group, plusZero}
+use Rattle.type1.specs.State.{State, withRan}
 use Rattle.type1.specs.Memory.{Good}
 use Rattle.type1.specs.Operator.{Operator}
 use Rattle.type1.specs.Run.{Limits, Outcome, going, returning, ending, refused, without, push, operate}

@@ -14,7 +14,8 @@ use Rattle.binary64.specs.Units.{finite-of}
 use Rattle.charstring.specs.Cipher.{Bytes}
 use Rattle.type1.specs.Operator.{Operator}
 use Rattle.type1.specs.Number.{double}
-use Rattle.type1.specs.State.{State, plusZero, start}
+use Rattle.outline.specs.Outline.{plusZero}
+use Rattle.type1.specs.State.{State, start}
 use Rattle.type1.specs.Memory.{Good}
 use Rattle.type1.specs.Run.{Limits, Outcome, push, Font, callSubr, execute, runBytes, runBody, run}
 use Rattle.type1.specs.Sound.{All, Sound, SoundOut, Ends, Sums, Kept, Held, Stable}

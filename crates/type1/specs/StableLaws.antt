@@ -15,8 +15,9 @@ use Rattle.bank.specs.Bank.{count, bodyStart, bodyEnd, body}
 use Rattle.type1.specs.Operator.{Operator, ofByte}
 use Rattle.type1.specs.Number.{oneByte, twoBytes, twoBytesBelow, Token, cut, number, operator, tokenTwo, tokenFive, tokenEscape, token, double}
 use Rattle.type1.specs.Number as Number
-use Rattle.type1.specs.State.{State, plusZero, withRan}
-use Rattle.type1.specs.Run.{Limits, Outcome, going, andThen, pick, top, without, push, Font, charge, named, returned, callBody, callSubr, execute, consume, runBytes, runBody, run}
+use Rattle.outline.specs.Outline.{plusZero, pick}
+use Rattle.type1.specs.State.{State, withRan}
+use Rattle.type1.specs.Run.{Limits, Outcome, going, andThen, top, without, push, Font, charge, named, returned, callBody, callSubr, execute, consume, runBytes, runBody, run}
 use Rattle.type1.specs.Sound.{Ends, Stable, SmallToken, ByteBody}
 use Rattle.type1.specs.Outcomes.{check-ends, needs-ends, returned-ends, then-ends}
 
@@ -28,7 +29,7 @@ sub-small a b n h k = go (ltb a b) (ltb→lt a b)
     go true f = let g = f tt in omega arith
     go false f = omega arith
 
-token-pick : (b : Bool) (x y : Token) → (T b → SmallToken x) → (T (not b) → SmallToken y) → SmallToken (Number.pick b x y)
+token-pick : (b : Bool) (x y : Token) → (T b → SmallToken x) → (T (not b) → SmallToken y) → SmallToken (pick b x y)
 token-pick true x y f g = f tt
 token-pick false x y f g = g tt
 

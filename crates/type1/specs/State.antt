@@ -7,18 +7,8 @@ use lib.IntN.{pos}
 use lib.ListN.{length}
 use lib.Ieee.{Float, fin, eq}
 use Rattle.geometry.specs.declared.Point.{Point}
-use Rattle.type1.specs.declared.Stem.{Stem}
-
--- an entry of the drawn list, and the flex height that goes with a flex
-pub data Command : Type 0 where
-  move line : Point → Command
-  curve : Point → Point → Point → Command
-  flex : Point → Point → Point → Point → Point → Point → Float → Command
-
--- a group keeps its stems and the number of entries listed before it
-pub record Group : Type 0 where
-  pub stems : List Stem
-  pub before : ℕ
+use Rattle.outline.specs.declared.Stem.{Stem}
+use Rattle.outline.specs.Outline.{Command, Group, plusZero, origin}
 
 -- "State: operands, PostScript stack, point and side bearing (0, 0), whether a subpath is open (no), a flex and its points (none), stems in force, groups, drawn list (all empty), whether the stems changed (no), whether a div ran (no)"; and the width and the bytes run, for the answer
 pub record State : Type 0 where
@@ -35,12 +25,6 @@ pub record State : Type 0 where
   pub drawn : List Command
   pub divided : Bool
   pub ran : ℕ
-
-abbrev pub plusZero : Float
-plusZero = fin false 0 (pos 0)
-
-abbrev pub origin : Point
-origin = record { x = plusZero; y = plusZero }
 
 -- before the first byte
 abbrev pub start : State
@@ -82,28 +66,3 @@ withDivided s = record { operands = s .operands; postscript = s .postscript; poi
 
 abbrev pub withRan : ℕ → State → State
 withRan n s = record { operands = s .operands; postscript = s .postscript; point = s .point; bearing = s .bearing; width = s .width; opened = s .opened; flexing = s .flexing; hints = s .hints; changed = s .changed; groups = s .groups; drawn = s .drawn; divided = s .divided; ran = n }
-
--- ---- stems: equal as numbers, so that -0 equals 0
-abbrev pub sameStem : Stem → Stem → Bool
-sameStem s t = Bool·beq (s .horizontal) (t .horizontal) && (eq (s .pos) (t .pos) && eq (s .width) (t .width))
-
-unfoldable pub isIn : List Stem → Stem → Bool
-isIn [] s = false
-isIn (t ∷ l) s = sameStem t s || isIn l s
-
--- the same stems in the same order
-unfoldable pub sameStems : List Stem → List Stem → Bool
-sameStems [] [] = true
-sameStems [] (t ∷ m) = false
-sameStems (s ∷ l) [] = false
-sameStems (s ∷ l) (t ∷ m) = sameStem s t && sameStems l m
-
-unfoldable pub lastIs : List Group → List Stem → Bool
-lastIs [] l = false
-lastIs (g ∷ []) l = sameStems (g .stems) l
-lastIs (g ∷ h ∷ gs) l = lastIs (h ∷ gs) l
-
--- how many stems all groups have
-unfoldable pub stemCount : List Group → ℕ
-stemCount [] = 0
-stemCount (g ∷ gs) = length (g .stems) + stemCount gs

@@ -16,27 +16,27 @@ ghost use Rattle.bank.specs.Bank.{Valid};
 ghost use Rattle.type1.specs.declared.Reading.{Reading};
 ghost use Rattle.type1.specs.Number as Number;
 ghost use Rattle.type1.specs.State as State;
+ghost use Rattle.outline.specs.Outline as Outline;
 ghost use Rattle.type1.specs.Operator as Op;
 ghost use Rattle.type1.specs.Run as Run;
-ghost use Rattle.type1.specs.Run.{pick, readingOf, within, stemOf, pointAt, isFinite, operate};
-ghost use Rattle.type1.specs.Memory.{Mem, stemAt, stemsAt, Bounds, Good, Holds, Meets, operatorOf, withOps, withPs, withCells, withCmds, withHints, withPath, after, Told, Plain, Path, pointCommand};
+ghost use Rattle.outline.specs.Outline.{pick, stemOf};
+ghost use Rattle.outline.specs.Store.{pointCommand};
+ghost use Rattle.type1.specs.Run.{readingOf, within, pointAt, isFinite, operate};
+ghost use Rattle.hints.specs.Hints.{stemAt};
+ghost use Rattle.type1.specs.Memory.{Mem, stemsAt, Bounds, Good, Holds, Meets, operatorOf, withOps, withPs, withCells, withCmds, withHints, withPath, after, Told, Plain, Path};
 ghost use Rattle.type1.specs.Reading.{cursorOf, withCount, placed, tokOf, Numbered, Operated, Stores, Adds, Draws, isQuick, Reads, Calls};
 ghost use Rattle.type1.specs.Small as Small;
 ghost use Rattle.type1.specs.Cycle.{memOf, Ready, opD, runD};
 ghost use Rattle.type1.specs.Entry.{zeroSt, startFlow, numberOf, answerOf, Cleared};
 ghost use Rattle.type1.specs.Interpret.{sourceOf, outcome, refusedWith, Leaves};
 use geometry::Point;
-
-// A stem hint in absolute character-space coordinates, in C's layout.
-#[repr(C)]
-pub struct Stem {
-    // A horizontal stem (`hstem`), which constrains y.
-    pub horizontal: bool,
-    // The stem's first edge.
-    pub pos: f64,
-    // Distance to its second edge; -20 and -21 mark edge (ghost) hints.
-    pub width: f64,
-}
+use outline::CURVE;
+use outline::ENTRY;
+use outline::FLEX;
+use outline::GROUP;
+use outline::LINE;
+use outline::MOVE;
+use outline::Stem;
 
 // How a charstring and its subroutines are read.
 pub struct Reading {
@@ -90,20 +90,6 @@ struct Ran {
     st: St,
     flow: u8,
 }
-
-// words of an entry
-const ENTRY: usize = 14;
-
-// kinds of entries
-const MOVE: u64 = 1;
-
-const LINE: u64 = 2;
-
-const CURVE: u64 = 3;
-
-const FLEX: u64 = 4;
-
-const GROUP: u64 = 5;
 
 // places in `cells`, after the eight points of a flex
 const BEARING_X: usize = 16;
@@ -319,7 +305,7 @@ fn store_curve(
 ) -> bool
     requires { ⌜ 14 * k ≤ length (now cmds) ⌝ }
     requires { ⌜ T (isFinite (pointAt px py)) × (T (isFinite (pointAt qx qy)) × T (isFinite (pointAt rx ry))) ⌝ }
-    ensures { λ r. ⌜ Stores (State.curve (pointAt px py) (pointAt qx qy) (pointAt rx ry)) k (now (cmds .entry)) r (now (cmds .exit)) ⌝ }
+    ensures { λ r. ⌜ Stores (Outline.curve (pointAt px py) (pointAt qx qy) (pointAt rx ry)) k (now (cmds .entry)) r (now (cmds .exit)) ⌝ }
 {
     let at = ENTRY * k;
     if cmds.len() - at < ENTRY {
@@ -660,7 +646,7 @@ fn enter_curve(
     requires { ⌜ 14 * st .entries ≤ length (now cmds) ⌝ }
     requires { ⌜ T (isFinite (pointAt px py)) × (T (isFinite (pointAt qx qy)) × T (isFinite (pointAt rx ry))) ⌝ }
     ensures { λ r. ⌜ ((m : Mem) (s : State.State) (room : ℕ) → Holds st (withCmds (now (cmds .entry)) m) s →
-        Meets r (withCmds (now (cmds .exit)) m) (Run.enter (within room (length (now (cmds .entry)))) (State.curve (pointAt px py) (pointAt qx qy) (pointAt rx ry)) s)) ⌝ }
+        Meets r (withCmds (now (cmds .exit)) m) (Run.enter (within room (length (now (cmds .entry)))) (Outline.curve (pointAt px py) (pointAt qx qy) (pointAt rx ry)) s)) ⌝ }
     ensures { λ r. ⌜ Plain st (r .st) ⌝ }
 {
     let k = st.entries;
@@ -698,7 +684,7 @@ fn enter_flex(
     requires { ⌜ Small.GoodPoint p4 × (Small.GoodPoint p5 × Small.GoodPoint p6) ⌝ }
     requires { ⌜ T (finite height) ⌝ }
     ensures { λ r. ⌜ ((m : Mem) (s : State.State) (room : ℕ) → Holds st (withCmds (now (cmds .entry)) m) s →
-        Meets r (withCmds (now (cmds .exit)) m) (Run.enter (within room (length (now (cmds .entry)))) (State.flex p1 p2 p3 p4 p5 p6 height) s)) ⌝ }
+        Meets r (withCmds (now (cmds .exit)) m) (Run.enter (within room (length (now (cmds .entry)))) (Outline.flex p1 p2 p3 p4 p5 p6 height) s)) ⌝ }
     ensures { λ r. ⌜ Plain st (r .st) ⌝ }
 {
     let k = st.entries;
@@ -763,9 +749,14 @@ fn in_force(
     across: &[bool; 256],
 ) -> bool
     requires { ⌜ count ≤ 256 ⌝ }
-    ensures { λ r. ⌜ r ≡ State.isIn (stemsAt 0 count (now (edges .entry)) (now (across .entry))) (stemOf horizontal pos width) ⌝ }
+    ensures { λ r. ⌜ r ≡ Outline.isIn (stemsAt 0 count (now (edges .entry)) (now (across .entry))) (stemOf horizontal pos width) ⌝ }
 {
-    hints::in_force(horizontal, pos, width, count, edges, across)
+    let s = Stem {
+        horizontal,
+        pos,
+        width,
+    };
+    hints::in_force(s, count, edges, across)
 }
 
 // A stem comes in force, unless an equal one is.
@@ -926,7 +917,7 @@ fn open_subpath(same: bool, room: usize, st: St, cmds: &mut [u64]) -> Ran
     requires { ⌜ st .stems ≤ room ⌝ }
     requires { ⌜ T (finite (st .x)) × T (finite (st .y)) ⌝ }
     ensures { λ r. ⌜ ((m : Mem) (s : State.State) → length (m .stems) ≡ room → Told same s → Holds st (withCmds (now (cmds .entry)) m) s →
-        Meets r (after st r (now (cmds .exit)) m) (Run.andThen (Run.list (within room (length (now (cmds .entry)))) (State.move (pointAt (st .x) (st .y))) s) (λ t. Run.going (State.withOpen true t)))) ⌝ }
+        Meets r (after st r (now (cmds .exit)) m) (Run.andThen (Run.list (within room (length (now (cmds .entry)))) (Outline.move (pointAt (st .x) (st .y))) s) (λ t. Run.going (State.withOpen true t)))) ⌝ }
     ensures { λ r. ⌜ Path st r room ⌝ }
     ensures { λ r. ⌜ Small.Grown st (r .st) (length (now (cmds .entry))) room ⌝ }
 {
@@ -1754,7 +1745,7 @@ fn put(stems: &mut [Stem], i: usize, v: Stem)
 // The record at a place becomes the zero record: vertical, 0, 0. Stored as a literal: LLVM then writes its fields and no padding.
 fn clear(stems: &mut [Stem], i: usize)
     requires { ⌜ i < length (now stems) ⌝ }
-    ensures { λ _. ⌜ now (stems .exit) ≡ set (now (stems .entry)) i Small.zeroStem ⌝ }
+    ensures { λ _. ⌜ now (stems .exit) ≡ set (now (stems .entry)) i Outline.zeroStem ⌝ }
 {
     stems[i] = Stem {
         horizontal: false,
@@ -1782,27 +1773,12 @@ fn sum(a: usize, b: usize) -> usize
     a + b
 }
 
-// The record at a place.
-fn stem_from(stems: &mut [Stem], i: usize) -> Stem
-    requires { ⌜ i < length (now stems) ⌝ }
-    ensures { λ r. ⌜ (r ≡ getD (now (stems .entry)) i Small.zeroStem) × (now (stems .exit) ≡ now (stems .entry)) ⌝ }
-{
-    stems[i]
-}
-
 // Whether a record differs from the stem in force at a place.
 fn differs_at(v: Stem, i: usize, edges: &[f64; 512], across: &[bool; 256]) -> bool
     requires { ⌜ i < 256 ⌝ }
-    ensures { λ r. ⌜ r ≡ not (State.sameStem v (stemAt (now (edges .entry)) (now (across .entry)) i)) ⌝ }
+    ensures { λ r. ⌜ r ≡ not (Outline.sameStem v (stemAt (now (edges .entry)) (now (across .entry)) i)) ⌝ }
 {
-    !hints::same_stem(
-        v.horizontal,
-        v.pos,
-        v.width,
-        across[i],
-        edges[2 * i],
-        edges[2 * i + 1],
-    )
+    !outline::same_stem(v, stem_at(i, edges, across))
 }
 
 // Whether n records are the stems in force, in the same order.
@@ -1814,11 +1790,11 @@ fn all_same(
     stems: &mut [Stem],
 ) -> bool
     requires { ⌜ (n ≤ 256) × (first + n ≤ length (now stems)) ⌝ }
-    ensures { λ r. ⌜ (r ≡ State.sameStems (take n (drop first (now (stems .entry)))) (stemsAt 0 n (now (edges .entry)) (now (across .entry)))) × (now (stems .exit) ≡ now (stems .entry)) ⌝ }
+    ensures { λ r. ⌜ (r ≡ Outline.sameStems (take n (drop first (now (stems .entry)))) (stemsAt 0 n (now (edges .entry)) (now (across .entry)))) × (now (stems .exit) ≡ now (stems .entry)) ⌝ }
 {
     let mut i = 0;
     while i < n {
-        if differs_at(stem_from(stems, sum(first, i)), i, edges, across) {
+        if differs_at(outline::stem_from(stems, sum(first, i)), i, edges, across) {
             return false;
         }
         i += 1;
@@ -1837,7 +1813,7 @@ fn last_from(st: St) -> usize
 // Whether the stems in force changed and are the last group's, in the same order. With no group they are not.
 fn is_last(st: St, edges: &[f64; 512], across: &[bool; 256], stems: &mut [Stem]) -> bool
     requires { ⌜ (st .hints ≤ 256) × ((st .last ≤ st .stems) × (st .stems ≤ length (now stems))) ⌝ }
-    ensures { λ r. ⌜ (r ≡ (st .changed && (ltb 0 (st .groups) && State.sameStems (take (st .last) (drop (st .stems - st .last) (now (stems .entry)))) (stemsAt 0 (st .hints) (now (edges .entry)) (now (across .entry)))))) × (now (stems .exit) ≡ now (stems .entry)) ⌝ }
+    ensures { λ r. ⌜ (r ≡ (st .changed && (ltb 0 (st .groups) && Outline.sameStems (take (st .last) (drop (st .stems - st .last) (now (stems .entry)))) (stemsAt 0 (st .hints) (now (edges .entry)) (now (across .entry)))))) × (now (stems .exit) ≡ now (stems .entry)) ⌝ }
 {
     if hints::may_be_last(st.changed, st.groups, st.last, st.hints) {
         return all_same(last_from(st), st.hints, edges, across, stems);
@@ -1859,7 +1835,7 @@ fn keep_group(used: usize, n: usize, edges: &[f64; 512], across: &[bool; 256], s
 
 // Every record becomes the zero record.
 pub fn wipe(stems: &mut [Stem])
-    ensures { λ _. ⌜ now (stems .exit) ≡ replicate (length (now (stems .entry))) Small.zeroStem ⌝ }
+    ensures { λ _. ⌜ now (stems .exit) ≡ replicate (length (now (stems .entry))) Outline.zeroStem ⌝ }
 {
     let mut i = 0;
     while i < stems.len() {

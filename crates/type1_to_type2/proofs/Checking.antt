@@ -13,9 +13,9 @@ use lib.Ieee.Scale.{finite}
 use Rattle.geometry.specs.declared.Point.{Point}
 use Rattle.geometry.specs.declared.Matrix.{Matrix}
 use Rattle.folding.specs.declared.Fold.{Fold}
-use Rattle.type1.specs.State.{Command, move, line, curve, flex}
-use Rattle.type1.specs.Run.{pick}
-use Rattle.type1.specs.Memory.{Good, word, commandIn, drawnIn}
+use Rattle.outline.specs.Outline.{Command, move, line, curve, flex, pick, plusZero}
+use Rattle.outline.specs.Store.{word, commandIn, drawnIn}
+use Rattle.type1.specs.Memory.{Good}
 use Rattle.type1.specs.Sound.{All, OfPoint, OfCommand}
 use Rattle.type1_to_type2.specs.declared.Collected.{Collected}
 use Rattle.type1_to_type2.specs.declared.Plan.{Plan}
@@ -25,8 +25,7 @@ use Rattle.type1_to_type2.specs.Stems.{Declared, stemsOf}
 use Rattle.type1_to_type2.specs.Table.{tableStems}
 use Rattle.type1_to_type2.specs.Collecting.{Counted, droppedCounts, needsMasks}
 use Rattle.type1_to_type2.specs.declared.Writer.{Writer}
-use Rattle.type1.specs.declared.Stem.{Stem}
-use Rattle.type1.specs.State.{plusZero}
+use Rattle.outline.specs.declared.Stem.{Stem}
 use Rattle.type1_to_type2.specs.Emission.{Cmd, program}
 use Rattle.type1_to_type2.specs.Writing as Writing
 use Rattle.type1_to_type2.specs.Writing.{Written, refused, write}

@@ -12,8 +12,9 @@ use lib.Ieee.Scale.{finite}
 use lib.Ieee.Bits.{nanBits-is}
 use Rattle.geometry.specs.declared.Point.{Point}
 use Rattle.folding.specs.declared.Fold.{Fold}
-use Rattle.type1.specs.State.{Command, move, line, curve, flex}
-use Rattle.type1.specs.Memory.{Good, word, coordinate, pointIn, commandIn}
+use Rattle.outline.specs.Outline.{Command, move, line, curve, flex}
+use Rattle.outline.specs.Store.{word, coordinate, pointIn, commandIn}
+use Rattle.type1.specs.Memory.{Good}
 use Rattle.type1.specs.Sound.{All, OfPoint, OfCommand}
 use Rattle.folding.specs.Folding.{foldedPoint, foldedList, finitePoint, finiteList}
 use Rattle.type1_to_type2.specs.Collecting.{firstOf, countOf}

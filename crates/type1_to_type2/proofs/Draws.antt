@@ -19,9 +19,9 @@ use Rattle.binary64.specs.Rounding.{away, abs}
 use Rattle.binary64.specs.Tests.{eq→balance, balance→eq}
 use Rattle.geometry.specs.declared.Point.{Point}
 use Rattle.stores.specs.Zeros.{zerosFrom, kept}
-use Rattle.type1.specs.declared.Stem.{Stem}
-use Rattle.type1.specs.State.{Command, move, line, curve, flex, plusZero}
-use Rattle.type1.specs.Run.{pick, pointAt}
+use Rattle.outline.specs.declared.Stem.{Stem}
+use Rattle.outline.specs.Outline.{Command, move, line, curve, flex, plusZero, pick}
+use Rattle.type1.specs.Run.{pointAt}
 use Rattle.type2.specs.Number.{quantized, units, zp, zm, gave, pushNumber}
 use Rattle.type2.specs.Signed.{one-sided}
 use Rattle.type2.specs.Fixed.{units-quantized}

@@ -11,10 +11,10 @@ use lib.Ieee.{Float}
 use borrow.Author.Tests.{ne-eqb, eqb-true, eqb-false}
 use Rattle.geometry.specs.declared.Point.{Point}
 use Rattle.folding.specs.declared.Fold.{Fold}
-use Rattle.type1.specs.declared.Stem.{Stem}
-use Rattle.type1.specs.State.{Command, move, line, curve, flex}
-use Rattle.type1.specs.Run.{pick}
-use Rattle.type1.specs.Memory.{Good, word, coordinate, pointIn, commandIn}
+use Rattle.outline.specs.declared.Stem.{Stem}
+use Rattle.outline.specs.Outline.{Command, move, line, curve, flex, pick}
+use Rattle.outline.specs.Store.{word, coordinate, pointIn, commandIn}
+use Rattle.type1.specs.Memory.{Good}
 use Rattle.type1.specs.Sound.{All, OfPoint, OfCommand}
 use Rattle.type1_to_type2.specs.declared.Writer.{Writer}
 use Rattle.folding.specs.Folding.{foldedCommand}

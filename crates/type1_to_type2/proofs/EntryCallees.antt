@@ -27,7 +27,7 @@ use denote.Struct.Laws as LL
 use denote.Triple.Spec.{tripleOf}
 use denote.Triple.Statement.{Contract, Triple}
 use denote.Triple.Walked.{says}
-use Rattle.type1.specs.declared.Stem.{Stem}
+use Rattle.outline.specs.declared.Stem.{Stem}
 use Rattle.type1.specs.declared.Reading.{Reading}
 use Rattle.type1.proofs.Reading as Y
 use Rattle.type1.proofs.Reading.Laws as Y′
@@ -37,7 +37,7 @@ use Rattle.type1_to_type2.specs.declared.Collected.{Collected}
 use Rattle.type1_to_type2.specs.declared.Writer.{Writer}
 use Rattle.type1.specs.declared.Interpreted.{Interpreted}
 use Rattle.type1_to_type2.specs.declared.Plan.{Plan}
-use Rattle.type1.proofs.Stem as T
+use Rattle.outline.proofs.Stem as T
 use Rattle.geometry.proofs.Matrix as Z
 use Rattle.geometry.proofs.Matrix.Laws as Z′
 use Rattle.folding.proofs.Fold as F
@@ -56,9 +56,10 @@ use Rattle.type1.proofs.Many.{at-one, OwnR, GotAll}
 use Rattle.type1.proofs.Locals.{machI, machY}
 use Rattle.type1_to_type2.proofs.Locals.{machZ, machF, machK, machR, machQ}
 use Prim.Native.Nat.{_*_}
-use Rattle.type1.specs.Small.{zeroStem}
+use Rattle.outline.specs.Outline.{zeroStem}
+use Rattle.outline.specs.Store.{commandIn, drawnIn}
 use Rattle.type1.specs.Sound.{All, OfCommand}
-use Rattle.type1.specs.Memory.{Good, commandIn}
+use Rattle.type1.specs.Memory.{Good}
 use Rattle.type1_to_type2.specs.Streaming.{resumedAll}
 use Rattle.type1_to_type2.specs.Collecting.{Counted}
 use Rattle.type1_to_type2.specs.Passes.{Gathers, both, stemsTo, cmdsFrom, Stored}
@@ -67,7 +68,6 @@ use Rattle.type1.specs.Interpret.{sourceOf, outcome, Leaves}
 use Rattle.type1_to_type2.specs.Convert.{glyphOf, writes, roomsOf}
 use Rattle.type1_to_type2.specs.Entry.{Blank, groupCount, noneOf, Planned, Opens, firstNumber, fromRun, settles, Answers, ConvertsFrom}
 use Rattle.folding.specs.Folding.{foldOf, foldedList, finiteList}
-use Rattle.type1.specs.Memory.{drawnIn}
 use Rattle.folding.proofs.Fold.new as Fold·new-f
 use Rattle.folding.proofs.Fold.new.Symbol.{name as #folding·Fold·new}
 use Rattle.type1_to_type2.proofs.count_groups as count-groups-f

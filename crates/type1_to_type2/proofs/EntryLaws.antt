@@ -7,11 +7,10 @@ use mathlib.Core.List.{List, [], _∷_, _++_, append-nil, append-assoc}
 use lib.ListN.{length, take, drop, length-append}
 use lib.Dec.{T, eqb, eqb→eq, eqb-refl}
 use Rattle.folding.specs.declared.Fold.{Fold}
-use Rattle.type1.specs.declared.Stem.{Stem}
-use Rattle.type1.specs.State.{Command, Group}
-use Rattle.type1.specs.Run.{pick}
+use Rattle.outline.specs.declared.Stem.{Stem}
+use Rattle.outline.specs.Outline.{Command, Group, pick}
+use Rattle.outline.specs.Store.{word, commandIn, drawnIn, groupIn, groupsIn}
 use Rattle.type1.specs.Sound.{All}
-use Rattle.type1.specs.Memory.{word, commandIn, drawnIn, groupIn, groupsIn}
 use Rattle.folding.specs.Folding.{foldedCommand, foldedList, foldedStems, foldedGroup, foldedGroups}
 use Rattle.type1_to_type2.specs.Stems.{allStems}
 use Rattle.type1_to_type2.specs.Emission.{Cmd, hints, shape, startsAt, commands}

@@ -4,8 +4,8 @@ use mathlib.Core.Bool.{Bool, true, false, _&&_, cond}
 use mathlib.Core.List.{List, [], _∷_, _++_, append-assoc}
 use lib.Ieee.Scale.{finite}
 use Rattle.folding.specs.declared.Fold.{Fold}
-use Rattle.type1.specs.declared.Stem.{Stem}
-use Rattle.type1.specs.State.{Group}
+use Rattle.outline.specs.declared.Stem.{Stem}
+use Rattle.outline.specs.Outline.{Group}
 use Rattle.folding.specs.Folding.{stemStays, foldedStem, foldedStems, foldedGroups, finiteStems, finiteGroups}
 use Rattle.type1_to_type2.specs.Stems.{allStems}
 

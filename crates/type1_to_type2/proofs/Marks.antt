@@ -13,8 +13,8 @@ use lib.Arith.{lt-of-le-ne}
 use lib.ListN.{length, getD, take, set, replicate, length-take, length-set, length-append, List·getD-append, replicate-append-replicate}
 use lib.Seq.{ext-getD, getD-take, getD-set-same, getD-set-other, getD-append-seam, getD-append-add, take-suc-set, take-all}
 use lib.Ieee.{Float, nan}
-use Rattle.type1.specs.declared.Stem.{Stem}
-use Rattle.type1.specs.State.{sameStem, isIn}
+use Rattle.outline.specs.declared.Stem.{Stem}
+use Rattle.outline.specs.Outline.{sameStem, isIn}
 use Rattle.type1_to_type2.specs.Stems.{maskOf}
 use Rattle.type1_to_type2.specs.Table.{tableStems}
 use Rattle.type1_to_type2.specs.Collecting.{tableStem, sameEdges, Marked}

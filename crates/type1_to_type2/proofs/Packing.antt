@@ -9,9 +9,8 @@ use lib.Dec.{leb}
 use lib.IntN.{ℤ}
 use lib.Ieee.{Float}
 use borrow.Author.Tests.{eq-eqb, ne-eqb}
-use Rattle.type1.specs.declared.Stem.{Stem}
-use Rattle.type1.specs.State.{plusZero, origin}
-use Rattle.type1.specs.Run.{pick}
+use Rattle.outline.specs.declared.Stem.{Stem}
+use Rattle.outline.specs.Outline.{plusZero, origin, pick}
 use Rattle.type2.specs.Number.{inRange, numberBytes}
 use Rattle.type2.specs.Path.{Kind, moves, lines, curves, flexes, most}
 use Rattle.type2.specs.Instruction.{Instr, instr, maskBytes}

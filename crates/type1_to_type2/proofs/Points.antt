@@ -11,7 +11,8 @@ use lib.Ieee.Scale.{finite}
 use lib.Ieee.Bits.{nanBits-is}
 use Rattle.geometry.specs.declared.Point.{Point}
 use Rattle.folding.specs.declared.Fold.{Fold}
-use Rattle.type1.specs.Memory.{Good, pointIn}
+use Rattle.outline.specs.Store.{pointIn}
+use Rattle.type1.specs.Memory.{Good}
 use Rattle.type1.specs.Sound.{All, OfPoint}
 use Rattle.folding.specs.Folding.{foldedPoint}
 use Rattle.type1_to_type2.specs.declared.Writer.{Writer}

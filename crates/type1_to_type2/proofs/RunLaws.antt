@@ -10,28 +10,29 @@ use lib.Ieee.{Float}
 use lib.Ieee.Scale.{finite}
 use Rattle.geometry.specs.declared.Matrix.{Matrix}
 use Rattle.folding.specs.declared.Fold.{Fold}
-use Rattle.type1.specs.declared.Stem.{Stem}
+use Rattle.outline.specs.declared.Stem.{Stem}
 use Rattle.type1.specs.declared.Reading.{Reading}
 use Rattle.type1.specs.declared.Interpreted.{Interpreted}
-use Rattle.type1.specs.State.{Command, Group, State}
+use Rattle.outline.specs.Outline.{Command, Group, pick, zeroStem}
+use Rattle.outline.specs.Store.{commandIn, drawnIn, groupsIn}
+use Rattle.type1.specs.State.{State}
 use Rattle.type1.specs.Run as Run
-use Rattle.type1.specs.Run.{Outcome, pick}
+use Rattle.type1.specs.Run.{Outcome}
 use Rattle.type1.specs.Interpret.{Source, outcome, Left, refusedWith, Leaves}
 use Rattle.type1.specs.Sound.{All, OfCommand}
-use Rattle.type1.specs.Small.{zeroStem}
-use Rattle.type1.specs.Memory.{Good, commandIn, drawnIn, groupsIn}
+use Rattle.type1.specs.Memory.{Good}
 use Rattle.type1_to_type2.specs.declared.Collected.{Collected}
 use Rattle.type1_to_type2.specs.declared.Plan.{Plan}
 use Rattle.type1_to_type2.specs.declared.Writer.{Writer}
 use Rattle.type1_to_type2.specs.declared.Type2Glyph.{Type2Glyph}
-use Rattle.folding.specs.Folding.{finiteMatrix, foldOf, foldedWidth, foldedList, foldedGroups, finiteList, finiteGroups, foldsFinite, refusal}
+use Rattle.folding.specs.Folding.{finiteMatrix, foldOf, foldedWidth, foldedList, foldedGroups, finiteList, finiteGroups, refusal}
 use Rattle.type2.specs.Bools.{yes}
 use Rattle.type1_to_type2.specs.Stems.{Declared, declared, allStems}
 use Rattle.type1_to_type2.specs.Emission.{Cmd, items, commands, program}
 use Rattle.type1_to_type2.specs.Writing as Writing
 use Rattle.type1_to_type2.specs.Writing.{Written, write}
 use Rattle.type1_to_type2.specs.Convert as Convert
-use Rattle.type1_to_type2.specs.Convert.{Glyph, glyphOf, Conversion, instructions, writes, folded, ended, roomsOf, convert, answer, output}
+use Rattle.type1_to_type2.specs.Convert.{foldsFinite, Glyph, glyphOf, Conversion, instructions, writes, folded, ended, roomsOf, convert, answer, output}
 use Rattle.type1_to_type2.specs.Collecting.{Collects, Counted, noneCollected}
 use Rattle.type1_to_type2.specs.Streaming.{resumedAll}
 use Rattle.type1_to_type2.specs.Passes.{both, Gathers, stemsTo, cmdsFrom, Stored}

@@ -13,9 +13,9 @@ use lib.Ieee.{Float, nan, binary64, sub, add}
 use lib.Arith.{lt-of-le-ne}
 use borrow.Author.Tests.{eq-eqb, ne-eqb, eqb-true, eqb-false}
 use Rattle.geometry.specs.declared.Point.{Point}
-use Rattle.type1.specs.declared.Stem.{Stem}
-use Rattle.type1.specs.State.{plusZero, origin}
-use Rattle.type1.specs.Run.{pick, pointAt}
+use Rattle.outline.specs.declared.Stem.{Stem}
+use Rattle.outline.specs.Outline.{plusZero, origin, pick}
+use Rattle.type1.specs.Run.{pointAt}
 use Rattle.type2.specs.Number.{quantized, units}
 use Rattle.type1_to_type2.proofs.Draws.{in-turn}
 use Rattle.type1_to_type2.proofs.Packing.{write-program}

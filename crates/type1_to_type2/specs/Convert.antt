@@ -1,19 +1,21 @@
 -- Definitions: converting, from the charstring to the program. Document 01, "A glyph's way to the renderer", "Numbers the board logs": 1, 2, the run's steps, folding, writing.
 use Prim.Native.Nat.{ℕ, _-_}
-use mathlib.Core.Bool.{Bool, true, false}
+use mathlib.Core.Bool.{Bool, true, false, _&&_}
 use mathlib.Core.List.{List, [], _∷_, _++_}
 use lib.ListN.{length, replicate}
 use lib.Ieee.{Float}
+use lib.Ieee.Scale.{finite}
 use Rattle.geometry.specs.declared.Matrix.{Matrix}
-use Rattle.type1.specs.declared.Stem.{Stem}
+use Rattle.outline.specs.declared.Stem.{Stem}
 use Rattle.type1.specs.declared.Reading.{Reading}
-use Rattle.type1.specs.State.{State, plusZero}
+use Rattle.outline.specs.Outline.{plusZero, pick}
+use Rattle.type1.specs.State.{State}
 use Rattle.type1.specs.Run as Run
-use Rattle.type1.specs.Run.{Outcome, pick}
+use Rattle.type1.specs.Run.{Outcome}
 use Rattle.type1.specs.Interpret.{Source, outcome}
 use Rattle.type2.specs.Instruction.{Instr}
 use Rattle.type1_to_type2.specs.declared.Type2Glyph.{Type2Glyph}
-use Rattle.folding.specs.Folding.{finiteMatrix, foldOf, foldedList, foldedGroups, foldedWidth, foldsFinite}
+use Rattle.folding.specs.Folding.{finiteMatrix, foldOf, foldedList, foldedGroups, foldedWidth, finiteList, finiteGroups}
 use Rattle.type1_to_type2.specs.Stems.{declared}
 use Rattle.type1_to_type2.specs.Emission.{commands, program}
 use Rattle.type1_to_type2.specs.Writing as Writing
@@ -32,6 +34,10 @@ glyphOf w n b = record { program = b; width = w; ran = n }
 pub data Conversion : Type 0 where
   refused : ℕ → Conversion
   converted : Glyph → Conversion
+
+-- document 01, "Numbers the board logs", 14: whether all that is folded of what a run has left is finite
+unfoldable pub foldsFinite : Matrix → State → Bool
+foldsFinite m s = finite (foldedWidth m (s .width)) && (finiteList (foldedList (foldOf m) (s .drawn)) && finiteGroups (foldedGroups (foldOf m) (s .groups)))
 
 -- the instructions for what a run has left
 unfoldable pub instructions : Matrix → State → List Instr

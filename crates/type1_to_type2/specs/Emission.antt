@@ -8,8 +8,8 @@ use lib.Dec.{leb, eqb}
 use lib.IntN.{ℤ}
 use lib.Ieee.{Float, binary64, add, sub}
 use Rattle.geometry.specs.declared.Point.{Point}
-use Rattle.type1.specs.declared.Stem.{Stem}
-use Rattle.type1.specs.State.{Command, move, line, curve, flex, Group, plusZero, origin}
+use Rattle.outline.specs.declared.Stem.{Stem}
+use Rattle.outline.specs.Outline.{Command, move, line, curve, flex, Group, plusZero, origin}
 use Rattle.type2.specs.Number.{quantized, units}
 use Rattle.type2.specs.Path.{Kind, moves, lines, curves, flexes, delta, reaches, most}
 use Rattle.type2.specs.Instruction.{Instr, instr, moveInstr, maskBytes}

@@ -8,14 +8,13 @@ use lib.ListN.{length, replicate}
 use lib.Ieee.{Float}
 use lib.Ieee.Scale.{finite}
 use Rattle.geometry.specs.declared.Matrix.{Matrix}
-use Rattle.type1.specs.declared.Stem.{Stem}
+use Rattle.outline.specs.declared.Stem.{Stem}
 use Rattle.type1.specs.declared.Reading.{Reading}
 use Rattle.type1.specs.declared.Interpreted.{Interpreted}
 use Rattle.type1.specs.Interpret.{Source}
-use Rattle.type1.specs.State.{Group, State, origin, start}
-use Rattle.type1.specs.Run.{pick}
-use Rattle.type1.specs.Small.{zeroStem}
-use Rattle.type1.specs.Memory.{word, drawnIn, groupsIn}
+use Rattle.outline.specs.Outline.{Group, origin, pick, zeroStem}
+use Rattle.outline.specs.Store.{word, drawnIn, groupsIn}
+use Rattle.type1.specs.State.{State, start}
 use Rattle.type1_to_type2.specs.declared.Collected.{Collected}
 use Rattle.type1_to_type2.specs.declared.Plan.{Plan}
 use Rattle.type1_to_type2.specs.declared.Writer.{Writer}

@@ -12,8 +12,8 @@ use Rattle.binary64.specs.Rounding.{abs, away}
 use lib.Ieee.Scale.{finite}
 use lib.Ieee.Fits.{and-i}
 use Rattle.geometry.specs.declared.Point.{Point}
-use Rattle.type1.specs.declared.Stem.{Stem}
-use Rattle.type1.specs.State.{Command, move, line, curve, flex, Group, plusZero, origin}
+use Rattle.outline.specs.declared.Stem.{Stem}
+use Rattle.outline.specs.Outline.{Command, move, line, curve, flex, Group, plusZero, origin}
 use Rattle.type2.specs.Path.{Kind, moves, lines, curves, flexes, delta, most}
 use Rattle.type2.specs.Number.{quantized, units, numberBytes, inRange}
 use Rattle.type2.specs.Casts.{in-range-finite}

@@ -7,10 +7,11 @@ use lib.Dec.{eqb}
 use lib.ListN.{length, take, drop}
 use lib.Ieee.{Float}
 use Rattle.folding.specs.declared.Fold.{Fold}
-use Rattle.type1.specs.declared.Stem.{Stem}
-use Rattle.type1.specs.Run.{pick}
+use Rattle.outline.specs.declared.Stem.{Stem}
+use Rattle.outline.specs.Outline.{pick}
+use Rattle.outline.specs.Store.{word, commandIn}
 use Rattle.type1.specs.Sound.{All, OfCommand}
-use Rattle.type1.specs.Memory.{Good, word, commandIn}
+use Rattle.type1.specs.Memory.{Good}
 use Rattle.type1_to_type2.specs.declared.Collected.{Collected}
 use Rattle.type1_to_type2.specs.declared.Writer.{Writer}
 use Rattle.folding.specs.Folding.{foldedStems}

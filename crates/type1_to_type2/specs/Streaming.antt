@@ -9,10 +9,9 @@ use lib.IntN.{ℤ}
 use lib.Ieee.{Float}
 use Rattle.geometry.specs.declared.Point.{Point}
 use Rattle.folding.specs.declared.Fold.{Fold}
-use Rattle.type1.specs.declared.Stem.{Stem}
-use Rattle.type1.specs.State.{Command, plusZero}
-use Rattle.type1.specs.Run.{pick}
-use Rattle.type1.specs.Memory.{word, pointIn, commandIn}
+use Rattle.outline.specs.declared.Stem.{Stem}
+use Rattle.outline.specs.Outline.{Command, plusZero, pick}
+use Rattle.outline.specs.Store.{word, pointIn, commandIn}
 use Rattle.type2.specs.Path.{Kind, moves, lines, curves, flexes, most, takes}
 use Rattle.type2.specs.Instruction.{Instr, instr, maskBytes}
 use Rattle.type1_to_type2.specs.declared.Writer.{Writer}

@@ -38,7 +38,7 @@ use denote.Triple.Table.{entered, cited}
 use denote.Triple.Walked.{says, Stays, stay-none, stay-none-slice, stay-slice, walkOf, goes-none, goes-none-slice, goes-slice, ends-at, walked, walk-meets}
 use denote.Exit.{yes}
 use contract.Running.{givenOf, tables, tablesOf}
-use Rattle.type1.specs.declared.Stem.{Stem}
+use Rattle.outline.specs.declared.Stem.{Stem}
 use Rattle.type1.specs.Interpret.{sourceOf}
 use Rattle.type1.specs.declared.Reading.{Reading}
 use Rattle.type1.proofs.Reading as Y
@@ -46,7 +46,7 @@ use Rattle.type1.proofs.Reading.Laws as Y′
 use Rattle.geometry.specs.declared.Matrix.{Matrix}
 use Rattle.type1_to_type2.specs.declared.Type2Glyph.{Type2Glyph}
 use Rattle.type2.specs.declared.Widths.{Widths}
-use Rattle.type1.proofs.Stem as T
+use Rattle.outline.proofs.Stem as T
 use Rattle.geometry.proofs.Matrix as Z
 use Rattle.geometry.proofs.Matrix.Laws as Z′
 use Rattle.type1_to_type2.proofs.Type2Glyph as G

@@ -41,12 +41,12 @@ use denote.Triple.Table.{entered, cited}
 use denote.Triple.Walked.{says, Stays, stay-none, stay-none-ref, stay-none-slice, stay-ref, stay-slice, walkOf, goes-none, goes-none-ref, goes-none-slice, goes-ref, goes-slice, ends-at, walked, walk-meets}
 use denote.Exit.{yes}
 use contract.Running.{givenOf, tables, tablesOf}
-use Rattle.type1.specs.declared.Stem.{Stem}
+use Rattle.outline.specs.declared.Stem.{Stem}
 use Rattle.type1.specs.declared.Reading.{Reading}
 use Rattle.geometry.specs.declared.Matrix.{Matrix}
 use Rattle.type1_to_type2.specs.declared.Type2Glyph.{Type2Glyph}
 use Rattle.type2.specs.declared.Widths.{Widths}
-use Rattle.type1.proofs.Stem as T
+use Rattle.outline.proofs.Stem as T
 use Rattle.type1.proofs.Reading as Y
 use Rattle.type1.proofs.Reading.Laws as Y′
 use Rattle.geometry.proofs.Matrix as Z

@@ -1,6 +1,6 @@
 -- `folding::is_identity` meets its contract.
 use Rattle.folding.specs.Folding.{isIdentity, one}
-use Rattle.type1.specs.State.{plusZero}
+use Rattle.outline.specs.Outline.{plusZero}
 use lib.Ieee.{ofBits, ne, eq}
 use Rattle.folding.proofs.Folds.{six-1, six-2, six-3, six-4, six-5, six-6}
 use mathlib.Core.Path.{refl}

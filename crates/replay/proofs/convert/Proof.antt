@@ -39,14 +39,14 @@ use denote.Triple.Table.{entered, cited}
 use denote.Triple.Walked.{says, Stays, stay-none, stay-none-slice, stay-slice, walkOf, goes-none, goes-none-slice, goes-slice, ends-at, walked, walk-meets}
 use denote.Exit.{yes}
 use contract.Running.{givenOf, tables, tablesOf}
-use Rattle.type1.specs.declared.Stem.{Stem}
+use Rattle.outline.specs.declared.Stem.{Stem}
 use Rattle.type1.proofs.Locals.{machY}
 use Rattle.type1.specs.declared.Reading.{Reading}
 use Rattle.type1.proofs.Reading as Y
 use Rattle.type1.proofs.Reading.Laws as Y′
 use Rattle.type1.specs.Interpret.{Source, sourceOf}
-use Rattle.type1.proofs.Stem as T
-use Rattle.type1.proofs.Stem.Laws as T′
+use Rattle.outline.proofs.Stem as T
+use Rattle.outline.proofs.Stem.Laws as T′
 use Rattle.geometry.specs.declared.Matrix.{Matrix}
 use Rattle.geometry.proofs.Matrix as Z
 use Rattle.geometry.proofs.Matrix.Laws as Z′

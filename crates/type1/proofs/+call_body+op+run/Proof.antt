@@ -29,7 +29,7 @@ use denote.Exit.{yes}
 use denote.Struct.Laws as LL
 use Rattle.bank.specs.Bank.{Valid}
 use Rattle.type1.specs.Cycle.{memOf, Ready}
-use Rattle.type1.proofs.Stem as T
+use Rattle.outline.proofs.Stem as T
 use Rattle.type1.proofs.Reading as Y
 use Rattle.type1.proofs.Reading.Laws as Y′
 use Rattle.type1.proofs.St as S

@@ -44,23 +44,24 @@ use denote.Triple.Table.{entered, cited}
 use denote.Triple.Walked.{says, needs, Stays, stay-none, stay-none-ref, stay-slice, walkOf, goes-none, goes-none-ref, goes-slice, ends-at, walked, walk-meets}
 use denote.Exit.{yes}
 use contract.Running.{givenOf, tables, tablesOf}
-use Rattle.type1.specs.declared.Stem.{Stem}
-use Rattle.type1.proofs.Stem as T
-use Rattle.type1.proofs.Stem.Laws as T′
+use Rattle.outline.specs.declared.Stem.{Stem}
+use Rattle.outline.proofs.Stem as T
+use Rattle.outline.proofs.Stem.Laws as T′
 use Rattle.type1.proofs.Lent.{at-list, Own, lend}
 use Rattle.type1.proofs.LentWith.{returned}
 use Rattle.type1.proofs.Leaving.{filled, bare, leave}
-use Rattle.type1.proofs.Many.{asks-all, guards}
+use Rattle.type1.proofs.Many.{asks-all}
+use Rattle.outline.proofs.Steps.{guards}
 use Rattle.type1.proofs.Locals.{word, sF, sA, tS, so-is, machT}
-use Rattle.type1.specs.State.{sameStem, sameStems}
-use Rattle.type1.specs.Memory.{stemAt, stemsAt}
-use Rattle.type1.specs.Small.{zeroStem}
+use Rattle.outline.specs.Outline.{sameStem, sameStems, zeroStem}
+use Rattle.hints.specs.Hints.{stemAt}
+use Rattle.type1.specs.Memory.{stemsAt}
 use Rattle.type1.proofs.sum.Symbol as sum-def
 use Rattle.type1.proofs.sum.Symbol.{name as #type1·sum}
 use Rattle.type1.proofs.sum.Met as sum-thm
-use Rattle.type1.proofs.stem_from.Symbol as stem-from-def
-use Rattle.type1.proofs.stem_from.Symbol.{name as #type1·stem-from}
-use Rattle.type1.proofs.stem_from.Met as stem-from-thm
+use Rattle.outline.proofs.stem_from.Symbol as stem-from-def
+use Rattle.outline.proofs.stem_from.Symbol.{name as #outline·stem-from}
+use Rattle.outline.proofs.stem_from.Met as stem-from-thm
 use Rattle.type1.proofs.differs_at.Symbol as differs-at-def
 use Rattle.type1.proofs.differs_at.Symbol.{name as #type1·differs-at}
 use Rattle.type1.proofs.differs_at.Met as differs-at-thm
@@ -120,7 +121,7 @@ module _ {M : Type 1} (𝓤 : URA M) (H : Heap 𝓤) (A : Atoms 𝓤) (W : Given
       qed W (‵ (bool .own r (w ∷ [])) ∷ ‵ (ShrRef (named 0) κedges (Array f64 512) .own xedges (vptr (xedges .ptr .0) (xedges .ptr .1) ∷ [])) ∷ ‵ (flft κedges qedges) ∷ ‵ (ShrRef (named 0) κacross (Array bool 256) .own xacross (vptr (xacross .ptr .0) (xacross .ptr .1) ∷ [])) ∷ ‵ (flft κacross qacross) ∷ ‵ (Own T.the-row mstems bstems ostems κstems γstems usstems) ∷ ‵ (flft κstems qstems) ∷ []) ∵ suffices ! _ (ends-at 𝓤 H A f.ended stayed (f.clauses 𝓤 H A mem run′) W bound w r (tt, (tt, (tt, (tt, (usstems, tt))))) (tt, (tt, (tt, (tt, (lstems, tt)))))) $ says ! e $
       nothing ! $ move ! (7 ∷ 0 ∷ []) $ join ! $ move ! (5 ∷ 0 ∷ []) $ join ! $ move ! (3 ∷ 0 ∷ []) $ join ! $ frame ! $ nothing ! $ move ! (4 ∷ 0 ∷ []) $ fjoin ! $ move ! (3 ∷ 0 ∷ []) $ fjoin ! $ move ! (2 ∷ 0 ∷ []) $ fjoin ! $ owned ! usize (Is usize) (uint-makes 𝓤 H A W w64) n _ (refl, n-fits) $ fjoin ! $ owned ! usize (Is usize) (uint-makes 𝓤 H A W w64) first _ (refl, first-fits) $ fjoin ! $ done !
 
-  module _ (known-sum : Triple 𝓤 (C #type1·sum) (SumC 𝓤 H A mem run′)) (known-stem-from : Triple 𝓤 (C #type1·stem-from) (StemFromC 𝓤 H A mem run′)) (known-differs-at : Triple 𝓤 (C #type1·differs-at) (DiffersAtC 𝓤 H A mem run′)) (need : (n ≤ 256) × (first + n ≤ length ysstems)) where
+  module _ (known-sum : Triple 𝓤 (C #type1·sum) (SumC 𝓤 H A mem run′)) (known-stem-from : Triple 𝓤 (C #outline·stem-from) (StemFromC 𝓤 H A mem run′)) (known-differs-at : Triple 𝓤 (C #type1·differs-at) (DiffersAtC 𝓤 H A mem run′)) (need : (n ≤ 256) × (first + n ≤ length ysstems)) where
     abbrev En : (l₀ l₁ l₂ l₃ l₄ l₅ l₆ l₇ l₈ l₉ l₁₀ l₁₁ l₁₂ : ℕ) → Env 𝓤 H
     En l₀ l₁ l₂ l₃ l₄ l₅ l₆ l₇ l₈ l₉ l₁₀ l₁₁ l₁₂ = (tyBool, l₀) ∷ (word, l₁) ∷ (word, l₂) ∷ (sF (named 0) 512, l₃) ∷ (sA (named 1), l₄) ∷ (sliceTy (tS (named 2)), l₅) ∷ (word, l₆) ∷ (tyBool, l₇) ∷ (tyBool, l₈) ∷ (tTt, l₉) ∷ (tS erased, l₁₀) ∷ (sliceTy (tS erased), l₁₁) ∷ (word, l₁₂) ∷ []
 
@@ -162,7 +163,7 @@ module _ {M : Type 1} (𝓤 : URA M) (H : Heap 𝓤) (A : Atoms 𝓤) (W : Given
         -- `sum`
         nothing ! $ asks-all ! fm usize (Is usize) (shows 𝓤 H A usize) (Unit {0} × (Unit {0} × Unit {0})) (λ (r : usize .Denot) (lasts : (Unit {0} × (Unit {0} × Unit {0}))). r ≡ first + i) (λ (lasts : (Unit {0} × (Unit {0} × Unit {0}))). (fsep ftrue (fsep ftrue ftrue))) (‵ ftrue) (‵ ftrue) (vint w64 first ∷ vint w64 i ∷ []) (sum-as 𝓤 H A mem run′ W C known-sum (first) (i) (first-fits) (held .0) (sum-fits first i n mstems small (need .1) (fitstems .0))) (and-then ! (load ! (from ! (stop !)) (look ! 29 refl)) (and-then ! (load ! (from ! (stop !)) (look ! 19 refl)) (no-more !))) (λ w1 r1 zs1 e1 is1. land ! (from ! (stop !)) (init ! 9 refl (uint-lawful 𝓤 H A W w64 .typed r1 _ is1 .0)) $ rewrite ! 9 (λ (u : Val). ‵ (fat fullShare word l₁₂ 0 u)) (ap only (is1 .0)) refl $ put-away ! $ put-away ! $ fsplit ! $ put-away ! $ fsplit ! $ put-away ! $ put-away ! $
         -- `stem_from`
-        move ! (4 ∷ 5 ∷ []) $ lend ! tt T.the-row mstems bstems ostems zs (held .1 .1 .0) (λ νstems2 δstems2. asks-all ! fm T.the-row (Is T.the-row) (shows 𝓤 H A T.the-row) (List Stem × (Unit {0} × Unit {0})) (λ (r : T.the-row .Denot) (lasts : (List Stem × (Unit {0} × Unit {0}))). (r ≡ getD zs r1 zeroStem) × (lasts .0 ≡ zs)) (λ (lasts : (List Stem × (Unit {0} × Unit {0}))). (fsep (fsep (finally T.the-row δstems2 (lasts .0)) (feq ℕ (length (lasts .0)) (length zs))) (fsep ftrue ftrue))) (‵ (flft (νstems2 ∷ []) fullShare) ⊛ ‵ ftrue) (‵ (flft (νstems2 ∷ []) fullShare) ⊛ ‵ (Own T.the-row mstems bstems ostems (νstems2 ∷ []) δstems2 zs)) (sliceVal (bstems, ostems) mstems ∷ vint w64 r1 ∷ []) (stem-from-as 𝓤 H A mem run′ W C known-stem-from (νstems2 ∷ []) fullShare mstems bstems ostems δstems2 zs (r1) (is1 .1) (subst (λ (k : ℕ). r1 < k) (sym (held .1 .1 .0)) (subst (λ (k : ℕ). k < mstems) (sym e1) (in-store first i n mstems small (need .1))))) (and-then ! (load ! (from ! (stop !)) (look ! 8 refl)) (and-then ! (load ! (from ! (stop !)) (look ! 6 refl)) (no-more !))) (λ w2 r2 zs2 e2 is2. land ! (from ! (stop !)) (init ! 14 refl (typedT 𝓤 H A W r2 _ is2)) $ rewrite ! 14 (λ (u : Val). ‵ (fat fullShare tTt l₉ 0 u)) (ap only (LL.tells T.the-type T′.the-laws r2 (w2 ∷ []) is2)) refl $ put-away ! $ split ! $ move ! (1 ∷ []) $ put-away ! $ move ! (1 ∷ []) $ fsplit ! $ fsplit ! $ move ! (1 ∷ []) $ feqL ! (λ lstems2. move ! (1 ∷ []) $ fsplit ! $ put-away ! $ put-away ! $
+        move ! (4 ∷ 5 ∷ []) $ lend ! tt T.the-row mstems bstems ostems zs (held .1 .1 .0) (λ νstems2 δstems2. asks-all ! fm T.the-row (Is T.the-row) (shows 𝓤 H A T.the-row) (List Stem × (Unit {0} × Unit {0})) (λ (r : T.the-row .Denot) (lasts : (List Stem × (Unit {0} × Unit {0}))). (r ≡ getD zs r1 zeroStem) × (lasts .0 ≡ zs)) (λ (lasts : (List Stem × (Unit {0} × Unit {0}))). (fsep (fsep (finally T.the-row δstems2 (lasts .0)) (feq ℕ (length (lasts .0)) (length zs))) (fsep ftrue ftrue))) (‵ (flft (νstems2 ∷ []) fullShare) ⊛ ‵ ftrue) (‵ (flft (νstems2 ∷ []) fullShare) ⊛ ‵ (Own T.the-row mstems bstems ostems (νstems2 ∷ []) δstems2 zs)) (sliceVal (bstems, ostems) mstems ∷ vint w64 r1 ∷ []) (stem-from-as 𝓤 H A mem run′ W C known-stem-from (νstems2 ∷ []) fullShare mstems bstems ostems δstems2 zs (r1) (is1 .1)) (and-then ! (load ! (from ! (stop !)) (look ! 8 refl)) (and-then ! (load ! (from ! (stop !)) (look ! 6 refl)) (no-more !))) (λ w2 r2 zs2 e2 is2. land ! (from ! (stop !)) (init ! 14 refl (typedT 𝓤 H A W r2 _ is2)) $ rewrite ! 14 (λ (u : Val). ‵ (fat fullShare tTt l₉ 0 u)) (ap only (LL.tells T.the-type T′.the-laws r2 (w2 ∷ []) is2)) refl $ put-away ! $ split ! $ move ! (1 ∷ []) $ put-away ! $ move ! (1 ∷ []) $ fsplit ! $ fsplit ! $ move ! (1 ∷ []) $ feqL ! (λ lstems2. move ! (1 ∷ []) $ fsplit ! $ put-away ! $ put-away ! $
         move ! (1 ∷ 2 ∷ 0 ∷ []) $ returned ! tt T.the-row mstems bstems ostems νstems2 δstems2 zs (zs2 .0) (held .1 .1 .0) lstems2 fitstems (
         -- `differs_at`
         move ! (2 ∷ []) $ use1 W (‵ (ShrRef (named 0) κedges (Array f64 512) .own xedges (vptr (xedges .ptr .0) (xedges .ptr .1) ∷ [])) ⊛ ‵ (ShrRef (named 0) κedges (Array f64 512) .own xedges (vptr (xedges .ptr .0) (xedges .ptr .1) ∷ []))) (shr-copy 𝓤 H A W (named 0) κedges (Array f64 512) .twice xedges (vptr (xedges .ptr .0) (xedges .ptr .1) ∷ [])) $ split ! $ move ! (4 ∷ 1 ∷ []) $ join ! $ move ! (4 ∷ []) $ use1 W (‵ (ShrRef (named 0) κacross (Array bool 256) .own xacross (vptr (xacross .ptr .0) (xacross .ptr .1) ∷ [])) ⊛ ‵ (ShrRef (named 0) κacross (Array bool 256) .own xacross (vptr (xacross .ptr .0) (xacross .ptr .1) ∷ []))) (shr-copy 𝓤 H A W (named 0) κacross (Array bool 256) .twice xacross (vptr (xacross .ptr .0) (xacross .ptr .1) ∷ [])) $ split ! $ move ! (6 ∷ 1 ∷ []) $ join ! $ move ! (2 ∷ 0 ∷ []) $ join ! $ asks-all ! fm bool (Is bool) (shows 𝓤 H A bool) (Unit {0} × (Unit {0} × (Unit {0} × (Unit {0} × Unit {0})))) (λ (r : bool .Denot) (lasts : (Unit {0} × (Unit {0} × (Unit {0} × (Unit {0} × Unit {0}))))). r ≡ not (sameStem r2 (stemAt (xedges .now) (xacross .now) i))) (λ (lasts : (Unit {0} × (Unit {0} × (Unit {0} × (Unit {0} × Unit {0}))))). (fsep ftrue (fsep ftrue (fsep ftrue (fsep ftrue ftrue))))) (‵ (flft κedges qedges) ⊛ (‵ (flft κacross qacross) ⊛ ‵ ftrue)) ((‵ (flft κedges qedges) ⊛ ‵ (ShrRef (named 0) κedges (Array f64 512) .own xedges (vptr (xedges .ptr .0) (xedges .ptr .1) ∷ []))) ⊛ (‵ (flft κacross qacross) ⊛ ‵ (ShrRef (named 0) κacross (Array bool 256) .own xacross (vptr (xacross .ptr .0) (xacross .ptr .1) ∷ [])))) (machT r2 ∷ vint w64 i ∷ vptr (xedges .ptr .0) (xedges .ptr .1) ∷ vptr (xacross .ptr .0) (xacross .ptr .1) ∷ []) (differs-at-as 𝓤 H A mem run′ W C known-differs-at κedges qedges xedges κacross qacross xacross (r2) (i) (mineT r2 w2 is2) (held .0) (omega (arith, small, need .0))) (and-then ! (load ! (from ! (stop !)) (look ! 11 refl)) (and-then ! (load ! (from ! (stop !)) (look ! 17 refl)) (and-then ! (load ! (from ! (stop !)) (look ! 23 refl)) (and-then ! (load ! (from ! (stop !)) (look ! 21 refl)) (no-more !))))) (λ w3 r3 zs3 e3 is3. land ! (from ! (stop !)) (init ! 15 refl (bool-lawful 𝓤 H A W .typed r3 _ is3 .0)) $ rewrite ! 15 (λ (u : Val). ‵ (fat fullShare tyBool l₈ 0 u)) (ap only is3) refl $ put-away ! $ split ! $ move ! (1 ∷ []) $ split ! $ move ! (1 ∷ []) $ put-away ! $ move ! (2 ∷ []) $ fsplit ! $ put-away ! $ fsplit ! $ put-away ! $ fsplit ! $ put-away ! $ fsplit ! $ put-away ! $ put-away ! $
@@ -219,7 +220,7 @@ module _ {M : Type 1} (𝓤 : URA M) (H : Heap 𝓤) (A : Atoms 𝓤) (W : Given
         assigns ! (of-opd ! (lit ! tt)) (from ! (stop !)) (init ! 18 refl (tt, record { fits = lit< tt })) $ keep ! (0 ∷ 1 ∷ 2 ∷ 3 ∷ 4 ∷ 5 ∷ 6 ∷ 7 ∷ 8 ∷ 9 ∷ 10 ∷ 11 ∷ 12 ∷ 13 ∷ 14 ∷ 15 ∷ 16 ∷ 17 ∷ 18 ∷ 19 ∷ 20 ∷ 21 ∷ 22 ∷ 23 ∷ 24 ∷ 25 ∷ 26 ∷ 27 ∷ 28 ∷ 29 ∷ 30 ∷ 31 ∷ []) $ by ! (loops l₀ l₁ l₂ l₃ l₄ l₅ l₆ l₇ l₈ l₉ l₁₀ l₁₁ l₁₂))))))))))))))
 
 module _ {M : Type 1} (𝓤 : URA M) (H : Heap 𝓤) (A : Atoms 𝓤) (W : Given 𝓤 H A) (mem : Memory → SProp 𝓤) (run′ : Routine → Fun 𝓤) where
-  meets : (𝓣 : Tables 𝓤 H) → (let C : Calls 𝓤 H = 𝓣 .C in Triple 𝓤 (C #type1·sum) (SumC 𝓤 H A mem run′) → Triple 𝓤 (C #type1·stem-from) (StemFromC 𝓤 H A mem run′) → Triple 𝓤 (C #type1·differs-at) (DiffersAtC 𝓤 H A mem run′) → Meets 𝓤 H A f.signature (WpFn 𝓤 H (𝓣 .C) (𝓣 .Λ) code.function) (f.spec 𝓤 H A mem run′))
+  meets : (𝓣 : Tables 𝓤 H) → (let C : Calls 𝓤 H = 𝓣 .C in Triple 𝓤 (C #type1·sum) (SumC 𝓤 H A mem run′) → Triple 𝓤 (C #outline·stem-from) (StemFromC 𝓤 H A mem run′) → Triple 𝓤 (C #type1·differs-at) (DiffersAtC 𝓤 H A mem run′) → Meets 𝓤 H A f.signature (WpFn 𝓤 H (𝓣 .C) (𝓣 .Λ) code.function) (f.spec 𝓤 H A mem run′))
   meets 𝓣 k0 k1 k2 = walk-meets 𝓤 H A f.ended stayed W (goes-none 𝓤 H A W 3 (λ _. usize) yes (λ κs x f. refl), (goes-none 𝓤 H A W 3 (λ _. usize) yes (λ κs x f. refl), (goes-none-ref 𝓤 H A W 3 (0 ∷ []) tt (ArrayOf (plain (λ _. f64)) (λ _. tt) 512) yes, (goes-none-ref 𝓤 H A W 3 (1 ∷ []) tt (ArrayOf (plain (λ _. bool)) (λ _. tt) 256) yes, (goes-slice 𝓤 H A W 3 2 tt (plain (λ _. T.the-row)), tt))))) (f.clauses 𝓤 H A mem run′)
       (WpFn 𝓤 H (𝓣 .C) (𝓣 .Λ) code.function) (WpFn-mono 𝓤 H (W .laws) 𝓣 code.function)
       (walked 𝓤 H A f.ended stayed (f.clauses 𝓤 H A mem run′) (WpFn 𝓤 H (𝓣 .C) (𝓣 .Λ) code.function) (λ κs. (uint-vals w64, (uint-vals w64, (ptr-vals, (ptr-vals, (slice-vals, tt)))))) (λ κs. (uint-tells w64, (uint-tells w64, (shr-tells (named 0) (κs .0) (Array f64 512), (shr-tells (named 1) (κs .1 .0) (Array bool 256), (mut-slice-tells (named 2) (κs .1 .1 .0) T.the-row, tt))))))
@@ -232,5 +233,5 @@ all-same-spec 𝓤 H 𝓜 𝓖 𝓡 =
     (tables 𝓤 H 𝓜 𝓡 code.env .C) (tables 𝓤 H 𝓜 𝓡 code.env .Λ) #type1·all-same code.function (code.unfolded 𝓤 H 𝓜 𝓡)
     (meets 𝓤 H (𝓖 .A) (givenOf 𝓤 H 𝓜 𝓖) (𝓜 .mem) (𝓡 .run) (tablesOf 𝓤 H 𝓜 (tables 𝓤 H 𝓜 𝓡 code.env))
     (cited 𝓤 H (SumC 𝓤 H (𝓖 .A) (𝓜 .mem) (𝓡 .run)) 𝓜 𝓡 code.env #type1·sum sum-def.routine code.calls-type1·sum (sum-thm.met 𝓤 H 𝓜 𝓖 𝓡))
-    (cited 𝓤 H (StemFromC 𝓤 H (𝓖 .A) (𝓜 .mem) (𝓡 .run)) 𝓜 𝓡 code.env #type1·stem-from stem-from-def.routine code.calls-type1·stem-from (stem-from-thm.met 𝓤 H 𝓜 𝓖 𝓡))
+    (cited 𝓤 H (StemFromC 𝓤 H (𝓖 .A) (𝓜 .mem) (𝓡 .run)) 𝓜 𝓡 code.env #outline·stem-from stem-from-def.routine code.calls-outline·stem-from (stem-from-thm.met 𝓤 H 𝓜 𝓖 𝓡))
     (cited 𝓤 H (DiffersAtC 𝓤 H (𝓖 .A) (𝓜 .mem) (𝓡 .run)) 𝓜 𝓡 code.env #type1·differs-at differs-at-def.routine code.calls-type1·differs-at (differs-at-thm.met 𝓤 H 𝓜 𝓖 𝓡)))

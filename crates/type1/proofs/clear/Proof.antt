@@ -39,12 +39,12 @@ use denote.Triple.Spec.{Meets, tripleOf}
 use denote.Triple.Table.{entered}
 use denote.Triple.Walked.{says, needs, Stays, stay-none, stay-slice, walkOf, goes-none, goes-slice, Walks, ends-at, walked, walk-meets}
 use denote.Exit.{yes}
-use Rattle.type1.specs.declared.Stem.{Stem}
-use Rattle.type1.specs.Small.{zeroStem}
+use Rattle.outline.specs.declared.Stem.{Stem}
+use Rattle.outline.specs.Outline.{zeroStem}
 use Rattle.type1.proofs.Locals.{machT}
 use Rattle.type1.proofs.Leaving.{filled, leave}
-use Rattle.type1.proofs.Stem as T
-use Rattle.type1.proofs.Stem.Laws as T′
+use Rattle.outline.proofs.Stem as T
+use Rattle.outline.proofs.Stem.Laws as T′
 use Rattle.type1.proofs.clear.Key.{name as #type1·clear}
 use Rattle.type1.proofs.clear as f
 use Rattle.type1.proofs.clear.Statement as stated

@@ -1,9 +1,10 @@
+use Rattle.outline.specs.Outline.{plusZero}
 use Rattle.type1.specs.Memory.{withOps}
 use mathlib.Core.Path.{ap, ap₂, _∙_}
 use native.Mathlib.Omega.{arith}
 use lib.Ieee.{Float, ofBits}
 use Rattle.type1.specs.Run.{operate, going, pointAt, cleared}
-use Rattle.type1.specs.State.{plusZero, withBearing}
+use Rattle.type1.specs.State.{withBearing}
 use Rattle.type1.specs.declared.St.{St}
 use Rattle.type1.proofs.Stacks.{too-few, enough, top-is, from-cleared, groups-kept}
 use borrow.Author.Needs.{needs}

@@ -12,7 +12,7 @@ in-force-requires c κs = search needs
 
 returns : tie.Need-returns
 returns c =
-    c .in-force .ensures ∙ in-force-is _ _ _ _ _ _ (c .before .pre)
+    c .in-force .ensures ∙ in-force-is _ _ _ _ (c .before .pre)
 
 pub in-force-spec : {M : Type 1} → statement M
 in-force-spec = tie.close (tie.spec in-force-requires returns)

@@ -41,14 +41,14 @@ use denote.Triple.Table.{entered, cited}
 use denote.Triple.Walked.{says, needs, Stays, stay-none, stay-none-slice, stay-ref, stay-slice, walkOf, goes-none, goes-none-slice, goes-ref, goes-slice, ends-at, walked, walk-meets}
 use denote.Exit.{yes}
 use contract.Running.{givenOf, tables, tablesOf}
-use Rattle.type1.specs.declared.Stem.{Stem}
+use Rattle.outline.specs.declared.Stem.{Stem}
 use Rattle.type1.specs.declared.Reading.{Reading}
 use Rattle.type1.proofs.Reading as Y
 use Rattle.type1.proofs.Reading.Laws as Y′
 use Rattle.type1.specs.declared.St.{St}
 use Rattle.type1.specs.declared.Ran.{Ran}
 use Rattle.type1.specs.declared.Interpreted.{Interpreted}
-use Rattle.type1.proofs.Stem as T
+use Rattle.outline.proofs.Stem as T
 use Rattle.type1.proofs.St as S
 use Rattle.type1.proofs.St.Laws as S′
 use Rattle.type1.proofs.Ran as N
@@ -58,12 +58,13 @@ use Rattle.type1.proofs.Interpreted.Laws as I′
 use Rattle.type1.proofs.Leaving.{filled, bare, leave}
 use Rattle.type1.proofs.Lent.{at-list, Own, lend}
 use Rattle.type1.proofs.LentWith.{returned}
-use Rattle.type1.proofs.Many.{at-one, OwnR, lend-ref, returned-ref, lend-shr, returned-shr, asks-all, guards}
+use Rattle.type1.proofs.Many.{at-one, OwnR, lend-ref, returned-ref, lend-shr, returned-shr, asks-all}
+use Rattle.outline.proofs.Steps.{guards}
 use Rattle.type1.proofs.Locals.{word, byte, machS, machN, machI, machY}
+use Rattle.outline.specs.Outline.{zeroStem}
 use Rattle.type1.specs.Memory.{Meets}
 use Rattle.type1.specs.Small.{ranOf}
 use Rattle.type1.specs.Cycle.{memOf, runD}
-use Rattle.type1.specs.Small.{zeroStem}
 use Rattle.type1.specs.Entry.{zeroSt, startFlow, numberOf, answerOf, Cleared}
 use Rattle.type1.specs.Interpret.{sourceOf, outcome, refusedWith, Leaves}
 use Rattle.type1.proofs.start_run.Symbol as start-run-def

@@ -41,17 +41,18 @@ use denote.Triple.Table.{entered, cited}
 use denote.Triple.Walked.{says, needs, Stays, stay-none, stay-none-ref, stay-slice, walkOf, goes-none, goes-none-ref, goes-slice, ends-at, walked, walk-meets}
 use denote.Exit.{yes}
 use contract.Running.{givenOf, tables, tablesOf}
-use Rattle.type1.specs.declared.Stem.{Stem}
+use Rattle.outline.specs.declared.Stem.{Stem}
 use Rattle.type1.specs.declared.St.{St}
-use Rattle.type1.proofs.Stem as T
+use Rattle.outline.proofs.Stem as T
 use Rattle.type1.proofs.St as S
 use Rattle.type1.proofs.St.Laws as S′
 use Rattle.type1.proofs.Lent.{at-list, Own, lend}
 use Rattle.type1.proofs.LentWith.{returned}
 use Rattle.type1.proofs.Leaving.{filled, bare, leave}
-use Rattle.type1.proofs.Many.{asks-all, guards}
+use Rattle.type1.proofs.Many.{asks-all}
+use Rattle.outline.proofs.Steps.{guards}
 use Rattle.type1.proofs.Locals.{word, machS}
-use Rattle.type1.specs.State.{sameStems}
+use Rattle.outline.specs.Outline.{sameStems}
 use Rattle.type1.specs.Memory.{stemsAt}
 use Rattle.hints.specs.Hints.{mayBeLast}
 use Rattle.hints.proofs.may_be_last.Symbol as may-be-last-def

@@ -45,16 +45,17 @@ use denote.Triple.Table.{entered, cited}
 use denote.Triple.Walked.{says, needs, Stays, stay-none, stay-none-ref, stay-slice, walkOf, goes-none, goes-none-ref, goes-slice, ends-at, walked, walk-meets}
 use denote.Exit.{yes}
 use contract.Running.{givenOf, tables, tablesOf}
-use Rattle.type1.specs.declared.Stem.{Stem}
+use Rattle.outline.specs.declared.Stem.{Stem}
 use Rattle.type1.proofs.Leaving.{filled, bare, leave}
-use Rattle.type1.proofs.Stem as T
-use Rattle.type1.proofs.Stem.Laws as T′
+use Rattle.outline.proofs.Stem as T
+use Rattle.outline.proofs.Stem.Laws as T′
 use Rattle.type1.proofs.Lent.{at-list, Own, lend}
 use Rattle.type1.proofs.LentWith.{returned}
 use Rattle.type1.proofs.Many.{asks-all}
 use Rattle.type1.proofs.Locals.{word, sF, sA, tS, so-is, machT}
-use Rattle.type1.specs.Memory.{stemAt, stemsAt}
-use Rattle.type1.specs.Small.{zeroStem}
+use Rattle.outline.specs.Outline.{zeroStem}
+use Rattle.hints.specs.Hints.{stemAt}
+use Rattle.type1.specs.Memory.{stemsAt}
 use Rattle.type1.proofs.sum.Symbol as sum-def
 use Rattle.type1.proofs.sum.Symbol.{name as #type1·sum}
 use Rattle.type1.proofs.sum.Met as sum-thm

@@ -31,8 +31,8 @@ use denote.Triple.Entry.{onEntry}
 use denote.Triple.Spec.{Meets, tripleOf}
 use denote.Triple.Table.{entered}
 use denote.Triple.Walked.{says, Stays, stay-slice, walkOf, goes-slice, Walks, ends-at, walked, walk-meets}
-use Rattle.type1.specs.declared.Stem.{Stem}
-use Rattle.type1.proofs.Stem as T
+use Rattle.outline.specs.declared.Stem.{Stem}
+use Rattle.outline.proofs.Stem as T
 use Rattle.type1.proofs.room.Key.{name as #type1·room}
 use Rattle.type1.proofs.room as f
 use Rattle.type1.proofs.room.Statement as stated

@@ -41,12 +41,12 @@ use denote.Triple.Table.{entered, cited}
 use denote.Triple.Walked.{says, Stays, stay-none, stay-none-slice, stay-slice, walkOf, goes-none, goes-none-slice, goes-slice, ends-at, walked, walk-meets}
 use denote.Exit.{yes}
 use contract.Running.{givenOf, tables, tablesOf}
-use Rattle.type1.specs.declared.Stem.{Stem}
+use Rattle.outline.specs.declared.Stem.{Stem}
 use Rattle.type1.specs.declared.Reading.{Reading}
 use Rattle.type1.proofs.Reading as Y
 use Rattle.type1.proofs.Reading.Laws as Y′
 use Rattle.type1.specs.declared.Interpreted.{Interpreted}
-use Rattle.type1.proofs.Stem as T
+use Rattle.outline.proofs.Stem as T
 use Rattle.type1.proofs.Interpreted as I
 use Rattle.type1.proofs.Interpreted.Laws as I′
 use Rattle.type1.proofs.Lent.{at-list, Own, lend}
@@ -71,7 +71,7 @@ use types.Part.{rep}
 use denote.Array.{arrayVal, array-lawful, array-makes}
 use denote.Floats.{float-lawful, float-makes}
 use denote.Plain.{bool-lawful}
-use Rattle.type1.specs.State.{plusZero}
+use Rattle.outline.specs.Outline.{plusZero}
 use Rattle.type1.proofs.LentLocal.{repeat-is, lend-local, local-back}
 
 abbrev nought : Float

@@ -38,14 +38,14 @@ use denote.Triple.Statement.{Triple}
 use denote.Triple.Table.{entered, cited}
 use denote.Triple.Walked.{says, Stays, stay-slice, walkOf, goes-slice, ends-at, walked, walk-meets}
 use contract.Running.{givenOf, tables, tablesOf}
-use Rattle.type1.specs.declared.Stem.{Stem}
-use Rattle.type1.proofs.Stem as T
+use Rattle.outline.specs.declared.Stem.{Stem}
+use Rattle.outline.proofs.Stem as T
 use Rattle.type1.proofs.Lent.{at-list, Own, lend}
 use Rattle.type1.proofs.LentWith.{returned}
 use Rattle.type1.proofs.Leaving.{filled, bare, leave}
 use Rattle.type1.proofs.Many.{asks-all}
 use Rattle.type1.proofs.Locals.{word, tS, so-is}
-use Rattle.type1.specs.Small.{zeroStem}
+use Rattle.outline.specs.Outline.{zeroStem}
 use lib.ListN.{getD-replicate, length-replicate}
 use lib.Seq.{paste-zero}
 use Rattle.type1.proofs.clear.Symbol as clear-def

@@ -1,6 +1,6 @@
 -- `type1_to_type2::batch` meets its contract.
 use Prim.Native.Nat.{_+_}
-use Rattle.type1.specs.Run.{pick}
+use Rattle.outline.specs.Outline.{pick}
 use mathlib.Core.Bool.{Bool}
 use native.Mathlib.Omega.{arith}
 use mathlib.Core.Logic.{inl, inr, ⊎-elim}

@@ -41,7 +41,7 @@ use denote.Triple.Table.{entered, cited}
 use denote.Triple.Walked.{says, needs, Stays, stay-none, stay-ref, stay-slice, walkOf, goes-none, goes-ref, goes-slice, ends-at, walked, walk-meets}
 use denote.Exit.{yes}
 use contract.Running.{givenOf, tables, tablesOf}
-use Rattle.type1.specs.declared.Stem.{Stem}
+use Rattle.outline.specs.declared.Stem.{Stem}
 use Rattle.geometry.specs.declared.Matrix.{Matrix}
 use Rattle.folding.specs.declared.Fold.{Fold}
 use Rattle.type1_to_type2.specs.declared.Collected.{Collected}
@@ -49,8 +49,8 @@ use Rattle.type1_to_type2.specs.declared.Writer.{Writer}
 use Rattle.type1_to_type2.specs.declared.Type2Glyph.{Type2Glyph}
 use Rattle.type1.specs.declared.Interpreted.{Interpreted}
 use Rattle.type1_to_type2.specs.declared.Plan.{Plan}
-use Rattle.type1.proofs.Stem as T
-use Rattle.type1.proofs.Stem.Laws as T′
+use Rattle.outline.proofs.Stem as T
+use Rattle.outline.proofs.Stem.Laws as T′
 use Rattle.geometry.proofs.Matrix as Z
 use Rattle.geometry.proofs.Matrix.Laws as Z′
 use Rattle.folding.proofs.Fold as F
@@ -77,7 +77,7 @@ use Rattle.type1_to_type2.specs.Passes.{Gathers, both, stemsTo, cmdsFrom
 use Rattle.type1_to_type2.specs.Convert.{glyphOf, writes}
 use Rattle.type1_to_type2.specs.Entry.{Blank, groupCount, noneOf, Planned, Opens, fromRun, settles, Answers}
 use Rattle.folding.specs.Folding.{foldOf, foldedList, finiteList}
-use Rattle.type1.specs.Memory.{drawnIn}
+use Rattle.outline.specs.Store.{drawnIn}
 use Rattle.folding.proofs.Fold.new.Symbol as Fold·new-def
 use Rattle.folding.proofs.Fold.new.Symbol.{name as #folding·Fold·new}
 use Rattle.folding.proofs.Fold.new.Met as Fold·new-thm

@@ -1,7 +1,7 @@
 use borrow.Author.Needs.{needs}
 use Rattle.type1_to_type2.proofs.Checking.{points-none, points-more, points-all}
 use Rattle.folding.specs.Folding.{foldedList, finiteList}
-use Rattle.type1.specs.Memory.{drawnIn}
+use Rattle.outline.specs.Store.{drawnIn}
 use mathlib.Core.Path.{_≡_}
 use Prim.Native.Nat.{_≤_, _-_}
 use native.Mathlib.Omega.{arith}

@@ -1,6 +1,6 @@
 -- `type1_to_type2::write_entry` meets its contract.
 use Rattle.type1_to_type2.proofs.Entries.{is-move, good-entry, points-good, height-good, draws-as, entry-drawn, mask-drawn, mask-left, entry-written}
-use Rattle.type1.specs.State.{move}
+use Rattle.outline.specs.Outline.{move}
 use native.Mathlib.Omega.{arith}
 use mathlib.Core.Path.{refl, ap}
 use mathlib.Core.Bool.{true}

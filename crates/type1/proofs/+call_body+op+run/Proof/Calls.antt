@@ -29,12 +29,12 @@ use denote.Struct.Laws as LL
 use denote.Triple.Spec.{tripleOf}
 use denote.Triple.Statement.{Contract, Triple}
 use denote.Triple.Walked.{says}
-use Rattle.type1.specs.declared.Stem.{Stem}
+use Rattle.outline.specs.declared.Stem.{Stem}
 use Rattle.type1.specs.declared.Reading.{Reading}
 use Rattle.type1.proofs.Reading as Y
 use Rattle.type1.proofs.Reading.Laws as Y′
 use Rattle.type1.specs.declared.St.{St}
-use Rattle.type1.proofs.Stem as T
+use Rattle.outline.proofs.Stem as T
 use Rattle.type1.proofs.St as S
 use Rattle.type1.proofs.St.Laws as S′
 use Rattle.type1.proofs.Tok as K
@@ -47,8 +47,9 @@ use Rattle.type1.proofs.Locals.{machS, machY}
 use Rattle.charstring.specs.Cipher.{maxCharstringBytes}
 use Rattle.charstring.specs.Cursor.{start}
 use Rattle.bank.specs.Bank.{Valid, bytesAt, found}
-use Rattle.type1.specs.State.{State, sameStems}
-use Rattle.type1.specs.Run.{pick, within, refused, operate}
+use Rattle.outline.specs.Outline.{sameStems, pick}
+use Rattle.type1.specs.State.{State}
+use Rattle.type1.specs.Run.{within, refused, operate}
 use Rattle.type1.specs.Memory.{Mem, stemsAt, Bounds, Holds, Meets, operatorOf, withOps, withPs, withCells, withHints, withPath, after, Told}
 use Rattle.type1.specs.Small.{ranOf, Finite, Space}
 use Rattle.type1.specs.Reading.{cursorOf, Reads, Calls}

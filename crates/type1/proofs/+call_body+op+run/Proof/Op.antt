@@ -40,13 +40,13 @@ use denote.Triple.Spec.{tripleOf}
 use denote.Triple.Statement.{Triple}
 use denote.Triple.Walked.{says, Stays, stay-none, stay-none-slice, stay-ref, stay-slice, walkOf, ends-at}
 use denote.Exit.{yes}
-use Rattle.type1.specs.declared.Stem.{Stem}
+use Rattle.outline.specs.declared.Stem.{Stem}
 use Rattle.type1.specs.declared.Reading.{Reading}
 use Rattle.type1.proofs.Reading as Y
 use Rattle.type1.proofs.Reading.Laws as Y′
 use Rattle.type1.specs.declared.St.{St}
 use Rattle.type1.specs.declared.Ran.{Ran}
-use Rattle.type1.proofs.Stem as T
+use Rattle.outline.proofs.Stem as T
 use Rattle.type1.proofs.St as S
 use Rattle.type1.proofs.St.Laws as S′
 use Rattle.type1.proofs.Ran as N
@@ -54,10 +54,12 @@ use Rattle.type1.proofs.Ran.Laws as N′
 use Rattle.type1.proofs.Lent.{at-list, Own, lend}
 use Rattle.type1.proofs.LentWith.{returned}
 use Rattle.type1.proofs.Leaving.{filled, bare, leave}
-use Rattle.type1.proofs.Many.{at-one, OwnR, lend-ref, returned-ref, lend-shr, returned-shr, asks-all, asks-two, guards}
+use Rattle.type1.proofs.Many.{at-one, OwnR, lend-ref, returned-ref, lend-shr, returned-shr, asks-all, asks-two}
+use Rattle.outline.proofs.Steps.{guards}
 use Rattle.type1.proofs.Locals.{word, half, tB, tF, tA, sF, sA, tU, tS, machS, machN, machY}
 use Rattle.bank.specs.Bank.{Valid}
-use Rattle.type1.specs.State.{State, sameStems}
+use Rattle.outline.specs.Outline.{sameStems}
+use Rattle.type1.specs.State.{State}
 use Rattle.type1.specs.Run.{within, refused, operate}
 use Rattle.type1.specs.Memory.{abs, Mem, stemsAt, Holds, Meets, operatorOf, withOps, withPs, withCells, withHints, withPath, after, Told, kept}
 use Rattle.type1.specs.Small.{Space}

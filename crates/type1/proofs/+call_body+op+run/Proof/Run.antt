@@ -41,7 +41,7 @@ use denote.Triple.Spec.{tripleOf}
 use denote.Triple.Statement.{Triple}
 use denote.Triple.Walked.{says, Stays, stay-none, stay-none-slice, stay-ref, stay-slice, walkOf, ends-at}
 use denote.Exit.{yes}
-use Rattle.type1.specs.declared.Stem.{Stem}
+use Rattle.outline.specs.declared.Stem.{Stem}
 use Rattle.type1.specs.declared.Reading.{Reading}
 use Rattle.type1.proofs.Reading as Y
 use Rattle.type1.proofs.Reading.Laws as Y′
@@ -49,7 +49,7 @@ use Rattle.type1.specs.declared.St.{St}
 use Rattle.type1.specs.declared.Tok.{Tok}
 use Rattle.type1.specs.declared.Ran.{Ran}
 use Rattle.type1.specs.declared.Begun.{Begun}
-use Rattle.type1.proofs.Stem as T
+use Rattle.outline.proofs.Stem as T
 use Rattle.type1.proofs.St as S
 use Rattle.type1.proofs.St.Laws as S′
 use Rattle.type1.proofs.Tok as K
@@ -61,12 +61,13 @@ use Rattle.type1.proofs.Begun.Laws as B′
 use Rattle.type1.proofs.Lent.{at-list, Own, lend}
 use Rattle.type1.proofs.LentWith.{returned}
 use Rattle.type1.proofs.Leaving.{filled, bare, leave}
-use Rattle.type1.proofs.Many.{at-one, OwnR, lend-ref, returned-ref, asks-all, guards}
+use Rattle.type1.proofs.Many.{at-one, OwnR, lend-ref, returned-ref, asks-all}
+use Rattle.outline.proofs.Steps.{guards}
 use Rattle.type1.proofs.Locals.{word, byte, half, tB, tF, tA, tU, tS, so-is, machS, machK, machN, machB, machY}
 use Rattle.charstring.specs.Cipher.{Bytes}
 use Rattle.charstring.specs.Cursor.{start}
 use Rattle.bank.specs.Bank.{Valid}
-use Rattle.type1.specs.Run.{pick}
+use Rattle.outline.specs.Outline.{pick}
 use Rattle.type1.specs.Memory.{Meets}
 use Rattle.type1.specs.Small.{ranOf}
 use Rattle.type1.specs.Reading.{cursorOf, Reads}
