@@ -1,26 +1,24 @@
 -- Laws: which operator a token names, and what each function says of it.
-use mathlib.Core.Path.{_≡_, refl, sym, ap, ap₂, _∙_, subst}
-use Prim.Native.Nat.{ℕ, zero, suc, _+_, _-_, _*_, _≤_, _<_}
+use mathlib.Core.Path.{_≡_, refl, sym, ap, _∙_, subst}
+use Prim.Native.Nat.{ℕ, _+_, _-_, _≤_, _<_}
 use native.Mathlib.Omega.{arith}
 use mathlib.Core.Bool.{Bool, true, false}
 use mathlib.Core.List.{List, [], _∷_}
 use mathlib.Core.Logic.{_⊎_, inl, inr}
-use borrow.Author.Tests.{eqb-true, eqb-false, ltb-true, ltb-false, ne-eqb}
+use borrow.Author.Tests.{eqb-true, ltb-true, ltb-false, ne-eqb}
 use lib.Dec.{eqb, ltb, lit≤, lit<}
 use lib.Arith.{lt-of-le-ne}
 use lib.ListN.{length, getD}
 use lib.Ieee.{Float, nan}
-use Rattle.geometry.specs.declared.Point.{Point}
 use Rattle.type1.specs.declared.St.{St}
 use Rattle.type1.specs.declared.Ran.{Ran}
-use Rattle.type1.specs.Operator as op
 use Rattle.type1.specs.Operator.{Operator, ofByte, ofEscape}
 use Rattle.type1.specs.State.{State, withOpen}
-use Rattle.type1.specs.Run.{Limits, within, Outcome, going, returning, ending, refused, cleared, divD, popD, callOtherSubr, operate, pointAt}
+use Rattle.type1.specs.Run.{Limits, within, Outcome, going, refused, cleared, divD, popD, callOtherSubr, operate, pointAt}
 use Rattle.type1.specs.Memory.{Mem, Holds, Meets, operatorOf, after, withOps, withPs, withCells, withHints, withPath, Told, Takes, Hinted}
 use Rattle.type1.specs.Reading.{withCount}
-use Rattle.type1.specs.Small.{ranOf, closedRan, withOpened, Space}
-use Rattle.type1.proofs.Stacks.{cleared-holds, from-cleared}
+use Rattle.type1.specs.Small.{ranOf, closedRan, Space}
+use Rattle.type1.proofs.Stacks.{cleared-holds}
 use Rattle.type1.proofs.Steps.{bearing-is}
 use Rattle.type1.proofs.Groups.{after-none}
 use Rattle.type1.proofs.Paths.{opens}

@@ -1,18 +1,15 @@
 -- Laws: steps one after the other, and the hint operators.
 use mathlib.Core.Path.{_≡_, refl, sym, ap, ap₂, _∙_, subst}
-use Prim.Native.Nat.{ℕ, zero, suc, _+_, _-_, _*_, _≤_, _<_}
+use Prim.Native.Nat.{ℕ, suc, _-_, _≤_, _<_}
 use native.Mathlib.Omega.{arith}
-use mathlib.Core.List.{List}
-use mathlib.Core.Bool.{Bool, true, false}
+use mathlib.Core.Bool.{Bool}
 use borrow.Author.Tests.{le-leb}
-use lib.Dec.{leb}
 use lib.ListN.{length, getD}
 use lib.Ieee.{Float, nan, binary64, add}
-use Rattle.geometry.specs.declared.Point.{Point}
 use Rattle.type1.specs.declared.St.{St}
 use Rattle.type1.specs.declared.Ran.{Ran}
 use Rattle.type1.specs.State.{State}
-use Rattle.type1.specs.Run.{Limits, within, Outcome, check, andThen, top, cleared, needs, stem, stems3, pointAt}
+use Rattle.type1.specs.Run.{Limits, Outcome, check, andThen, top, cleared, stem, stems3, pointAt}
 use Rattle.type1.specs.Memory.{Mem, abs, Holds, Meets}
 use Rattle.type1.proofs.Paths.{stop-then, go-then}
 use Rattle.type1.proofs.Stacks.{operand-count, top-is}

@@ -1031,7 +1031,7 @@ fn finite_point(x: f64, y: f64) -> bool
     }
 }
 
-// 21, 22, 4.
+// rmoveto, hmoveto, vmoveto.
 fn move_by(dx: f64, dy: f64, same: bool, room: usize, st: St, cmds: &mut [u64]) -> Ran
     requires { ⌜ Bounds st (length (now cmds)) ⌝ }
     requires { ⌜ st .stems ≤ room ⌝ }
@@ -1062,7 +1062,7 @@ fn open_subpath(same: bool, room: usize, st: St, cmds: &mut [u64]) -> Ran
     opened(list_point(MOVE, st.x, st.y, same, room, st, cmds))
 }
 
-// 5, 6, 7, with a subpath open.
+// rlineto, hlineto, vlineto, with a subpath open.
 fn line_to(dx: f64, dy: f64, same: bool, room: usize, st: St, cmds: &mut [u64]) -> Ran
     requires { ⌜ Bounds st (length (now cmds)) ⌝ }
     requires { ⌜ st .stems ≤ room ⌝ }
@@ -1094,7 +1094,7 @@ fn line_by(dx: f64, dy: f64, same: bool, room: usize, st: St, cmds: &mut [u64]) 
     line_to(dx, dy, same, room, o.st, cmds)
 }
 
-// 8, 30, 31, with a subpath open.
+// rrcurveto, vhcurveto, hvcurveto, with a subpath open.
 fn curve_to(
     dx1: f64,
     dy1: f64,
@@ -1162,7 +1162,7 @@ fn curve_by(
     curve_to(dx1, dy1, dx2, dy2, dx3, dy3, same, room, o.st, cmds)
 }
 
-// 12 33.
+// setcurrentpoint.
 fn set_point(x: f64, y: f64, same: bool, room: usize, st: St, cmds: &mut [u64]) -> Ran
     requires { ⌜ Bounds st (length (now cmds)) ⌝ }
     requires { ⌜ st .stems ≤ room ⌝ }
@@ -1457,8 +1457,10 @@ fn callothersubr(
     requires { ⌜ Bounds st (length (now cmds)) ⌝ }
     requires { ⌜ st .stems ≤ room ⌝ }
     requires { ⌜ Small.Finite st (now ops) (now cells) ⌝ }
-    ensures { λ r. ⌜ ((m : Mem) (s : State.State) → length (m .stems) ≡ room → Told same s → Holds st (withOps (now (ops .entry)) (withPs (now (ps .entry)) (withCells (now (cells .entry)) (withCmds (now (cmds .entry)) m)))) s →
-        Meets r (withOps (now (ops .entry)) (withPs (now (ps .exit)) (withCells (now (cells .exit)) (after st r (now (cmds .exit)) m)))) (Run.callOtherSubr (within room (length (now (cmds .entry)))) s)) ⌝ }
+    ensures { λ r. ⌜ ((m : Mem) (s : State.State) → length (m .stems) ≡ room → Told same s →
+        Holds st (withOps (now (ops .entry)) (withPs (now (ps .entry)) (withCells (now (cells .entry)) (withCmds (now (cmds .entry)) m)))) s →
+        Meets r (withOps (now (ops .entry)) (withPs (now (ps .exit)) (withCells (now (cells .exit)) (after st r (now (cmds .exit)) m))))
+        (Run.callOtherSubr (within room (length (now (cmds .entry)))) s)) ⌝ }
     ensures { λ r. ⌜ Small.Space st (r .st) room ⌝ }
 {
     let n = st.operands;
@@ -1822,7 +1824,9 @@ fn last_from(st: St) -> usize
 // Whether the stems in force changed and are the last group's, in the same order. With no group they are not.
 fn is_last(st: St, edges: &[f64; 512], across: &[bool; 256], stems: &mut [Stem]) -> bool
     requires { ⌜ (st .hints ≤ 256) × ((st .last ≤ st .stems) × (st .stems ≤ length (now stems))) ⌝ }
-    ensures { λ r. ⌜ (r ≡ (st .changed && (ltb 0 (st .groups) && State.sameStems (take (st .last) (drop (st .stems - st .last) (now (stems .entry)))) (stemsAt 0 (st .hints) (now (edges .entry)) (now (across .entry)))))) × (now (stems .exit) ≡ now (stems .entry)) ⌝ }
+    ensures { λ r. ⌜ (r ≡ (st .changed && (ltb 0 (st .groups) &&
+        State.sameStems (take (st .last) (drop (st .stems - st .last) (now (stems .entry)))) (stemsAt 0 (st .hints) (now (edges .entry)) (now (across .entry))))))
+        × (now (stems .exit) ≡ now (stems .entry)) ⌝ }
 {
     if hints::may_be_last(st.changed, st.groups, st.last, st.hints) {
         return all_same(last_from(st), st.hints, edges, across, stems);
@@ -1889,7 +1893,8 @@ fn call_body(
 ) -> Ran
     requires { ⌜ (levels < 100) × (Valid (now bank) × Ready st (memOf (now ops) (now ps) (now cells) (now edges) (now across) (now cmds) (now stems))) ⌝ }
     ensures { λ r. ⌜ Meets r (memOf (now (ops .exit)) (now (ps .exit)) (now (cells .exit)) (now (edges .exit)) (now (across .exit)) (now (cmds .exit)) (now (stems .exit)))
-        (opD (now (bank .entry)) reading levels 10 st (memOf (now (ops .entry)) (now (ps .entry)) (now (cells .entry)) (now (edges .entry)) (now (across .entry)) (now (cmds .entry)) (now (stems .entry)))) ⌝ }
+        (opD (now (bank .entry)) reading levels 10 st
+        (memOf (now (ops .entry)) (now (ps .entry)) (now (cells .entry)) (now (edges .entry)) (now (across .entry)) (now (cmds .entry)) (now (stems .entry)))) ⌝ }
 {
     let c = callsubr(bank, st, ops);
     let f = c.flow;
@@ -1932,7 +1937,8 @@ fn op(
 ) -> Ran
     requires { ⌜ (levels < 100) × (Valid (now bank) × Ready st (memOf (now ops) (now ps) (now cells) (now edges) (now across) (now cmds) (now stems))) ⌝ }
     ensures { λ r. ⌜ Meets r (memOf (now (ops .exit)) (now (ps .exit)) (now (cells .exit)) (now (edges .exit)) (now (across .exit)) (now (cmds .exit)) (now (stems .exit)))
-        (opD (now (bank .entry)) reading levels op st (memOf (now (ops .entry)) (now (ps .entry)) (now (cells .entry)) (now (edges .entry)) (now (across .entry)) (now (cmds .entry)) (now (stems .entry)))) ⌝ }
+        (opD (now (bank .entry)) reading levels op st
+        (memOf (now (ops .entry)) (now (ps .entry)) (now (cells .entry)) (now (edges .entry)) (now (across .entry)) (now (cmds .entry)) (now (stems .entry)))) ⌝ }
 {
     if op == CALLSUBR {
         return call_body(
@@ -1979,7 +1985,8 @@ fn run(
 ) -> Ran
     requires { ⌜ (levels < 100) × (Valid (now bank) × Ready st (memOf (now ops) (now ps) (now cells) (now edges) (now across) (now cmds) (now stems))) ⌝ }
     ensures { λ r. ⌜ Meets r (memOf (now (ops .exit)) (now (ps .exit)) (now (cells .exit)) (now (edges .exit)) (now (across .exit)) (now (cmds .exit)) (now (stems .exit)))
-        (runD (now (bank .entry)) reading levels (now (code .entry)) st (memOf (now (ops .entry)) (now (ps .entry)) (now (cells .entry)) (now (edges .entry)) (now (across .entry)) (now (cmds .entry)) (now (stems .entry)))) ⌝ }
+        (runD (now (bank .entry)) reading levels (now (code .entry)) st
+        (memOf (now (ops .entry)) (now (ps .entry)) (now (cells .entry)) (now (edges .entry)) (now (across .entry)) (now (cmds .entry)) (now (stems .entry)))) ⌝ }
 {
     let b = begin(code, reading);
     let e = b.encrypted;
@@ -2118,7 +2125,8 @@ fn interpret(
     stems: &mut [Stem],
 ) -> Interpreted
     requires { ⌜ Cleared (now ops) (now ps) (now cells) (now edges) (now across) ⌝ }
-    ensures { λ r. ⌜ Leaves r (now (commands .exit)) (now (stems .exit)) (now (commands .entry)) (now (stems .entry)) (outcome (sourceOf (now (charstring .entry)) (now (bank .entry))) reading (length (now (stems .entry))) (length (now (commands .entry)))) ⌝ }
+    ensures { λ r. ⌜ Leaves r (now (commands .exit)) (now (stems .exit)) (now (commands .entry)) (now (stems .entry))
+        (outcome (sourceOf (now (charstring .entry)) (now (bank .entry))) reading (length (now (stems .entry))) (length (now (commands .entry)))) ⌝ }
 {
     let b = start_run(charstring, bank);
     let f = b.flow;
@@ -2158,7 +2166,8 @@ pub fn run_charstring(
     commands: &mut [u64],
     stems: &mut [Stem],
 ) -> Interpreted
-    ensures { λ r. ⌜ Leaves r (now (commands .exit)) (now (stems .exit)) (now (commands .entry)) (now (stems .entry)) (outcome (sourceOf (now (charstring .entry)) (now (bank .entry))) reading (length (now (stems .entry))) (length (now (commands .entry)))) ⌝ }
+    ensures { λ r. ⌜ Leaves r (now (commands .exit)) (now (stems .exit)) (now (commands .entry)) (now (stems .entry))
+        (outcome (sourceOf (now (charstring .entry)) (now (bank .entry))) reading (length (now (stems .entry))) (length (now (commands .entry)))) ⌝ }
 {
     let mut ops = [0.0; 256];
     let mut ps = [0.0; 256];

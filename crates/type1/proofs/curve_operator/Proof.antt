@@ -4,12 +4,6 @@ use Rattle.type1.proofs.Operands.{curve-short, curve-does, clear-bounds
 use borrow.Author.Needs.{needs}
 use Rattle.type1.proofs.curve_operator.Statement.{statement}
 use Rattle.type1.proofs.curve_operator.Tie as tie
-use Rattle.type1.proofs.curve_operator.Reads as reads
-use Rattle.type1.proofs.curve_operator.Lts as lts
-use Rattle.type1.proofs.cleared.Reads as cleared-reads
-use Rattle.type1.proofs.curve_by.Reads as curve-by-reads
-use Rattle.type1.proofs.curve_deltas.Reads as curve-deltas-reads
-use Rattle.type1.proofs.made.Reads as made-reads
 
 returns : tie.Need-returns
 returns c =

@@ -1,19 +1,11 @@
 use mathlib.Core.Path.{refl}
 use mathlib.Core.Logic.{inl, inr}
-use borrow.Author.Tests.{not-true, not-false}
+use borrow.Author.Tests.{not-false}
 use Rattle.type1.proofs.Dispatch.{either, of-two, of-three}
 use Rattle.type1.proofs.Drawing.{draws-none, line-drawn, curve-drawn}
 use borrow.Author.Needs.{needs}
 use Rattle.type1.proofs.draw.Statement.{statement}
 use Rattle.type1.proofs.draw.Tie as tie
-use Rattle.type1.proofs.draw.Reads as reads
-use Rattle.type1.proofs.draw.Lts as lts
-use Rattle.type1.proofs.add_curve.Reads as add-curve-reads
-use Rattle.type1.proofs.add_line.Reads as add-line-reads
-use Rattle.type1.proofs.curve_deltas.Reads as curve-deltas-reads
-use Rattle.type1.proofs.not_drawn.Reads as not-drawn-reads
-use Rattle.type1.proofs.point_delta.Reads as point-delta-reads
-use Rattle.type1.proofs.wide.Reads as wide-reads
 
 returns : tie.Need-returns
 returns c = draws-none _ _ _ _ _ _ _ _ _ (c .not-drawn .ensures) refl

@@ -4,12 +4,6 @@ use Rattle.type1.proofs.Operands.{point-short, point-does, clear-bounds
 use borrow.Author.Needs.{needs}
 use Rattle.type1.proofs.line_operator.Statement.{statement}
 use Rattle.type1.proofs.line_operator.Tie as tie
-use Rattle.type1.proofs.line_operator.Reads as reads
-use Rattle.type1.proofs.line_operator.Lts as lts
-use Rattle.type1.proofs.cleared.Reads as cleared-reads
-use Rattle.type1.proofs.line_by.Reads as line-by-reads
-use Rattle.type1.proofs.made.Reads as made-reads
-use Rattle.type1.proofs.point_delta.Reads as point-delta-reads
 
 returns : tie.Need-returns
 returns c =

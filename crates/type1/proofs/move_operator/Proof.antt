@@ -1,15 +1,9 @@
 use borrow.Author.Tests.{not-true, not-false}
 use Rattle.type1.proofs.Groups.{space-same}
-use Rattle.type1.proofs.Operands.{point-short, point-does, clear-bounds, clear-finite, clear-space}
+use Rattle.type1.proofs.Operands.{point-short, point-does, clear-bounds, clear-space}
 use borrow.Author.Needs.{needs}
 use Rattle.type1.proofs.move_operator.Statement.{statement}
 use Rattle.type1.proofs.move_operator.Tie as tie
-use Rattle.type1.proofs.move_operator.Reads as reads
-use Rattle.type1.proofs.move_operator.Lts as lts
-use Rattle.type1.proofs.cleared.Reads as cleared-reads
-use Rattle.type1.proofs.made.Reads as made-reads
-use Rattle.type1.proofs.move_by.Reads as move-by-reads
-use Rattle.type1.proofs.point_delta.Reads as point-delta-reads
 
 returns : tie.Need-returns
 returns c =

@@ -10,11 +10,6 @@ use Rattle.type1.proofs.Stacks.{too-few, enough, from-cleared, groups-k
 use borrow.Author.Needs.{needs}
 use Rattle.type1.proofs.one_stem.Statement.{statement}
 use Rattle.type1.proofs.one_stem.Tie as tie
-use Rattle.type1.proofs.one_stem.Reads as reads
-use Rattle.type1.proofs.one_stem.Lts as lts
-use Rattle.type1.proofs.add_stem.Reads as add-stem-reads
-use Rattle.type1.proofs.cleared.Reads as cleared-reads
-use Rattle.type1.proofs.made.Reads as made-reads
 
 returns : tie.Need-returns
 unfolding stemFrom

@@ -16,18 +16,18 @@ use mathlib.Core.Logic.{inl, inr}
 use mathlib.Core.Path.{refl, sym, ap, _∙_, subst}
 use Rattle.type1.specs.Run.{moveBy, lineBy}
 use Rattle.type1.specs.Deltas.{axesOf, tangentsOf, byPoint, byCurve, stemFrom}
-use Rattle.type1.specs.DeltaLaws.{moves, lines, curves}
+use Rattle.type1.specs.DeltaLaws.{moves, lines, curves, hstems, vstems}
 use borrow.Author.Needs.{needs}
 use Rattle.type1.proofs.plain.Statement.{statement}
 use Rattle.type1.proofs.plain.Tie as tie
 
 returns : tie.Need-returns
-unfolding operatorOf ofByte operate stemFrom
-returns c = stems-arm _ _ _ _ _ _ _ _ _ _ _ _ op.hstem (c .before .before .before .before .before .match .keys1) refl (stemFrom true _) _ _ _ refl (λ s lim b. ap (λ (p : Point). stemFrom true (p .y) lim s) b) _ refl (c .one-stem .ensures)
+unfolding operatorOf ofByte
+returns c = stems-arm _ _ _ _ _ _ _ _ _ _ _ _ op.hstem (c .before .before .before .before .before .match .keys1) refl (stemFrom true _) _ _ _ refl (λ s lim b. hstems lim (refused 6) s ∙ ap (λ (p : Point). stemFrom true (p .y) lim s) b) _ refl (c .one-stem .ensures)
 
 returns-2 : tie.Need-returns-2
-unfolding operatorOf ofByte operate stemFrom
-returns-2 c = stems-arm _ _ _ _ _ _ _ _ _ _ _ _ op.vstem (c .before .before .before .before .before .match .keys2) refl (stemFrom false _) _ _ _ refl (λ s lim b. ap (λ (p : Point). stemFrom false (p .x) lim s) b) _ refl (c .one-stem2 .ensures)
+unfolding operatorOf ofByte
+returns-2 c = stems-arm _ _ _ _ _ _ _ _ _ _ _ _ op.vstem (c .before .before .before .before .before .match .keys2) refl (stemFrom false _) _ _ _ refl (λ s lim b. vstems lim (refused 6) s ∙ ap (λ (p : Point). stemFrom false (p .x) lim s) b) _ refl (c .one-stem2 .ensures)
 
 returns-3 : tie.Need-returns-3
 unfolding operatorOf ofByte operate

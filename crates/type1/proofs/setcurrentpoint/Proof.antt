@@ -1,15 +1,9 @@
 use native.Mathlib.Omega.{arith}
-use lib.Ieee.{ofBits}
 use Rattle.type1.proofs.Groups.{space-same}
-use Rattle.type1.proofs.Operands.{does-setcurrentpoint, short-setcurrentpoint, clear-bounds, clear-finite, clear-space}
+use Rattle.type1.proofs.Operands.{does-setcurrentpoint, short-setcurrentpoint, clear-bounds, clear-space}
 use borrow.Author.Needs.{needs}
 use Rattle.type1.proofs.setcurrentpoint.Statement.{statement}
 use Rattle.type1.proofs.setcurrentpoint.Tie as tie
-use Rattle.type1.proofs.setcurrentpoint.Reads as reads
-use Rattle.type1.proofs.setcurrentpoint.Lts as lts
-use Rattle.type1.proofs.cleared.Reads as cleared-reads
-use Rattle.type1.proofs.made.Reads as made-reads
-use Rattle.type1.proofs.set_point.Reads as set-point-reads
 
 returns : tie.Need-returns
 returns c =
