@@ -1,42 +1,81 @@
 -- Laws: which operator a token names, and what each function says of it.
-use mathlib.Core.Path.{_≡_, refl, sym, ap, ap₂, _∙_, subst}
-use Prim.Native.Nat.{ℕ, zero, suc, _+_, _-_, _*_, _≤_, _<_}
+use mathlib.Core.Path.{_≡_, refl, sym, ap, _∙_, subst}
+use Prim.Native.Nat.{ℕ, _+_, _-_, _≤_, _<_}
 use native.Mathlib.Omega.{arith}
 use mathlib.Core.Bool.{Bool, true, false}
 use mathlib.Core.List.{List, [], _∷_}
-use borrow.Author.Tests.{eqb-true, eqb-false, ltb-false, ne-eqb}
-use lib.Dec.{eqb, ltb, lit≤}
+use mathlib.Core.Logic.{_⊎_, inl, inr}
+use borrow.Author.Tests.{eqb-true, ltb-true, ltb-false, ne-eqb}
+use lib.Dec.{eqb, ltb, lit≤, lit<}
+use lib.Arith.{lt-of-le-ne}
 use lib.ListN.{length, getD}
 use lib.Ieee.{Float, nan}
-use Rattle.geometry.specs.declared.Point.{Point}
 use Rattle.type1.specs.declared.St.{St}
 use Rattle.type1.specs.declared.Ran.{Ran}
-use Rattle.type1.specs.Operator as op
 use Rattle.type1.specs.Operator.{Operator, ofByte, ofEscape}
 use Rattle.type1.specs.State.{State, withOpen}
-use Rattle.type1.specs.Run.{Limits, within, Outcome, going, returning, ending, refused, cleared, stems3, divD, popD, callOtherSubr, operate, pointAt}
-use Rattle.type1.specs.Memory.{Mem, Holds, Meets, operatorOf, after, withOps, withPs, withCells, withCmds, withHints, withPath, Told}
+use Rattle.type1.specs.Run.{Limits, within, Outcome, going, refused, cleared, divD, popD, callOtherSubr, operate, pointAt}
+use Rattle.type1.specs.Memory.{Mem, Holds, Meets, operatorOf, after, withOps, withPs, withCells, withHints, withPath, Told, Takes, Hinted}
 use Rattle.type1.specs.Reading.{withCount}
-use Rattle.type1.specs.Small.{ranOf, closedRan, withOpened, Space}
-use Rattle.type1.proofs.Stacks.{cleared-holds, from-cleared}
+use Rattle.type1.specs.Small.{ranOf, closedRan, Space}
+use Rattle.type1.proofs.Stacks.{cleared-holds}
 use Rattle.type1.proofs.Steps.{bearing-is}
 use Rattle.type1.proofs.Groups.{after-none}
 use Rattle.type1.proofs.Paths.{opens}
 use Rattle.type1.proofs.OtherSubrs.{Others}
 
--- ---- no key of a match
+-- ---- which operators a range of numbers is
+pub either : {A B C : Type 0} → A ⊎ B → (A → C) → (B → C) → C
+either (inl a) f g = f a
+either (inr b) f g = g b
+
+pub of-two : (n k : ℕ) → k ≤ n → n < k + 2 → (n ≡ k) ⊎ (n ≡ k + 1)
+of-two n k h l = go (ltb n (k + 1)) refl
+  where
+    go : (b : Bool) → ltb n (k + 1) ≡ b → (n ≡ k) ⊎ (n ≡ k + 1)
+    go true e = let q = ltb-true n (k + 1) e in inl (omega arith)
+    go false e = let q = ltb-false n (k + 1) e in inr (omega arith)
+
+pub of-three : (n k : ℕ) → k ≤ n → n < k + 3 → (n ≡ k) ⊎ ((n ≡ k + 1) ⊎ (n ≡ k + 2))
+of-three n k h l = go (ltb n (k + 1)) refl
+  where
+    go : (b : Bool) → ltb n (k + 1) ≡ b → (n ≡ k) ⊎ ((n ≡ k + 1) ⊎ (n ≡ k + 2))
+    go true e = let q = ltb-true n (k + 1) e in inl (omega arith)
+    go false e = let q = ltb-false n (k + 1) e in inr (subst (λ (j : ℕ). (n ≡ k + 1) ⊎ (n ≡ j)) (let z : k + 1 + 1 ≡ k + 2 = omega arith in z) (of-two n (k + 1) q (omega arith)))
+
+-- ---- no key of a match, nor a number of its ranges 5 to 7, 21 to 22 and 30 to 31
 abbrev pub NoneOf : Type 0 → List ℕ → ℕ → Type 0
 NoneOf N [] n = N
 NoneOf N (k ∷ ks) n = NoneOf (N × (n ≡ k → ⊥)) ks n
 
 abbrev pub keys : List ℕ
-keys = 1 ∷ 3 ∷ 4 ∷ 5 ∷ 6 ∷ 7 ∷ 8 ∷ 9 ∷ 11 ∷ 13 ∷ 14 ∷ 21 ∷ 22 ∷ 30 ∷ 31 ∷ 256 ∷ 257 ∷ 258 ∷ 262 ∷ 263 ∷ 268 ∷ 272 ∷ 273 ∷ 289 ∷ []
+keys = 1 ∷ 3 ∷ 4 ∷ 8 ∷ 9 ∷ 11 ∷ 13 ∷ 14 ∷ 256 ∷ 257 ∷ 258 ∷ 262 ∷ 263 ∷ 268 ∷ 272 ∷ 273 ∷ 289 ∷ []
 
-module _ (lim : Limits) (n : ℕ) (s : State) (r : NoneOf (Unit {0}) keys n) where
+-- the lines, of 3 to 7
+pub lines-of : (n : ℕ) → 3 ≤ n → n < 8 → NoneOf (Unit {0}) keys n → (n ≡ 5) ⊎ ((n ≡ 6) ⊎ (n ≡ 7))
+lines-of n h l r = of-three n 5 (lt-of-le-ne (lt-of-le-ne h (λ e. r .0 .0 .0 .0 .0 .0 .0 .0 .0 .0 .0 .0 .0 .0 .0 .1 (sym e))) (λ e. r .0 .0 .0 .0 .0 .0 .0 .0 .0 .0 .0 .0 .0 .0 .1 (sym e))) l
+
+abbrev pub Outside : ℕ → Type 0
+Outside n = (n < 3) ⊎ (((8 ≤ n) × (n < 21)) ⊎ (((23 ≤ n) × (n < 30)) ⊎ (32 ≤ n)))
+
+abbrev Apart : ℕ → ℕ → ℕ → Type 0
+Apart n a b = (n < a) ⊎ (b ≤ n)
+
+apart : (n a b k : ℕ) → Apart n a b → a ≤ k → k < b → n ≡ k → ⊥
+apart n a b k (inl h) l g e = omega arith
+apart n a b k (inr h) l g e = omega arith
+
+spread : (n : ℕ) → Outside n → Apart n 3 8 × (Apart n 21 23 × Apart n 30 32)
+spread n (inl h) = (inl h, (inl (omega arith), inl (omega arith)))
+spread n (inr (inl (h, l))) = (inr h, (inl l, inl (omega arith)))
+spread n (inr (inr (inl (h, l)))) = (inr (omega arith), (inr h, inl l))
+spread n (inr (inr (inr h))) = (inr (omega arith), (inr (omega arith), inr h))
+
+module _ (lim : Limits) (n : ℕ) (s : State) (r : NoneOf (Unit {0}) keys n) (out : Outside n) where
   one-byte : (b : Bool) → eqb n 10 ≡ b → ltb n 256 ≡ true → operate lim (refused 6) (operatorOf n) s ≡ refused 6
   unfolding operatorOf ofByte operate
   one-byte true e q = rw (q, ap ofByte (eqb-true n 10 e))
-  one-byte false e q = rw (q, ne-eqb n 1 (r .0 .0 .0 .0 .0 .0 .0 .0 .0 .0 .0 .0 .0 .0 .0 .0 .0 .0 .0 .0 .0 .0 .0 .1), ne-eqb n 3 (r .0 .0 .0 .0 .0 .0 .0 .0 .0 .0 .0 .0 .0 .0 .0 .0 .0 .0 .0 .0 .0 .0 .1), ne-eqb n 4 (r .0 .0 .0 .0 .0 .0 .0 .0 .0 .0 .0 .0 .0 .0 .0 .0 .0 .0 .0 .0 .0 .1), ne-eqb n 5 (r .0 .0 .0 .0 .0 .0 .0 .0 .0 .0 .0 .0 .0 .0 .0 .0 .0 .0 .0 .0 .1), ne-eqb n 6 (r .0 .0 .0 .0 .0 .0 .0 .0 .0 .0 .0 .0 .0 .0 .0 .0 .0 .0 .0 .1), ne-eqb n 7 (r .0 .0 .0 .0 .0 .0 .0 .0 .0 .0 .0 .0 .0 .0 .0 .0 .0 .0 .1), ne-eqb n 8 (r .0 .0 .0 .0 .0 .0 .0 .0 .0 .0 .0 .0 .0 .0 .0 .0 .0 .1), ne-eqb n 9 (r .0 .0 .0 .0 .0 .0 .0 .0 .0 .0 .0 .0 .0 .0 .0 .0 .1), e, ne-eqb n 11 (r .0 .0 .0 .0 .0 .0 .0 .0 .0 .0 .0 .0 .0 .0 .0 .1), ne-eqb n 13 (r .0 .0 .0 .0 .0 .0 .0 .0 .0 .0 .0 .0 .0 .0 .1), ne-eqb n 14 (r .0 .0 .0 .0 .0 .0 .0 .0 .0 .0 .0 .0 .0 .1), ne-eqb n 21 (r .0 .0 .0 .0 .0 .0 .0 .0 .0 .0 .0 .0 .1), ne-eqb n 22 (r .0 .0 .0 .0 .0 .0 .0 .0 .0 .0 .0 .1), ne-eqb n 30 (r .0 .0 .0 .0 .0 .0 .0 .0 .0 .0 .1), ne-eqb n 31 (r .0 .0 .0 .0 .0 .0 .0 .0 .0 .1))
+  one-byte false e q = rw (q, ne-eqb n 1 (r .0 .0 .0 .0 .0 .0 .0 .0 .0 .0 .0 .0 .0 .0 .0 .0 .1), ne-eqb n 3 (r .0 .0 .0 .0 .0 .0 .0 .0 .0 .0 .0 .0 .0 .0 .0 .1), ne-eqb n 4 (r .0 .0 .0 .0 .0 .0 .0 .0 .0 .0 .0 .0 .0 .0 .1), ne-eqb n 5 (apart n 3 8 5 (spread n out .0) (lit≤ tt) (lit< tt)), ne-eqb n 6 (apart n 3 8 6 (spread n out .0) (lit≤ tt) (lit< tt)), ne-eqb n 7 (apart n 3 8 7 (spread n out .0) (lit≤ tt) (lit< tt)), ne-eqb n 8 (r .0 .0 .0 .0 .0 .0 .0 .0 .0 .0 .0 .0 .0 .1), ne-eqb n 9 (r .0 .0 .0 .0 .0 .0 .0 .0 .0 .0 .0 .0 .1), e, ne-eqb n 11 (r .0 .0 .0 .0 .0 .0 .0 .0 .0 .0 .0 .1), ne-eqb n 13 (r .0 .0 .0 .0 .0 .0 .0 .0 .0 .0 .1), ne-eqb n 14 (r .0 .0 .0 .0 .0 .0 .0 .0 .0 .1), ne-eqb n 21 (apart n 21 23 21 (spread n out .1 .0) (lit≤ tt) (lit< tt)), ne-eqb n 22 (apart n 21 23 22 (spread n out .1 .0) (lit≤ tt) (lit< tt)), ne-eqb n 30 (apart n 30 32 30 (spread n out .1 .1) (lit≤ tt) (lit< tt)), ne-eqb n 31 (apart n 30 32 31 (spread n out .1 .1) (lit≤ tt) (lit< tt)))
 
   two-bytes : ltb n 256 ≡ false → operate lim (refused 6) (operatorOf n) s ≡ refused 6
   unfolding operatorOf ofEscape operate
@@ -76,17 +115,10 @@ module _ (same : Bool) (t : St) (r : Ran) (o ps x e : List Float) (a : List Bool
       → Does o' ps' x' e' a' c
   quiet o' ps' x' e' a' g f = arm o' ps' x' e' a' c (λ z. absurd (z g)) (λ m s q d H. after-none t r c (withOps o' (withPs ps' (withCells x' (withHints e' a' m)))) (operate (within room (length c)) (refused 6) w s) g (f m s H))
 
-  -- a path command
-  pub path-arm : (c' : List ℕ) (v : Ran) → v ≡ r
-      → ((m : Mem) (s : State) (d : Outcome) → length (m .stems) ≡ room → Told same s → Holds t (withOps o (withCmds c m)) s → Meets r (withOps o (after t r c' m)) (operate (within room (length c)) d w s))
-      → Space t (r .st) room → Answers same t o ps x e a c room n o ps x e a c' v
-  path-arm c' v k f p = kept-arm v o ps x e a c' k (arm o ps x e a c' p (λ m s q d H. f (withPs ps (withCells x (withHints e a m))) s (refused 6) q d H))
-
-  -- a stem
-  pub stem-arm : (e' : List Float) (a' : List Bool)
-      → ((m : Mem) (s : State) (d : Outcome) (room words : ℕ) → Holds t (withOps o (withCells x (withHints e a m))) s → Meets r (withOps o (withCells x (withHints e' a' m))) (operate (within room words) d w s))
-      → r .st .groups ≡ t .groups → Does o ps x e' a' c
-  stem-arm e' a' f g = quiet o ps x e' a' g (λ m s H. f (withPs ps (withPath e a c m)) s (refused 6) room (length c) H)
+  -- a path command, as D does it
+  pub path-arm : (D : Limits → State → Outcome) (c' : List ℕ) (v : Ran) → v ≡ r → ((lim : Limits) (s : State) → operate lim (refused 6) w s ≡ D lim s)
+      → Takes same t r o c c' room D → Space t (r .st) room → Answers same t o ps x e a c room n o ps x e a c' v
+  path-arm D c' v k b f p = kept-arm v o ps x e a c' k (arm o ps x e a c' p (λ m s q d H. subst (Meets r (withOps o (withPs ps (withCells x (after t r c' (withHints e a m)))))) (sym (b (within room (length c)) s)) (f (withPs ps (withCells x (withHints e a m))) s q d H)))
 
   -- the side bearing
   pub bearing-arm : (x' : List Float)
@@ -94,12 +126,12 @@ module _ (same : Bool) (t : St) (r : Ran) (o ps x e : List Float) (a : List Bool
       → r .st .groups ≡ t .groups → Does o ps x' e a c
   bearing-arm x' f g = quiet o ps x' e a g (λ m s H. f (withPs ps (withPath e a c m)) s (refused 6) room (length c) H)
 
-  -- three stems
-  pub stems3-arm : (h : Bool) (from : Float) (e' : List Float) (a' : List Bool) (v : Ran) → v ≡ r
-      → ((s : State) (lim : Limits) → s .bearing ≡ pointAt (getD x 16 nan) (getD x 17 nan) → operate lim (refused 6) w s ≡ stems3 lim h from s)
-      → ((m : Mem) (s : State) (room words : ℕ) → Holds t (withOps o (withHints e a m)) s → Meets r (withOps o (withHints e' a' m)) (stems3 (within room words) h from s))
-      → r .st .groups ≡ t .groups → Answers same t o ps x e a c room n o ps x e' a' c v
-  stems3-arm h from e' a' v k b f g =
+  -- stems, as D counts them from the side bearing
+  pub stems-arm : (D : Limits → State → Outcome) (e' : List Float) (a' : List Bool) (v : Ran) → v ≡ r
+      → ((s : State) (lim : Limits) → s .bearing ≡ pointAt (getD x 16 nan) (getD x 17 nan) → operate lim (refused 6) w s ≡ D lim s)
+      → (u : St) → u ≡ t → Hinted u r o e a e' a' D × (r .st .groups ≡ u .groups) → Answers same t o ps x e a c room n o ps x e' a' c v
+  stems-arm D e' a' v k b u y h =
+      let (f, g) = subst (λ (z : St). Hinted z r o e a e' a' D × (r .st .groups ≡ z .groups)) y h in
       kept-arm v o ps x e' a' c k (quiet o ps x e' a' g (λ m s H. subst (Meets r (withOps o (withPs ps (withCells x (withPath e' a' c m))))) (sym (b s (within room (length c)) (bearing-is t _ s H))) (f (withPs ps (withCells x (withPath e a c m))) s room (length c) H)))
 
   pub div-arm : (o' : List Float) → ((s : State) (lim : Limits) → operate lim (refused 6) w s ≡ divD s) → ((m : Mem) (s : State) → Holds t (withOps o m) s → Meets r (withOps o' m) (divD s)) → r .st .groups ≡ t .groups → Does o' ps x e a c
@@ -119,6 +151,6 @@ pub closes : (t : St) (m : Mem) (s : State) → Holds t m s → Meets (closedRan
 closes t m s H = (refl, opens (withCount 0 t) m (cleared s) false (cleared-holds t m s H))
 
 -- no key
-pub rest-arm : (same : Bool) (t : St) (r : Ran) (o ps x e : List Float) (a : List Bool) (c : List ℕ) (room n : ℕ) → r ≡ ranOf t 6 → NoneOf (Unit {0}) keys n
+pub rest-arm : (same : Bool) (t : St) (r : Ran) (o ps x e : List Float) (a : List Bool) (c : List ℕ) (room n : ℕ) → r ≡ ranOf t 6 → NoneOf (Unit {0}) keys n → Outside n
     → Answers same t o ps x e a c room n o ps x e a c r
-rest-arm same t r o ps x e a c room n p z = (λ m s q d H. subst (Meets r (withOps o (withPs ps (withCells x (after t r c (withHints e a m)))))) (sym (no-operator (within room (length c)) n s z)) (ap (λ (v : Ran). v .flow) p, lit≤ tt), λ y. absurd (y (ap (λ (v : Ran). v .st .groups) p)))
+rest-arm same t r o ps x e a c room n p z out = (λ m s q d H. subst (Meets r (withOps o (withPs ps (withCells x (after t r c (withHints e a m)))))) (sym (no-operator (within room (length c)) n s z out)) (ap (λ (v : Ran). v .flow) p, lit≤ tt), λ y. absurd (y (ap (λ (v : Ran). v .st .groups) p)))

@@ -4,26 +4,30 @@ use Prim.Native.Nat.{ℕ, _+_, _-_, _*_, _≤_, _<_}
 use native.Mathlib.Omega.{arith}
 use mathlib.Core.Bool.{Bool, true, false, true≢false, _&&_}
 use mathlib.Core.List.{List}
+use mathlib.Core.Logic.{_⊎_, inl, inr}
 use lib.Dec.{T}
-use lib.ListN.{length, getD, set}
-use lib.Ieee.{Float, nan, binary64, add, fits, toBits}
+use lib.ListN.{length, set, take}
+use lib.Ieee.{Float, binary64, add, fits, toBits}
 use Rattle.outline.specs.declared.Stem.{Stem}
 use Rattle.type1.specs.declared.St.{St}
 use Rattle.type1.specs.declared.Ran.{Ran}
 use Rattle.type1.specs.declared.Drawn.{Drawn}
+use Rattle.type1.specs.declared.Delta.{Delta}
+use Rattle.type1.specs.declared.Deltas.{Deltas}
 use Rattle.type1.specs.Operator as op
-use Rattle.type1.specs.Operator.{Operator}
-use Rattle.outline.specs.Outline.{Command, line, curve, plusZero}
+use Rattle.outline.specs.Outline.{Command, line, curve}
 use Rattle.outline.specs.Store.{pointCommand}
 use Rattle.type1.specs.State.{State}
 use Rattle.type1.specs.Run.{Limits, within, Outcome, refused, pointAt, isFinite, enter, list, lineBy, curveBy, operate}
-use Rattle.type1.specs.Memory.{Mem, Holds, Meets, operatorOf, withOps, withCmds, withStems}
+use Rattle.type1.specs.Memory.{Mem, Holds, Meets, operatorOf, withOps, withCmds, withStems, Step, Takes}
 use Rattle.type1.specs.Small.{ranOf}
 use Rattle.type1.specs.Reading.{placed, drawnTo, isRead, Stores, Adds, Draws}
 use Rattle.type1.proofs.Store.{withEntries, enter-full, wrote-3, wrote-7, point-entered, curve-entered}
-use Rattle.type1.proofs.Groups.{Step, kept-none, commits-none, quiet-told}
+use Rattle.type1.proofs.Groups.{kept-none, commits-none, quiet-told}
 use Rattle.type1.proofs.Paths.{lists-on, lines-listed, line-open, curves-listed, curve-open}
-use Rattle.type1.proofs.Operands.{Operates, does-rlineto, does-hlineto, does-vlineto, does-rrcurveto, does-vhcurveto, does-hvcurveto}
+use Rattle.type1.specs.Deltas.{axesOf, tangentsOf, pointDelta, curveDeltas, byPoint, byCurve}
+use Rattle.type1.specs.DeltaLaws.{lines, curves}
+use Rattle.type1.proofs.Operands.{point-does, curve-does}
 
 -- ---- entries
 pub stores-none : (X : Command) (k : ℕ) (c : List ℕ) → length c - 14 * k < 14 → Stores X k c false c
@@ -102,47 +106,49 @@ curve-added x y dx1 dy1 dx2 dy2 dx3 dy3 x1 y1 x2 y2 x3 y3 k c d b is f S z = rec
   same = S .same;
 }
 
--- ---- the operators
-module _ (v n : ℕ) (x y : Float) (k : ℕ) (ops : List Float) (c : List ℕ) (r : Drawn) (d : List ℕ) where
-  drawn-by : (o : Operator) → operatorOf v ≡ o → T (isRead o) → (v ≡ 12 → ⊥) → (E : Limits → State → Outcome)
-      → ((t : St) (room : ℕ) → Step false (placed 0 x y k t) (ranOf (drawnTo r k t) 0) c d room E → Operates false (placed n x y k t) (ranOf (drawnTo r k t) 0) ops c d room o)
-      → Adds E x y k c r d → Draws v n x y k ops c r d
-  drawn-by o is dr not-12 E does A = record {
-    done = λ w t m s op ch H.
+-- ---- lines and curves are read
+abbrev IsRead : ℕ → Type 0
+IsRead w = T (isRead (operatorOf w)) × (w ≡ 12 → ⊥)
+
+read-as : (w k : ℕ) → w ≡ k → T (isRead (operatorOf k)) → (k ≡ 12 → ⊥) → IsRead w
+read-as w k e t n = subst IsRead (sym e) (t, n)
+
+line-read : (w : ℕ) → (w ≡ 5) ⊎ ((w ≡ 6) ⊎ (w ≡ 7)) → IsRead w
+unfolding operatorOf op.ofByte
+line-read w (inl e) = read-as w 5 e tt (λ q. let z : ⊥ = omega arith in z)
+line-read w (inr (inl e)) = read-as w 6 e tt (λ q. let z : ⊥ = omega arith in z)
+line-read w (inr (inr e)) = read-as w 7 e tt (λ q. let z : ⊥ = omega arith in z)
+
+curve-read : (w : ℕ) → (w ≡ 8) ⊎ ((w ≡ 30) ⊎ (w ≡ 31)) → IsRead w
+unfolding operatorOf op.ofByte
+curve-read w (inl e) = read-as w 8 e tt (λ q. let z : ⊥ = omega arith in z)
+curve-read w (inr (inl e)) = read-as w 30 e tt (λ q. let z : ⊥ = omega arith in z)
+curve-read w (inr (inr e)) = read-as w 31 e tt (λ q. let z : ⊥ = omega arith in z)
+
+-- ---- the operators, in which E is done by the deltas of the operands
+module _ (n : ℕ) (x y : Float) (k : ℕ) (ops : List Float) (c : List ℕ) (r : Drawn) (d : List ℕ) where
+  drawn-by : (w : ℕ) (D E : Limits → State → Outcome) → ((lim : Limits) (s : State) → operate lim (refused 6) (operatorOf w) s ≡ D lim s) → T (isRead (operatorOf w)) × (w ≡ 12 → ⊥)
+      → ((t : St) (room : ℕ) → Step false (placed 0 x y k t) (ranOf (drawnTo r k t) 0) c d room E → Takes false (placed n x y k t) (ranOf (drawnTo r k t) 0) ops c d room D)
+      → Adds E x y k c r d → (v : ℕ) → w ≡ v → Draws v n x y k ops c r d
+  drawn-by w D E is read does A v e = subst (λ (v : ℕ). Draws v n x y k ops c r d) e (record {
+    done = λ h t m s op ch H.
         let room = length (m .stems) in
         let q = ranOf (drawnTo r k t) 0 in
-        let got = does t room (λ n u q j K. A .done w t room op ch n u q K) m s (refused 6) refl (quiet-told false (placed n x y k t) (withOps ops (withCmds c m)) s H ch) H in
-        subst (λ (z : Operator). Meets q (withOps ops (withCmds d m)) (operate (within room (length c)) (refused 6) z s)) (sym is)
-        (subst (λ (z : List Stem). Meets q (withOps ops (withCmds d (withStems z m))) (operate (within room (length c)) (refused 6) o s)) (kept-none (placed n x y k t) (drawnTo r k t) (m .edges) (m .across) (m .stems) refl) got);
-    drawn = λ w. (subst (λ (z : Operator). T (isRead z)) (sym is) dr, not-12);
+        let got = does t room (λ n u q j K. A .done h t room op ch n u q K) m s refl (quiet-told false (placed n x y k t) (withOps ops (withCmds c m)) s H ch) H in
+        subst (Meets q (withOps ops (withCmds d m))) (sym (is (within room (length c)) s))
+        (subst (λ (z : List Stem). Meets q (withOps ops (withCmds d (withStems z m))) (D (within room (length c)) s)) (kept-none (placed n x y k t) (drawnTo r k t) (m .edges) (m .across) (m .stems) refl) got);
+    drawn = λ h. read;
     space = A .space;
     none = A .none;
     same = A .same;
-  }
+  })
 
-  abbrev op-at : ℕ → Float
-  op-at j = getD ops (n - j) nan
+  pub line-drawn : (v w : ℕ) → w ≡ v → (w ≡ 5) ⊎ ((w ≡ 6) ⊎ (w ≡ 7)) → (e : Delta) → e ≡ pointDelta (axesOf w) (take (n - 0) ops) → e .enough ≡ true → Adds (λ lim. lineBy lim (e .dx) (e .dy)) x y k c r d → Draws v n x y k ops c r d
+  line-drawn v w p key e is h A =
+      drawn-by w (byPoint lineBy (axesOf w)) (λ lim. lineBy lim (e .dx) (e .dy)) (λ lim s. lines lim (refused 6) s w key) (line-read w key)
+      (λ t room S. point-does false (placed n x y k t) _ ops c room lineBy (axesOf w) e is (placed 0 x y k t) d refl h S) A v p
 
-  pub rlineto-drawn : v ≡ 5 → 2 ≤ n → Adds (λ lim. lineBy lim (op-at 2) (op-at 1)) x y k c r d → Draws v n x y k ops c r d
-  unfolding operatorOf op.ofByte
-  rlineto-drawn e h = drawn-by op.rlineto (ap operatorOf e) tt (λ q. let z : ⊥ = omega arith in z) (λ lim. lineBy lim (op-at 2) (op-at 1)) (λ t room S. does-rlineto false (placed n x y k t) (placed 0 x y k t) _ ops c d room refl h S)
-
-  pub hlineto-drawn : v ≡ 6 → 1 ≤ n → Adds (λ lim. lineBy lim (op-at 1) plusZero) x y k c r d → Draws v n x y k ops c r d
-  unfolding operatorOf op.ofByte
-  hlineto-drawn e h = drawn-by op.hlineto (ap operatorOf e) tt (λ q. let z : ⊥ = omega arith in z) (λ lim. lineBy lim (op-at 1) plusZero) (λ t room S. does-hlineto false (placed n x y k t) (placed 0 x y k t) _ ops c d room refl h S)
-
-  pub vlineto-drawn : v ≡ 7 → 1 ≤ n → Adds (λ lim. lineBy lim plusZero (op-at 1)) x y k c r d → Draws v n x y k ops c r d
-  unfolding operatorOf op.ofByte
-  vlineto-drawn e h = drawn-by op.vlineto (ap operatorOf e) tt (λ q. let z : ⊥ = omega arith in z) (λ lim. lineBy lim plusZero (op-at 1)) (λ t room S. does-vlineto false (placed n x y k t) (placed 0 x y k t) _ ops c d room refl h S)
-
-  pub rrcurveto-drawn : v ≡ 8 → 6 ≤ n → Adds (λ lim. curveBy lim (op-at 6) (op-at 5) (op-at 4) (op-at 3) (op-at 2) (op-at 1)) x y k c r d → Draws v n x y k ops c r d
-  unfolding operatorOf op.ofByte
-  rrcurveto-drawn e h = drawn-by op.rrcurveto (ap operatorOf e) tt (λ q. let z : ⊥ = omega arith in z) (λ lim. curveBy lim (op-at 6) (op-at 5) (op-at 4) (op-at 3) (op-at 2) (op-at 1)) (λ t room S. does-rrcurveto false (placed n x y k t) (placed 0 x y k t) _ ops c d room refl h S)
-
-  pub vhcurveto-drawn : v ≡ 30 → 4 ≤ n → Adds (λ lim. curveBy lim plusZero (op-at 4) (op-at 3) (op-at 2) (op-at 1) plusZero) x y k c r d → Draws v n x y k ops c r d
-  unfolding operatorOf op.ofByte
-  vhcurveto-drawn e h = drawn-by op.vhcurveto (ap operatorOf e) tt (λ q. let z : ⊥ = omega arith in z) (λ lim. curveBy lim plusZero (op-at 4) (op-at 3) (op-at 2) (op-at 1) plusZero) (λ t room S. does-vhcurveto false (placed n x y k t) (placed 0 x y k t) _ ops c d room refl h S)
-
-  pub hvcurveto-drawn : v ≡ 31 → 4 ≤ n → Adds (λ lim. curveBy lim (op-at 4) plusZero (op-at 3) (op-at 2) plusZero (op-at 1)) x y k c r d → Draws v n x y k ops c r d
-  unfolding operatorOf op.ofByte
-  hvcurveto-drawn e h = drawn-by op.hvcurveto (ap operatorOf e) tt (λ q. let z : ⊥ = omega arith in z) (λ lim. curveBy lim (op-at 4) plusZero (op-at 3) (op-at 2) plusZero (op-at 1)) (λ t room S. does-hvcurveto false (placed n x y k t) (placed 0 x y k t) _ ops c d room refl h S)
+  pub curve-drawn : (v w : ℕ) → w ≡ v → (w ≡ 8) ⊎ ((w ≡ 30) ⊎ (w ≡ 31)) → (e : Deltas) → e ≡ curveDeltas (tangentsOf w) (take (n - 0) ops) → e .enough ≡ true → Adds (λ lim. curveBy lim (e .dx1) (e .dy1) (e .dx2) (e .dy2) (e .dx3) (e .dy3)) x y k c r d → Draws v n x y k ops c r d
+  curve-drawn v w p key e is h A =
+      drawn-by w (byCurve (tangentsOf w)) (λ lim. curveBy lim (e .dx1) (e .dy1) (e .dx2) (e .dy2) (e .dx3) (e .dy3)) (λ lim s. curves lim (refused 6) s w key) (curve-read w key)
+      (λ t room S. curve-does false (placed n x y k t) _ ops c room (tangentsOf w) e is (placed 0 x y k t) d refl h S) A v p

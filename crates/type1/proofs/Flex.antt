@@ -18,10 +18,9 @@ use Rattle.type1.specs.declared.St.{St}
 use Rattle.type1.specs.declared.Ran.{Ran}
 use Rattle.type1.specs.State.{State, withPoint, withFlex}
 use Rattle.type1.specs.Run.{Limits, within, Outcome, refused, andThen, commit, enter, list, handBack, heightOf, endFlex, otherSubr0}
-use Rattle.type1.specs.Memory.{Mem, pointsAt, abs, Holds, Meets, kept, after, withPs, withCells, withCmds, withStems, Told, Path}
+use Rattle.type1.specs.Memory.{Mem, pointsAt, abs, Holds, Meets, kept, after, withPs, withCells, withCmds, withStems, Told, Path, Step}
 use Rattle.type1.specs.Small.{ranOf, withXY, cellPoint, flexOf, Space}
 use Rattle.type1.proofs.Stacks.{small, small-fit, flexing-is, points-length, withPostscripts, back-full, back-done}
-use Rattle.type1.proofs.Groups.{Step}
 use Rattle.type1.proofs.Paths.{stop-then, kept-same, moved}
 use Rattle.type1.proofs.Steps.{then-goes}
 

@@ -20,7 +20,7 @@ use Rattle.outline.specs.Outline.{Command, Group, stemCount, lastIs, sameStems,
 use Rattle.outline.specs.Store.{word, commandIn, drawnIn, groupIn, groupsIn}
 use Rattle.type1.specs.State.{State, settled}
 use Rattle.type1.specs.Run.{Limits, within, Outcome, going, check, allowed, entries, newGroup, commit}
-use Rattle.type1.specs.Memory.{Mem, stemsAt, abs, Bounds, Fit, Holds, Meets, kept, after, withCmds, withStems, Told, Path}
+use Rattle.type1.specs.Memory.{Mem, stemsAt, abs, Bounds, Fit, Holds, Meets, kept, after, withCmds, withStems, Told, Path, Step}
 use Rattle.type1.specs.Small.{ranOf, Grown, Space}
 use Rattle.type1.proofs.Store.{Wrote, drawn-same, groups-same, entries-is}
 use Rattle.type1.proofs.Hints.{stems-length}
@@ -341,10 +341,7 @@ path-new t r room h f g = record { quiet = λ z. absurd (true≢false (sym h ∙
 pub grown-last : (t : St) (r : Ran) (words room : ℕ) → r ≡ ranOf (unchanged t) 0 → Bounds t words → t .stems ≤ room → Grown t (r .st) words room
 grown-last t r words room e b h = subst (λ (q : Ran). Grown t (q .st) words room) (sym e) (record { bounds = record { operands = b .operands; postscript = b .postscript; points = b .points; hints = b .hints; last = b .last; groups = b .groups; entries = b .entries; ran = b .ran }; stems = h; hints = refl; x = refl; y = refl })
 
--- ---- as `commit` says it: D is a step of the run with so much room
-abbrev pub Step : Bool → St → Ran → List ℕ → List ℕ → ℕ → (Limits → State → Outcome) → Type 0
-Step same t r c c' room D = (m : Mem) (s : State) → length (m .stems) ≡ room → Told same s → Holds t (withCmds c m) s → Meets r (after t r c' m) (D (within room (length c)) s)
-
+-- ---- as `commit` says it
 pub commits-none : (same : Bool) (t : St) (r : Ran) (c : List ℕ) (room : ℕ) → r ≡ ranOf t 0 → t .changed ≡ false → Step same t r c c room commit
 commits-none same t r c room p h m s q w H = after-none t r c m (commit (within room (length c)) s) (ap (λ (x : Ran). x .st .groups) p) (commit-none t (withCmds c m) s H (within room (length c)) r p h)
 

@@ -3,6 +3,7 @@ pub mod Bytes
 pub mod Callees
 pub mod Calls
 pub mod CycleLaws
+pub mod DeltasMade
 pub mod Dispatch
 pub mod Drawing
 pub mod EntryCallees

@@ -19,10 +19,10 @@ use Rattle.type1.specs.declared.Ran.{Ran}
 use Rattle.outline.specs.Outline.{Command, move, line, curve, pick}
 use Rattle.type1.specs.State.{State, withPoint, withOpen}
 use Rattle.type1.specs.Run.{Limits, within, Outcome, going, returning, ending, refused, andThen, check, commit, enter, list, pointAt, isFinite, shifted, noFlex, moveBy, openSubpath, lineTo, lineBy, curveTo, curveBy, samePoint, setPoint}
-use Rattle.type1.specs.Memory.{Mem, stemsAt, flexIn, abs, Bounds, Fit, Holds, Meets, kept, after, withCmds, withStems, Plain, Path}
+use Rattle.type1.specs.Memory.{Mem, stemsAt, flexIn, abs, Bounds, Fit, Holds, Meets, kept, after, withCmds, withStems, Plain, Path, Step}
 use Rattle.type1.specs.Small.{ranOf, withXY, withOpened, openedRan, Grown, Entered, Space}
 use Rattle.type1.proofs.Hints.{stems-length}
-use Rattle.type1.proofs.Groups.{Step, kept-none, after-none, quiet-told}
+use Rattle.type1.proofs.Groups.{kept-none, after-none, quiet-told}
 
 -- ---- one step after another
 pub stop-then : (r : Ran) (M : Mem) (o : Outcome) (k : State → Outcome) → Meets r M o → (r .flow ≡ 0 → ⊥) → Meets r M (andThen o k)

@@ -1,19 +1,16 @@
 -- Laws: steps one after the other, and the hint operators.
 use mathlib.Core.Path.{_≡_, refl, sym, ap, ap₂, _∙_, subst}
-use Prim.Native.Nat.{ℕ, zero, suc, _+_, _-_, _*_, _≤_, _<_}
+use Prim.Native.Nat.{ℕ, suc, _-_, _≤_, _<_}
 use native.Mathlib.Omega.{arith}
-use mathlib.Core.List.{List}
-use mathlib.Core.Bool.{Bool, true, false}
+use mathlib.Core.Bool.{Bool}
 use borrow.Author.Tests.{le-leb}
-use lib.Dec.{leb}
 use lib.ListN.{length, getD}
 use lib.Ieee.{Float, nan, binary64, add}
-use Rattle.geometry.specs.declared.Point.{Point}
 use Rattle.type1.specs.declared.St.{St}
 use Rattle.type1.specs.declared.Ran.{Ran}
 use Rattle.type1.specs.State.{State}
-use Rattle.type1.specs.Run.{Limits, within, Outcome, check, andThen, top, cleared, needs, stem, stems3, pointAt}
-use Rattle.type1.specs.Memory.{Mem, abs, Holds, Meets, withOps, withHints}
+use Rattle.type1.specs.Run.{Limits, Outcome, check, andThen, top, cleared, stem, stems3, pointAt}
+use Rattle.type1.specs.Memory.{Mem, abs, Holds, Meets}
 use Rattle.type1.proofs.Paths.{stop-then, go-then}
 use Rattle.type1.proofs.Stacks.{operand-count, top-is}
 
@@ -54,9 +51,3 @@ module _ (t : St) (m : Mem) (s : State) (H : Holds t m s) where
 
     pub all-three : (r₁ r₂ r : Ran) (n₁ n₂ n : Mem) → Meets r₁ n₁ (third lim h from 5 (cleared s)) → r₁ .flow ≡ 0 → ((v : State) → Holds (r₁ .st) n₁ v → Meets r₂ n₂ (third lim h from 3 v)) → r₂ .flow ≡ 0 → ((v : State) → Holds (r₂ .st) n₂ v → Meets r n (third lim h from 1 v)) → Meets r n (stems3 lim h from s)
     all-three r₁ r₂ r n₁ n₂ n a e b f c = subst (Meets r n) (sym three-are) (then-goes (third lim h from 5 (cleared s)) r₁ n₁ (λ (v : State). andThen (third lim h from 3 v) (third lim h from 1)) r n a e (λ v K. then-goes (third lim h from 3 v) r₂ n₂ (third lim h from 1) r n (b v K) f c))
-
--- of a state that equals another
-pub three-copied : (t u : St) (r : Ran) (o e e' : List Float) (a a' : List Bool) (h : Bool) (from : Float) → t ≡ u
-    → ((m : Mem) (s : State) (room words : ℕ) → Holds t (withOps o (withHints e a m)) s → Meets r (withOps o (withHints e' a' m)) (stems3 (within room words) h from s)) × (r .st .groups ≡ t .groups)
-    → ((m : Mem) (s : State) (room words : ℕ) → Holds u (withOps o (withHints e a m)) s → Meets r (withOps o (withHints e' a' m)) (stems3 (within room words) h from s)) × (r .st .groups ≡ u .groups)
-three-copied t u r o e e' a a' h from = subst (λ (v : St). ((m : Mem) (s : State) (room words : ℕ) → Holds v (withOps o (withHints e a m)) s → Meets r (withOps o (withHints e' a' m)) (stems3 (within room words) h from s)) × (r .st .groups ≡ v .groups))

@@ -3,6 +3,8 @@ pub mod State
 pub mod Number
 pub mod Run
 pub mod Memory
+pub mod Deltas
+pub mod DeltaLaws
 pub mod Reading
 pub mod Small
 pub mod Sound

@@ -162,3 +162,15 @@ pub record Path (t : St) (r : Ran) (room : ℕ) : Type 0 where
   pub quiet : t .changed ≡ false → r .st .groups ≡ t .groups
   pub settled : r .flow ≡ 0 → r .st .changed ≡ false
   pub space : (r .st .groups ≡ t .groups → ⊥) → t .stems + t .hints ≤ room
+
+-- a step of the run at a path command, as the code does it: the command store was c and is c', the stem store has so many records, and `same` was said of the stems in force
+abbrev pub Step : Bool → St → Ran → List ℕ → List ℕ → ℕ → (Limits → State → Outcome) → Type 0
+Step same t r c c' room D = (m : Mem) (s : State) → length (m .stems) ≡ room → Told same s → Holds t (withCmds c m) s → Meets r (after t r c' m) (D (within room (length c)) s)
+
+-- likewise of an operator, with the operands in o
+abbrev pub Takes : Bool → St → Ran → List Float → List ℕ → List ℕ → ℕ → (Limits → State → Outcome) → Type 0
+Takes same t r o c c' room D = (m : Mem) (s : State) → length (m .stems) ≡ room → Told same s → Holds t (withOps o (withCmds c m)) s → Meets r (withOps o (after t r c' m)) (D (within room (length c)) s)
+
+-- a hint operator, with the operands in o: the stems in force were in e and a, and are in e' and a'
+abbrev pub Hinted : St → Ran → List Float → List Float → List Bool → List Float → List Bool → (Limits → State → Outcome) → Type 0
+Hinted t r o e a e' a' D = (m : Mem) (s : State) (room words : ℕ) → Holds t (withOps o (withHints e a m)) s → Meets r (withOps o (withHints e' a' m)) (D (within room words) s)

@@ -19,11 +19,12 @@ ghost use Rattle.type1.specs.State as State;
 ghost use Rattle.outline.specs.Outline as Outline;
 ghost use Rattle.type1.specs.Operator as Op;
 ghost use Rattle.type1.specs.Run as Run;
+ghost use Rattle.hints.specs.Hints.{stemAt};
 ghost use Rattle.outline.specs.Outline.{pick, stemOf};
 ghost use Rattle.outline.specs.Store.{pointCommand};
 ghost use Rattle.type1.specs.Run.{readingOf, within, pointAt, isFinite, operate};
-ghost use Rattle.hints.specs.Hints.{stemAt};
-ghost use Rattle.type1.specs.Memory.{Mem, stemsAt, Bounds, Good, Holds, Meets, operatorOf, withOps, withPs, withCells, withCmds, withHints, withPath, after, Told, Plain, Path};
+ghost use Rattle.type1.specs.Memory.{Mem, stemsAt, Bounds, Good, Holds, Meets, operatorOf, withOps, withPs, withCells, withCmds, withHints, withPath, after, Told, Plain, Path, Step, Takes, Hinted};
+ghost use Rattle.type1.specs.Deltas.{axesOf, tangentsOf, noDelta, noDeltas, pointDelta, curveDeltas, byPoint, byCurve, stemFrom};
 ghost use Rattle.type1.specs.Reading.{cursorOf, withCount, placed, tokOf, Numbered, Operated, Stores, Adds, Draws, isQuick, Reads, Calls};
 ghost use Rattle.type1.specs.Small as Small;
 ghost use Rattle.type1.specs.Cycle.{memOf, Ready, opD, runD};
@@ -90,6 +91,57 @@ struct Ran {
     st: St,
     flow: u8,
 }
+
+// Operators, by T1's names: a byte, or 256 and the byte after a 12.
+const HSTEM: u16 = 1;
+
+const VSTEM: u16 = 3;
+
+const VMOVETO: u16 = 4;
+
+const RLINETO: u16 = 5;
+
+const HLINETO: u16 = 6;
+
+const VLINETO: u16 = 7;
+
+const RRCURVETO: u16 = 8;
+
+const CLOSEPATH: u16 = 9;
+
+const CALLSUBR: u16 = 10;
+
+const RETURN: u16 = 11;
+
+const HSBW: u16 = 13;
+
+const ENDCHAR: u16 = 14;
+
+const RMOVETO: u16 = 21;
+
+const HMOVETO: u16 = 22;
+
+const VHCURVETO: u16 = 30;
+
+const HVCURVETO: u16 = 31;
+
+const DOTSECTION: u16 = 256;
+
+const VSTEM3: u16 = 256 + 1;
+
+const HSTEM3: u16 = 256 + 2;
+
+const SEAC: u16 = 256 + 6;
+
+const SBW: u16 = 256 + 7;
+
+const DIV: u16 = 256 + 12;
+
+const CALLOTHERSUBR: u16 = 256 + 16;
+
+const POP: u16 = 256 + 17;
+
+const SETCURRENTPOINT: u16 = 256 + 33;
 
 // places in `cells`, after the eight points of a flex
 const BEARING_X: usize = 16;
@@ -260,6 +312,139 @@ fn operator_at(code: &[u8], i: usize, key: u16, encrypted: bool, v: u8, st: St) 
     found(st, i + 1, charstring::next_key(c, key), 0, 256 + wide(e))
 }
 
+// ---- the operands of moves, lines and curves
+
+// The delta of a move or a line, and whether there were operands enough.
+struct Delta {
+    dx: f64,
+    dy: f64,
+    enough: bool,
+}
+
+// The three deltas of a curve, likewise.
+struct Deltas {
+    dx1: f64,
+    dy1: f64,
+    dx2: f64,
+    dy2: f64,
+    dx3: f64,
+    dy3: f64,
+    enough: bool,
+}
+
+fn no_delta() -> Delta
+    ensures { λ r. ⌜ r ≡ noDelta ⌝ }
+{
+    Delta {
+        dx: 0.0,
+        dy: 0.0,
+        enough: false,
+    }
+}
+
+fn no_deltas() -> Deltas
+    ensures { λ r. ⌜ r ≡ noDeltas ⌝ }
+{
+    Deltas {
+        dx1: 0.0,
+        dy1: 0.0,
+        dx2: 0.0,
+        dy2: 0.0,
+        dx3: 0.0,
+        dy3: 0.0,
+        enough: false,
+    }
+}
+
+// Of a move or a line: dx dy, or dx, or dy.
+fn point_delta(op: u16, operands: &[f64]) -> Delta
+    ensures { λ r. ⌜ r ≡ pointDelta (axesOf op) (now (operands .entry)) ⌝ }
+{
+    let n = operands.len();
+    if n < 1 {
+        return no_delta();
+    }
+    let last = operands[n - 1];
+    match op {
+        HMOVETO | HLINETO => {
+            return Delta {
+                dx: last,
+                dy: 0.0,
+                enough: true,
+            };
+        }
+        VMOVETO | VLINETO => {
+            return Delta {
+                dx: 0.0,
+                dy: last,
+                enough: true,
+            };
+        }
+        _ => {
+            if n < 2 {
+                return no_delta();
+            }
+            return Delta {
+                dx: operands[n - 2],
+                dy: last,
+                enough: true,
+            };
+        }
+    }
+}
+
+// Of a curve: dx1 dy1 dx2 dy2 dx3 dy3, or dy1 dx2 dy2 dx3, or dx1 dx2 dy2 dy3.
+fn curve_deltas(op: u16, operands: &[f64]) -> Deltas
+    ensures { λ r. ⌜ r ≡ curveDeltas (tangentsOf op) (now (operands .entry)) ⌝ }
+{
+    let n = operands.len();
+    if n < 4 {
+        return no_deltas();
+    }
+    let a = operands[n - 4];
+    let b = operands[n - 3];
+    let c = operands[n - 2];
+    let d = operands[n - 1];
+    match op {
+        VHCURVETO => {
+            return Deltas {
+                dx1: 0.0,
+                dy1: a,
+                dx2: b,
+                dy2: c,
+                dx3: d,
+                dy3: 0.0,
+                enough: true,
+            };
+        }
+        HVCURVETO => {
+            return Deltas {
+                dx1: a,
+                dy1: 0.0,
+                dx2: b,
+                dy2: c,
+                dx3: 0.0,
+                dy3: d,
+                enough: true,
+            };
+        }
+        _ => {
+            if n < 6 {
+                return no_deltas();
+            }
+            return Deltas {
+                dx1: operands[n - 6],
+                dy1: operands[n - 5],
+                dx2: a,
+                dy2: b,
+                dx3: c,
+                dy3: d,
+                enough: true,
+            };
+        }
+    }
+}
+
 // ---- lines and curves of an open subpath, drawn as they are read
 
 // Whether an entry was listed, and the point after it.
@@ -388,75 +573,22 @@ fn draw(v: u8, n: usize, x: f64, y: f64, k: usize, ops: &[f64; 256], cmds: &mut 
     requires { ⌜ (n ≤ 256) × (14 * k ≤ length (now cmds)) ⌝ }
     ensures { λ r. ⌜ Draws v n x y k (now (ops .entry)) (now (cmds .entry)) r (now (cmds .exit)) ⌝ }
 {
-    match v {
-        5 => {
-            if n < 2 {
+    let op = wide(v);
+    let held = &ops[..];
+    match op {
+        RLINETO | HLINETO | VLINETO => {
+            let d = point_delta(op, &held[0..n]);
+            if !d.enough {
                 return not_drawn(x, y);
             }
-            return add_line(ops[n - 2], ops[n - 1], x, y, k, cmds);
+            return add_line(d.dx, d.dy, x, y, k, cmds);
         }
-        6 => {
-            if n < 1 {
+        RRCURVETO | VHCURVETO | HVCURVETO => {
+            let d = curve_deltas(op, &held[0..n]);
+            if !d.enough {
                 return not_drawn(x, y);
             }
-            return add_line(ops[n - 1], 0.0, x, y, k, cmds);
-        }
-        7 => {
-            if n < 1 {
-                return not_drawn(x, y);
-            }
-            return add_line(0.0, ops[n - 1], x, y, k, cmds);
-        }
-        8 => {
-            if n < 6 {
-                return not_drawn(x, y);
-            }
-            return add_curve(
-                ops[n - 6],
-                ops[n - 5],
-                ops[n - 4],
-                ops[n - 3],
-                ops[n - 2],
-                ops[n - 1],
-                x,
-                y,
-                k,
-                cmds,
-            );
-        }
-        30 => {
-            if n < 4 {
-                return not_drawn(x, y);
-            }
-            return add_curve(
-                0.0,
-                ops[n - 4],
-                ops[n - 3],
-                ops[n - 2],
-                ops[n - 1],
-                0.0,
-                x,
-                y,
-                k,
-                cmds,
-            );
-        }
-        31 => {
-            if n < 4 {
-                return not_drawn(x, y);
-            }
-            return add_curve(
-                ops[n - 4],
-                0.0,
-                ops[n - 3],
-                ops[n - 2],
-                0.0,
-                ops[n - 1],
-                x,
-                y,
-                k,
-                cmds,
-            );
+            return add_curve(d.dx1, d.dy1, d.dx2, d.dy2, d.dx3, d.dy3, x, y, k, cmds);
         }
         _ => {
             return not_drawn(x, y);
@@ -826,8 +958,7 @@ fn new_group(room: usize, st: St, cmds: &mut [u64]) -> Ran
 fn commit(same: bool, room: usize, st: St, cmds: &mut [u64]) -> Ran
     requires { ⌜ Bounds st (length (now cmds)) ⌝ }
     requires { ⌜ st .stems ≤ room ⌝ }
-    ensures { λ r. ⌜ ((m : Mem) (s : State.State) → length (m .stems) ≡ room → Told same s → Holds st (withCmds (now (cmds .entry)) m) s →
-        Meets r (after st r (now (cmds .exit)) m) (Run.commit (within room (length (now (cmds .entry)))) s)) ⌝ }
+    ensures { λ r. ⌜ Step same st r (now (cmds .entry)) (now (cmds .exit)) room Run.commit ⌝ }
     ensures { λ r. ⌜ Path st r room ⌝ }
     ensures { λ r. ⌜ Small.Grown st (r .st) (length (now (cmds .entry))) room ⌝ }
 {
@@ -850,8 +981,7 @@ fn list_point(kind: u64, x: f64, y: f64, same: bool, room: usize, st: St, cmds: 
     requires { ⌜ st .stems ≤ room ⌝ }
     requires { ⌜ (0 < kind) × (kind < 3) ⌝ }
     requires { ⌜ T (finite x) × T (finite y) ⌝ }
-    ensures { λ r. ⌜ ((m : Mem) (s : State.State) → length (m .stems) ≡ room → Told same s → Holds st (withCmds (now (cmds .entry)) m) s →
-        Meets r (after st r (now (cmds .exit)) m) (Run.list (within room (length (now (cmds .entry)))) (pointCommand kind (pointAt x y)) s)) ⌝ }
+    ensures { λ r. ⌜ Step same st r (now (cmds .entry)) (now (cmds .exit)) room (λ lim. Run.list lim (pointCommand kind (pointAt x y))) ⌝ }
     ensures { λ r. ⌜ Path st r room ⌝ }
     ensures { λ r. ⌜ Small.Grown st (r .st) (length (now (cmds .entry))) room ⌝ }
 {
@@ -892,12 +1022,11 @@ fn finite_point(x: f64, y: f64) -> bool
     }
 }
 
-// 21, 22, 4.
+// rmoveto, hmoveto, vmoveto.
 fn move_by(dx: f64, dy: f64, same: bool, room: usize, st: St, cmds: &mut [u64]) -> Ran
     requires { ⌜ Bounds st (length (now cmds)) ⌝ }
     requires { ⌜ st .stems ≤ room ⌝ }
-    ensures { λ r. ⌜ ((m : Mem) (s : State.State) → length (m .stems) ≡ room → Told same s → Holds st (withCmds (now (cmds .entry)) m) s →
-        Meets r (after st r (now (cmds .exit)) m) (Run.moveBy (within room (length (now (cmds .entry)))) dx dy s)) ⌝ }
+    ensures { λ r. ⌜ Step same st r (now (cmds .entry)) (now (cmds .exit)) room (λ lim. Run.moveBy lim dx dy) ⌝ }
     ensures { λ r. ⌜ Small.Space st (r .st) room ⌝ }
 {
     let x = st.x + dx;
@@ -916,20 +1045,19 @@ fn open_subpath(same: bool, room: usize, st: St, cmds: &mut [u64]) -> Ran
     requires { ⌜ Bounds st (length (now cmds)) ⌝ }
     requires { ⌜ st .stems ≤ room ⌝ }
     requires { ⌜ T (finite (st .x)) × T (finite (st .y)) ⌝ }
-    ensures { λ r. ⌜ ((m : Mem) (s : State.State) → length (m .stems) ≡ room → Told same s → Holds st (withCmds (now (cmds .entry)) m) s →
-        Meets r (after st r (now (cmds .exit)) m) (Run.andThen (Run.list (within room (length (now (cmds .entry)))) (Outline.move (pointAt (st .x) (st .y))) s) (λ t. Run.going (State.withOpen true t)))) ⌝ }
+    ensures { λ r. ⌜ Step same st r (now (cmds .entry)) (now (cmds .exit)) room
+        (λ lim s. Run.andThen (Run.list lim (Outline.move (pointAt (st .x) (st .y))) s) (λ t. Run.going (State.withOpen true t))) ⌝ }
     ensures { λ r. ⌜ Path st r room ⌝ }
     ensures { λ r. ⌜ Small.Grown st (r .st) (length (now (cmds .entry))) room ⌝ }
 {
     opened(list_point(MOVE, st.x, st.y, same, room, st, cmds))
 }
 
-// 5, 6, 7, with a subpath open.
+// rlineto, hlineto, vlineto, with a subpath open.
 fn line_to(dx: f64, dy: f64, same: bool, room: usize, st: St, cmds: &mut [u64]) -> Ran
     requires { ⌜ Bounds st (length (now cmds)) ⌝ }
     requires { ⌜ st .stems ≤ room ⌝ }
-    ensures { λ r. ⌜ ((m : Mem) (s : State.State) → length (m .stems) ≡ room → Told same s → Holds st (withCmds (now (cmds .entry)) m) s →
-        Meets r (after st r (now (cmds .exit)) m) (Run.lineTo (within room (length (now (cmds .entry)))) dx dy s)) ⌝ }
+    ensures { λ r. ⌜ Step same st r (now (cmds .entry)) (now (cmds .exit)) room (λ lim. Run.lineTo lim dx dy) ⌝ }
     ensures { λ r. ⌜ Path st r room ⌝ }
 {
     let x = st.x + dx;
@@ -944,8 +1072,7 @@ fn line_by(dx: f64, dy: f64, same: bool, room: usize, st: St, cmds: &mut [u64]) 
     requires { ⌜ Bounds st (length (now cmds)) ⌝ }
     requires { ⌜ st .stems ≤ room ⌝ }
     requires { ⌜ T (finite (st .x)) × T (finite (st .y)) ⌝ }
-    ensures { λ r. ⌜ ((m : Mem) (s : State.State) → length (m .stems) ≡ room → Told same s → Holds st (withCmds (now (cmds .entry)) m) s →
-        Meets r (after st r (now (cmds .exit)) m) (Run.lineBy (within room (length (now (cmds .entry)))) dx dy s)) ⌝ }
+    ensures { λ r. ⌜ Step same st r (now (cmds .entry)) (now (cmds .exit)) room (λ lim. Run.lineBy lim dx dy) ⌝ }
     ensures { λ r. ⌜ Small.Space st (r .st) room ⌝ }
 {
     if st.opened {
@@ -958,7 +1085,7 @@ fn line_by(dx: f64, dy: f64, same: bool, room: usize, st: St, cmds: &mut [u64]) 
     line_to(dx, dy, same, room, o.st, cmds)
 }
 
-// 8, 30, 31, with a subpath open.
+// rrcurveto, vhcurveto, hvcurveto, with a subpath open.
 fn curve_to(
     dx1: f64,
     dy1: f64,
@@ -973,8 +1100,7 @@ fn curve_to(
 ) -> Ran
     requires { ⌜ Bounds st (length (now cmds)) ⌝ }
     requires { ⌜ st .stems ≤ room ⌝ }
-    ensures { λ r. ⌜ ((m : Mem) (s : State.State) → length (m .stems) ≡ room → Told same s → Holds st (withCmds (now (cmds .entry)) m) s →
-        Meets r (after st r (now (cmds .exit)) m) (Run.curveTo (within room (length (now (cmds .entry)))) dx1 dy1 dx2 dy2 dx3 dy3 s)) ⌝ }
+    ensures { λ r. ⌜ Step same st r (now (cmds .entry)) (now (cmds .exit)) room (λ lim. Run.curveTo lim dx1 dy1 dx2 dy2 dx3 dy3) ⌝ }
     ensures { λ r. ⌜ Path st r room ⌝ }
 {
     let px = st.x + dx1;
@@ -1014,8 +1140,7 @@ fn curve_by(
     requires { ⌜ Bounds st (length (now cmds)) ⌝ }
     requires { ⌜ st .stems ≤ room ⌝ }
     requires { ⌜ T (finite (st .x)) × T (finite (st .y)) ⌝ }
-    ensures { λ r. ⌜ ((m : Mem) (s : State.State) → length (m .stems) ≡ room → Told same s → Holds st (withCmds (now (cmds .entry)) m) s →
-        Meets r (after st r (now (cmds .exit)) m) (Run.curveBy (within room (length (now (cmds .entry)))) dx1 dy1 dx2 dy2 dx3 dy3 s)) ⌝ }
+    ensures { λ r. ⌜ Step same st r (now (cmds .entry)) (now (cmds .exit)) room (λ lim. Run.curveBy lim dx1 dy1 dx2 dy2 dx3 dy3) ⌝ }
     ensures { λ r. ⌜ Small.Space st (r .st) room ⌝ }
 {
     if st.opened {
@@ -1028,13 +1153,12 @@ fn curve_by(
     curve_to(dx1, dy1, dx2, dy2, dx3, dy3, same, room, o.st, cmds)
 }
 
-// 12 33.
+// setcurrentpoint.
 fn set_point(x: f64, y: f64, same: bool, room: usize, st: St, cmds: &mut [u64]) -> Ran
     requires { ⌜ Bounds st (length (now cmds)) ⌝ }
     requires { ⌜ st .stems ≤ room ⌝ }
     requires { ⌜ T (finite x) × T (finite y) ⌝ }
-    ensures { λ r. ⌜ ((m : Mem) (s : State.State) → length (m .stems) ≡ room → Told same s → Holds st (withCmds (now (cmds .entry)) m) s →
-        Meets r (after st r (now (cmds .exit)) m) (Run.setPoint (within room (length (now (cmds .entry)))) (pointAt x y) s)) ⌝ }
+    ensures { λ r. ⌜ Step same st r (now (cmds .entry)) (now (cmds .exit)) room (λ lim. Run.setPoint lim (pointAt x y)) ⌝ }
     ensures { λ r. ⌜ Small.Space st (r .st) room ⌝ }
 {
     if x == st.x {
@@ -1051,176 +1175,81 @@ fn set_point(x: f64, y: f64, same: bool, room: usize, st: St, cmds: &mut [u64]) 
 
 // ---- path operators
 
-// 4
-fn vmoveto(same: bool, room: usize, st: St, ops: &[f64; 256], cmds: &mut [u64]) -> Ran
+// rmoveto, hmoveto, vmoveto
+fn move_operator(
+    op: u16,
+    same: bool,
+    room: usize,
+    st: St,
+    ops: &[f64; 256],
+    cmds: &mut [u64],
+) -> Ran
     requires { ⌜ Bounds st (length (now cmds)) ⌝ }
     requires { ⌜ st .stems ≤ room ⌝ }
-    requires { ⌜ T (finite (st .x)) × T (finite (st .y)) ⌝ }
-    ensures { λ r. ⌜ ((m : Mem) (s : State.State) (c : Run.Outcome) → length (m .stems) ≡ room → Told same s → Holds st (withOps (now (ops .entry)) (withCmds (now (cmds .entry)) m)) s →
-        Meets r (withOps (now (ops .entry)) (after st r (now (cmds .exit)) m)) (operate (within room (length (now (cmds .entry)))) c Op.vmoveto s)) ⌝ }
+    ensures { λ r. ⌜ Takes same st r (now (ops .entry)) (now (cmds .entry)) (now (cmds .exit)) room (byPoint Run.moveBy (axesOf op)) ⌝ }
     ensures { λ r. ⌜ Small.Space st (r .st) room ⌝ }
 {
+    let held = &ops[..];
     let n = st.operands;
-    if n < 1 {
+    let d = point_delta(op, &held[0..n]);
+    if !d.enough {
         return made(st, 7);
     }
-    move_by(0.0, ops[n - 1], same, room, cleared(st), cmds)
+    move_by(d.dx, d.dy, same, room, cleared(st), cmds)
 }
 
-// 21
-fn rmoveto(same: bool, room: usize, st: St, ops: &[f64; 256], cmds: &mut [u64]) -> Ran
+// rlineto, hlineto, vlineto
+fn line_operator(
+    op: u16,
+    same: bool,
+    room: usize,
+    st: St,
+    ops: &[f64; 256],
+    cmds: &mut [u64],
+) -> Ran
     requires { ⌜ Bounds st (length (now cmds)) ⌝ }
     requires { ⌜ st .stems ≤ room ⌝ }
     requires { ⌜ T (finite (st .x)) × T (finite (st .y)) ⌝ }
-    ensures { λ r. ⌜ ((m : Mem) (s : State.State) (c : Run.Outcome) → length (m .stems) ≡ room → Told same s → Holds st (withOps (now (ops .entry)) (withCmds (now (cmds .entry)) m)) s →
-        Meets r (withOps (now (ops .entry)) (after st r (now (cmds .exit)) m)) (operate (within room (length (now (cmds .entry)))) c Op.rmoveto s)) ⌝ }
+    ensures { λ r. ⌜ Takes same st r (now (ops .entry)) (now (cmds .entry)) (now (cmds .exit)) room (byPoint Run.lineBy (axesOf op)) ⌝ }
     ensures { λ r. ⌜ Small.Space st (r .st) room ⌝ }
 {
+    let held = &ops[..];
     let n = st.operands;
-    if n < 2 {
+    let d = point_delta(op, &held[0..n]);
+    if !d.enough {
         return made(st, 7);
     }
-    move_by(ops[n - 2], ops[n - 1], same, room, cleared(st), cmds)
+    line_by(d.dx, d.dy, same, room, cleared(st), cmds)
 }
 
-// 22
-fn hmoveto(same: bool, room: usize, st: St, ops: &[f64; 256], cmds: &mut [u64]) -> Ran
+// rrcurveto, vhcurveto, hvcurveto
+fn curve_operator(
+    op: u16,
+    same: bool,
+    room: usize,
+    st: St,
+    ops: &[f64; 256],
+    cmds: &mut [u64],
+) -> Ran
     requires { ⌜ Bounds st (length (now cmds)) ⌝ }
     requires { ⌜ st .stems ≤ room ⌝ }
     requires { ⌜ T (finite (st .x)) × T (finite (st .y)) ⌝ }
-    ensures { λ r. ⌜ ((m : Mem) (s : State.State) (c : Run.Outcome) → length (m .stems) ≡ room → Told same s → Holds st (withOps (now (ops .entry)) (withCmds (now (cmds .entry)) m)) s →
-        Meets r (withOps (now (ops .entry)) (after st r (now (cmds .exit)) m)) (operate (within room (length (now (cmds .entry)))) c Op.hmoveto s)) ⌝ }
+    ensures { λ r. ⌜ Takes same st r (now (ops .entry)) (now (cmds .entry)) (now (cmds .exit)) room (byCurve (tangentsOf op)) ⌝ }
     ensures { λ r. ⌜ Small.Space st (r .st) room ⌝ }
 {
+    let held = &ops[..];
     let n = st.operands;
-    if n < 1 {
-        return made(st, 7);
-    }
-    move_by(ops[n - 1], 0.0, same, room, cleared(st), cmds)
-}
-
-// 5
-fn rlineto(same: bool, room: usize, st: St, ops: &[f64; 256], cmds: &mut [u64]) -> Ran
-    requires { ⌜ Bounds st (length (now cmds)) ⌝ }
-    requires { ⌜ st .stems ≤ room ⌝ }
-    requires { ⌜ T (finite (st .x)) × T (finite (st .y)) ⌝ }
-    ensures { λ r. ⌜ ((m : Mem) (s : State.State) (c : Run.Outcome) → length (m .stems) ≡ room → Told same s → Holds st (withOps (now (ops .entry)) (withCmds (now (cmds .entry)) m)) s →
-        Meets r (withOps (now (ops .entry)) (after st r (now (cmds .exit)) m)) (operate (within room (length (now (cmds .entry)))) c Op.rlineto s)) ⌝ }
-    ensures { λ r. ⌜ Small.Space st (r .st) room ⌝ }
-{
-    let n = st.operands;
-    if n < 2 {
-        return made(st, 7);
-    }
-    line_by(ops[n - 2], ops[n - 1], same, room, cleared(st), cmds)
-}
-
-// 6
-fn hlineto(same: bool, room: usize, st: St, ops: &[f64; 256], cmds: &mut [u64]) -> Ran
-    requires { ⌜ Bounds st (length (now cmds)) ⌝ }
-    requires { ⌜ st .stems ≤ room ⌝ }
-    requires { ⌜ T (finite (st .x)) × T (finite (st .y)) ⌝ }
-    ensures { λ r. ⌜ ((m : Mem) (s : State.State) (c : Run.Outcome) → length (m .stems) ≡ room → Told same s → Holds st (withOps (now (ops .entry)) (withCmds (now (cmds .entry)) m)) s →
-        Meets r (withOps (now (ops .entry)) (after st r (now (cmds .exit)) m)) (operate (within room (length (now (cmds .entry)))) c Op.hlineto s)) ⌝ }
-    ensures { λ r. ⌜ Small.Space st (r .st) room ⌝ }
-{
-    let n = st.operands;
-    if n < 1 {
-        return made(st, 7);
-    }
-    line_by(ops[n - 1], 0.0, same, room, cleared(st), cmds)
-}
-
-// 7
-fn vlineto(same: bool, room: usize, st: St, ops: &[f64; 256], cmds: &mut [u64]) -> Ran
-    requires { ⌜ Bounds st (length (now cmds)) ⌝ }
-    requires { ⌜ st .stems ≤ room ⌝ }
-    requires { ⌜ T (finite (st .x)) × T (finite (st .y)) ⌝ }
-    ensures { λ r. ⌜ ((m : Mem) (s : State.State) (c : Run.Outcome) → length (m .stems) ≡ room → Told same s → Holds st (withOps (now (ops .entry)) (withCmds (now (cmds .entry)) m)) s →
-        Meets r (withOps (now (ops .entry)) (after st r (now (cmds .exit)) m)) (operate (within room (length (now (cmds .entry)))) c Op.vlineto s)) ⌝ }
-    ensures { λ r. ⌜ Small.Space st (r .st) room ⌝ }
-{
-    let n = st.operands;
-    if n < 1 {
-        return made(st, 7);
-    }
-    line_by(0.0, ops[n - 1], same, room, cleared(st), cmds)
-}
-
-// 8
-fn rrcurveto(same: bool, room: usize, st: St, ops: &[f64; 256], cmds: &mut [u64]) -> Ran
-    requires { ⌜ Bounds st (length (now cmds)) ⌝ }
-    requires { ⌜ st .stems ≤ room ⌝ }
-    requires { ⌜ T (finite (st .x)) × T (finite (st .y)) ⌝ }
-    ensures { λ r. ⌜ ((m : Mem) (s : State.State) (c : Run.Outcome) → length (m .stems) ≡ room → Told same s → Holds st (withOps (now (ops .entry)) (withCmds (now (cmds .entry)) m)) s →
-        Meets r (withOps (now (ops .entry)) (after st r (now (cmds .exit)) m)) (operate (within room (length (now (cmds .entry)))) c Op.rrcurveto s)) ⌝ }
-    ensures { λ r. ⌜ Small.Space st (r .st) room ⌝ }
-{
-    let n = st.operands;
-    if n < 6 {
+    let d = curve_deltas(op, &held[0..n]);
+    if !d.enough {
         return made(st, 7);
     }
     curve_by(
-        ops[n - 6],
-        ops[n - 5],
-        ops[n - 4],
-        ops[n - 3],
-        ops[n - 2],
-        ops[n - 1],
-        same,
-        room,
-        cleared(st),
-        cmds,
-    )
-}
-
-// 30
-fn vhcurveto(same: bool, room: usize, st: St, ops: &[f64; 256], cmds: &mut [u64]) -> Ran
-    requires { ⌜ Bounds st (length (now cmds)) ⌝ }
-    requires { ⌜ st .stems ≤ room ⌝ }
-    requires { ⌜ T (finite (st .x)) × T (finite (st .y)) ⌝ }
-    ensures { λ r. ⌜ ((m : Mem) (s : State.State) (c : Run.Outcome) → length (m .stems) ≡ room → Told same s → Holds st (withOps (now (ops .entry)) (withCmds (now (cmds .entry)) m)) s →
-        Meets r (withOps (now (ops .entry)) (after st r (now (cmds .exit)) m)) (operate (within room (length (now (cmds .entry)))) c Op.vhcurveto s)) ⌝ }
-    ensures { λ r. ⌜ Small.Space st (r .st) room ⌝ }
-{
-    let n = st.operands;
-    if n < 4 {
-        return made(st, 7);
-    }
-    curve_by(
-        0.0,
-        ops[n - 4],
-        ops[n - 3],
-        ops[n - 2],
-        ops[n - 1],
-        0.0,
-        same,
-        room,
-        cleared(st),
-        cmds,
-    )
-}
-
-// 31
-fn hvcurveto(same: bool, room: usize, st: St, ops: &[f64; 256], cmds: &mut [u64]) -> Ran
-    requires { ⌜ Bounds st (length (now cmds)) ⌝ }
-    requires { ⌜ st .stems ≤ room ⌝ }
-    requires { ⌜ T (finite (st .x)) × T (finite (st .y)) ⌝ }
-    ensures { λ r. ⌜ ((m : Mem) (s : State.State) (c : Run.Outcome) → length (m .stems) ≡ room → Told same s → Holds st (withOps (now (ops .entry)) (withCmds (now (cmds .entry)) m)) s →
-        Meets r (withOps (now (ops .entry)) (after st r (now (cmds .exit)) m)) (operate (within room (length (now (cmds .entry)))) c Op.hvcurveto s)) ⌝ }
-    ensures { λ r. ⌜ Small.Space st (r .st) room ⌝ }
-{
-    let n = st.operands;
-    if n < 4 {
-        return made(st, 7);
-    }
-    curve_by(
-        ops[n - 4],
-        0.0,
-        ops[n - 3],
-        ops[n - 2],
-        0.0,
-        ops[n - 1],
+        d.dx1,
+        d.dy1,
+        d.dx2,
+        d.dy2,
+        d.dx3,
+        d.dy3,
         same,
         room,
         cleared(st),
@@ -1234,8 +1263,7 @@ fn setcurrentpoint(same: bool, room: usize, st: St, ops: &[f64; 256], cmds: &mut
     requires { ⌜ st .stems ≤ room ⌝ }
     requires { ⌜ T (finite (st .x)) × T (finite (st .y)) ⌝ }
     requires { ⌜ ((i : ℕ) → i < st .operands → T (finite (getD (now ops) i nan))) ⌝ }
-    ensures { λ r. ⌜ ((m : Mem) (s : State.State) (c : Run.Outcome) → length (m .stems) ≡ room → Told same s → Holds st (withOps (now (ops .entry)) (withCmds (now (cmds .entry)) m)) s →
-        Meets r (withOps (now (ops .entry)) (after st r (now (cmds .exit)) m)) (operate (within room (length (now (cmds .entry)))) c Op.setcurrentpoint s)) ⌝ }
+    ensures { λ r. ⌜ Takes same st r (now (ops .entry)) (now (cmds .entry)) (now (cmds .exit)) room (λ lim. operate lim (Run.refused 6) Op.setcurrentpoint) ⌝ }
     ensures { λ r. ⌜ Small.Space st (r .st) room ⌝ }
 {
     let n = st.operands;
@@ -1247,17 +1275,17 @@ fn setcurrentpoint(same: bool, room: usize, st: St, ops: &[f64; 256], cmds: &mut
 
 // ---- hint operators
 
-// 1
-fn hstem(
+// hstem and vstem: a stem, counted from a side bearing.
+fn one_stem(
+    horizontal: bool,
+    from: f64,
     st: St,
     ops: &[f64; 256],
-    cells: &[f64; 19],
     edges: &mut [f64; 512],
     across: &mut [bool; 256],
 ) -> Ran
     requires { ⌜ (st .operands ≤ 256) × (st .hints ≤ 256) ⌝ }
-    ensures { λ r. ⌜ ((m : Mem) (s : State.State) (c : Run.Outcome) (room words : ℕ) → Holds st (withOps (now (ops .entry)) (withCells (now (cells .entry)) (withHints (now (edges .entry)) (now (across .entry)) m))) s →
-        Meets r (withOps (now (ops .entry)) (withCells (now (cells .entry)) (withHints (now (edges .exit)) (now (across .exit)) m))) (operate (within room words) c Op.hstem s)) ⌝ }
+    ensures { λ r. ⌜ Hinted st r (now (ops .entry)) (now (edges .entry)) (now (across .entry)) (now (edges .exit)) (now (across .exit)) (stemFrom horizontal from) ⌝ }
     ensures { λ r. ⌜ r .st .groups ≡ st .groups ⌝ }
 {
     let n = st.operands;
@@ -1265,35 +1293,8 @@ fn hstem(
         return made(st, 7);
     }
     add_stem(
-        true,
-        cells[BEARING_Y] + ops[n - 2],
-        ops[n - 1],
-        cleared(st),
-        edges,
-        across,
-    )
-}
-
-// 3
-fn vstem(
-    st: St,
-    ops: &[f64; 256],
-    cells: &[f64; 19],
-    edges: &mut [f64; 512],
-    across: &mut [bool; 256],
-) -> Ran
-    requires { ⌜ (st .operands ≤ 256) × (st .hints ≤ 256) ⌝ }
-    ensures { λ r. ⌜ ((m : Mem) (s : State.State) (c : Run.Outcome) (room words : ℕ) → Holds st (withOps (now (ops .entry)) (withCells (now (cells .entry)) (withHints (now (edges .entry)) (now (across .entry)) m))) s →
-        Meets r (withOps (now (ops .entry)) (withCells (now (cells .entry)) (withHints (now (edges .exit)) (now (across .exit)) m))) (operate (within room words) c Op.vstem s)) ⌝ }
-    ensures { λ r. ⌜ r .st .groups ≡ st .groups ⌝ }
-{
-    let n = st.operands;
-    if n < 2 {
-        return made(st, 7);
-    }
-    add_stem(
-        false,
-        cells[BEARING_X] + ops[n - 2],
+        horizontal,
+        from + ops[n - 2],
         ops[n - 1],
         cleared(st),
         edges,
@@ -1311,8 +1312,7 @@ fn stems3(
     across: &mut [bool; 256],
 ) -> Ran
     requires { ⌜ (st .operands ≤ 256) × (st .hints ≤ 256) ⌝ }
-    ensures { λ r. ⌜ ((m : Mem) (s : State.State) (room words : ℕ) → Holds st (withOps (now (ops .entry)) (withHints (now (edges .entry)) (now (across .entry)) m)) s →
-        Meets r (withOps (now (ops .entry)) (withHints (now (edges .exit)) (now (across .exit)) m)) (Run.stems3 (within room words) horizontal from s)) ⌝ }
+    ensures { λ r. ⌜ Hinted st r (now (ops .entry)) (now (edges .entry)) (now (across .entry)) (now (edges .exit)) (now (across .exit)) (λ lim. Run.stems3 lim horizontal from) ⌝ }
     ensures { λ r. ⌜ r .st .groups ≡ st .groups ⌝ }
 {
     let n = st.operands;
@@ -1448,8 +1448,10 @@ fn callothersubr(
     requires { ⌜ Bounds st (length (now cmds)) ⌝ }
     requires { ⌜ st .stems ≤ room ⌝ }
     requires { ⌜ Small.Finite st (now ops) (now cells) ⌝ }
-    ensures { λ r. ⌜ ((m : Mem) (s : State.State) → length (m .stems) ≡ room → Told same s → Holds st (withOps (now (ops .entry)) (withPs (now (ps .entry)) (withCells (now (cells .entry)) (withCmds (now (cmds .entry)) m)))) s →
-        Meets r (withOps (now (ops .entry)) (withPs (now (ps .exit)) (withCells (now (cells .exit)) (after st r (now (cmds .exit)) m)))) (Run.callOtherSubr (within room (length (now (cmds .entry)))) s)) ⌝ }
+    ensures { λ r. ⌜ ((m : Mem) (s : State.State) → length (m .stems) ≡ room → Told same s →
+        Holds st (withOps (now (ops .entry)) (withPs (now (ps .entry)) (withCells (now (cells .entry)) (withCmds (now (cmds .entry)) m)))) s →
+        Meets r (withOps (now (ops .entry)) (withPs (now (ps .exit)) (withCells (now (cells .exit)) (after st r (now (cmds .exit)) m))))
+        (Run.callOtherSubr (within room (length (now (cmds .entry)))) s)) ⌝ }
     ensures { λ r. ⌜ Small.Space st (r .st) room ⌝ }
 {
     let n = st.operands;
@@ -1602,81 +1604,66 @@ fn plain(
     requires { ⌜ Bounds st (length (now cmds)) ⌝ }
     requires { ⌜ st .stems ≤ room ⌝ }
     requires { ⌜ Small.Finite st (now ops) (now cells) ⌝ }
-    ensures { λ r. ⌜ ((m : Mem) (s : State.State) → length (m .stems) ≡ room → Told same s → Holds st (withOps (now (ops .entry)) (withPs (now (ps .entry)) (withCells (now (cells .entry)) (withPath (now (edges .entry)) (now (across .entry)) (now (cmds .entry)) m)))) s →
-        Meets r (withOps (now (ops .exit)) (withPs (now (ps .exit)) (withCells (now (cells .exit)) (after st r (now (cmds .exit)) (withHints (now (edges .exit)) (now (across .exit)) m))))) (operate (within room (length (now (cmds .entry)))) (Run.refused 6) (operatorOf op) s)) ⌝ }
+    ensures { λ r. ⌜ ((m : Mem) (s : State.State) → length (m .stems) ≡ room → Told same s →
+        Holds st (withOps (now (ops .entry)) (withPs (now (ps .entry)) (withCells (now (cells .entry)) (withPath (now (edges .entry)) (now (across .entry)) (now (cmds .entry)) m)))) s →
+        Meets r (withOps (now (ops .exit)) (withPs (now (ps .exit)) (withCells (now (cells .exit)) (after st r (now (cmds .exit)) (withHints (now (edges .exit)) (now (across .exit)) m)))))
+        (operate (within room (length (now (cmds .entry)))) (Run.refused 6) (operatorOf op) s)) ⌝ }
     ensures { λ r. ⌜ Small.Space st (r .st) room ⌝ }
 {
     match op {
-        1 => {
-            return hstem(st, ops, cells, edges, across);
+        HSTEM => {
+            return one_stem(true, cells[BEARING_Y], st, ops, edges, across);
         }
-        3 => {
-            return vstem(st, ops, cells, edges, across);
+        VSTEM => {
+            return one_stem(false, cells[BEARING_X], st, ops, edges, across);
         }
-        4 => {
-            return kept(vmoveto(same, room, st, ops, cmds));
+        RMOVETO | HMOVETO | VMOVETO => {
+            return kept(move_operator(op, same, room, st, ops, cmds));
         }
-        5 => {
-            return kept(rlineto(same, room, st, ops, cmds));
+        RLINETO | HLINETO | VLINETO => {
+            return kept(line_operator(op, same, room, st, ops, cmds));
         }
-        6 => {
-            return kept(hlineto(same, room, st, ops, cmds));
+        RRCURVETO | VHCURVETO | HVCURVETO => {
+            return kept(curve_operator(op, same, room, st, ops, cmds));
         }
-        7 => {
-            return kept(vlineto(same, room, st, ops, cmds));
-        }
-        8 => {
-            return kept(rrcurveto(same, room, st, ops, cmds));
-        }
-        9 => {
+        // `token` does it as it reads, so `op` is never given it
+        CLOSEPATH => {
             return closepath(st);
         }
-        11 => {
+        RETURN => {
             return made(st, 1);
         }
-        13 => {
+        HSBW => {
             return hsbw(st, ops, cells);
         }
-        14 => {
+        ENDCHAR => {
             return made(cleared(st), 2);
         }
-        21 => {
-            return kept(rmoveto(same, room, st, ops, cmds));
-        }
-        22 => {
-            return kept(hmoveto(same, room, st, ops, cmds));
-        }
-        30 => {
-            return kept(vhcurveto(same, room, st, ops, cmds));
-        }
-        31 => {
-            return kept(hvcurveto(same, room, st, ops, cmds));
-        }
-        256 => {
+        DOTSECTION => {
             return made(cleared(st), 0);
         }
-        257 => {
+        VSTEM3 => {
             return kept(stems3(false, cells[BEARING_X], copied(st), ops, edges, across));
         }
-        258 => {
+        HSTEM3 => {
             return kept(stems3(true, cells[BEARING_Y], copied(st), ops, edges, across));
         }
-        262 => {
+        SEAC => {
             return made(st, 12);
         }
-        263 => {
+        SBW => {
             return sbw(st, ops, cells);
         }
-        268 => {
+        DIV => {
             return div(st, ops);
         }
-        272 => {
+        CALLOTHERSUBR => {
             return kept(callothersubr(same, room, st, ops, ps, cells, cmds));
         }
-        273 => {
+        POP => {
             return pop(st, ops, ps);
         }
-        289 => {
+        SETCURRENTPOINT => {
             return kept(setcurrentpoint(same, room, st, ops, cmds));
         }
         _ => {
@@ -1813,7 +1800,9 @@ fn last_from(st: St) -> usize
 // Whether the stems in force changed and are the last group's, in the same order. With no group they are not.
 fn is_last(st: St, edges: &[f64; 512], across: &[bool; 256], stems: &mut [Stem]) -> bool
     requires { ⌜ (st .hints ≤ 256) × ((st .last ≤ st .stems) × (st .stems ≤ length (now stems))) ⌝ }
-    ensures { λ r. ⌜ (r ≡ (st .changed && (ltb 0 (st .groups) && Outline.sameStems (take (st .last) (drop (st .stems - st .last) (now (stems .entry)))) (stemsAt 0 (st .hints) (now (edges .entry)) (now (across .entry)))))) × (now (stems .exit) ≡ now (stems .entry)) ⌝ }
+    ensures { λ r. ⌜ (r ≡ (st .changed && (ltb 0 (st .groups) &&
+        Outline.sameStems (take (st .last) (drop (st .stems - st .last) (now (stems .entry)))) (stemsAt 0 (st .hints) (now (edges .entry)) (now (across .entry))))))
+        × (now (stems .exit) ≡ now (stems .entry)) ⌝ }
 {
     if hints::may_be_last(st.changed, st.groups, st.last, st.hints) {
         return all_same(last_from(st), st.hints, edges, across, stems);
@@ -1880,7 +1869,8 @@ fn call_body(
 ) -> Ran
     requires { ⌜ (levels < 100) × (Valid (now bank) × Ready st (memOf (now ops) (now ps) (now cells) (now edges) (now across) (now cmds) (now stems))) ⌝ }
     ensures { λ r. ⌜ Meets r (memOf (now (ops .exit)) (now (ps .exit)) (now (cells .exit)) (now (edges .exit)) (now (across .exit)) (now (cmds .exit)) (now (stems .exit)))
-        (opD (now (bank .entry)) reading levels 10 st (memOf (now (ops .entry)) (now (ps .entry)) (now (cells .entry)) (now (edges .entry)) (now (across .entry)) (now (cmds .entry)) (now (stems .entry)))) ⌝ }
+        (opD (now (bank .entry)) reading levels 10 st
+        (memOf (now (ops .entry)) (now (ps .entry)) (now (cells .entry)) (now (edges .entry)) (now (across .entry)) (now (cmds .entry)) (now (stems .entry)))) ⌝ }
 {
     let c = callsubr(bank, st, ops);
     let f = c.flow;
@@ -1923,9 +1913,10 @@ fn op(
 ) -> Ran
     requires { ⌜ (levels < 100) × (Valid (now bank) × Ready st (memOf (now ops) (now ps) (now cells) (now edges) (now across) (now cmds) (now stems))) ⌝ }
     ensures { λ r. ⌜ Meets r (memOf (now (ops .exit)) (now (ps .exit)) (now (cells .exit)) (now (edges .exit)) (now (across .exit)) (now (cmds .exit)) (now (stems .exit)))
-        (opD (now (bank .entry)) reading levels op st (memOf (now (ops .entry)) (now (ps .entry)) (now (cells .entry)) (now (edges .entry)) (now (across .entry)) (now (cmds .entry)) (now (stems .entry)))) ⌝ }
+        (opD (now (bank .entry)) reading levels op st
+        (memOf (now (ops .entry)) (now (ps .entry)) (now (cells .entry)) (now (edges .entry)) (now (across .entry)) (now (cmds .entry)) (now (stems .entry)))) ⌝ }
 {
-    if op == 10 {
+    if op == CALLSUBR {
         return call_body(
             bank,
             reading,
@@ -1970,7 +1961,8 @@ fn run(
 ) -> Ran
     requires { ⌜ (levels < 100) × (Valid (now bank) × Ready st (memOf (now ops) (now ps) (now cells) (now edges) (now across) (now cmds) (now stems))) ⌝ }
     ensures { λ r. ⌜ Meets r (memOf (now (ops .exit)) (now (ps .exit)) (now (cells .exit)) (now (edges .exit)) (now (across .exit)) (now (cmds .exit)) (now (stems .exit)))
-        (runD (now (bank .entry)) reading levels (now (code .entry)) st (memOf (now (ops .entry)) (now (ps .entry)) (now (cells .entry)) (now (edges .entry)) (now (across .entry)) (now (cmds .entry)) (now (stems .entry)))) ⌝ }
+        (runD (now (bank .entry)) reading levels (now (code .entry)) st
+        (memOf (now (ops .entry)) (now (ps .entry)) (now (cells .entry)) (now (edges .entry)) (now (across .entry)) (now (cmds .entry)) (now (stems .entry)))) ⌝ }
 {
     let b = begin(code, reading);
     let e = b.encrypted;
@@ -2109,7 +2101,8 @@ fn interpret(
     stems: &mut [Stem],
 ) -> Interpreted
     requires { ⌜ Cleared (now ops) (now ps) (now cells) (now edges) (now across) ⌝ }
-    ensures { λ r. ⌜ Leaves r (now (commands .exit)) (now (stems .exit)) (now (commands .entry)) (now (stems .entry)) (outcome (sourceOf (now (charstring .entry)) (now (bank .entry))) reading (length (now (stems .entry))) (length (now (commands .entry)))) ⌝ }
+    ensures { λ r. ⌜ Leaves r (now (commands .exit)) (now (stems .exit)) (now (commands .entry)) (now (stems .entry))
+        (outcome (sourceOf (now (charstring .entry)) (now (bank .entry))) reading (length (now (stems .entry))) (length (now (commands .entry)))) ⌝ }
 {
     let b = start_run(charstring, bank);
     let f = b.flow;
@@ -2149,7 +2142,8 @@ pub fn run_charstring(
     commands: &mut [u64],
     stems: &mut [Stem],
 ) -> Interpreted
-    ensures { λ r. ⌜ Leaves r (now (commands .exit)) (now (stems .exit)) (now (commands .entry)) (now (stems .entry)) (outcome (sourceOf (now (charstring .entry)) (now (bank .entry))) reading (length (now (stems .entry))) (length (now (commands .entry)))) ⌝ }
+    ensures { λ r. ⌜ Leaves r (now (commands .exit)) (now (stems .exit)) (now (commands .entry)) (now (stems .entry))
+        (outcome (sourceOf (now (charstring .entry)) (now (bank .entry))) reading (length (now (stems .entry))) (length (now (commands .entry)))) ⌝ }
 {
     let mut ops = [0.0; 256];
     let mut ps = [0.0; 256];

@@ -7,39 +7,21 @@ use Rattle.type1.proofs.add_curve.Statement.{statement}
 use Rattle.type1.proofs.add_curve.Tie as tie
 
 -- src/lib.rt:390:9
-finite-point-requires : tie.Need-finite-point-requires
-finite-point-requires c κs = search needs
-
 -- src/lib.rt:391:9
-not-drawn-requires : tie.Need-not-drawn-requires
-not-drawn-requires c κs = search needs
-
 -- src/lib.rt:391:9
 returns : tie.Need-returns
 returns c =
     adds-none _ _ _ _ _ _ _ (c .not-drawn .ensures) refl
 
 -- src/lib.rt:393:9
-finite-point-requires-2 : tie.Need-finite-point-requires-2
-finite-point-requires-2 c κs = search needs
-
 -- src/lib.rt:394:9
-not-drawn-requires-2 : tie.Need-not-drawn-requires-2
-not-drawn-requires-2 c κs = search needs
-
 -- src/lib.rt:394:9
 returns-2 : tie.Need-returns-2
 returns-2 c =
     adds-none _ _ _ _ _ _ _ (c .not-drawn2 .ensures) refl
 
 -- src/lib.rt:396:9
-finite-point-requires-3 : tie.Need-finite-point-requires-3
-finite-point-requires-3 c κs = search needs
-
 -- src/lib.rt:397:9
-not-drawn-requires-3 : tie.Need-not-drawn-requires-3
-not-drawn-requires-3 c κs = search needs
-
 -- src/lib.rt:397:9
 returns-3 : tie.Need-returns-3
 returns-3 c =
@@ -51,22 +33,13 @@ store-curve-requires c κs =
     (c .before .before .before .before .before .before .before .before .pre, (true-of _ _ (c .before .before .before .before .before .before .finite-point .ensures) (not-false _ (c .before .before .before .before .before .if1 .left)), (true-of _ _ (c .before .before .before .before .finite-point2 .ensures) (not-false _ (c .before .before .before .if2 .left)), true-of _ _ (c .before .before .finite-point3 .ensures) (not-false _ (c .before .if3 .left)))))
 
 -- src/lib.rt:400:9
-same-length : tie.Need-same-length
-same-length c = search needs
-
 -- src/lib.rt:400:9
 returns-4 : tie.Need-returns-4
 returns-4 c =
     curve-added _ _ _ _ _ _ _ _ _ _ _ _ _ _ _ _ _ _ (refl, (refl, (refl, (refl, (refl, refl))))) (three-all _ _ _ (sym (c .before .before .before .before .before .before .before .before .before .before .finite-point .ensures) ∙ not-false _ (c .before .before .before .before .before .before .before .before .before .if1 .left)) (sym (c .before .before .before .before .before .before .before .before .finite-point2 .ensures) ∙ not-false _ (c .before .before .before .before .before .before .before .if2 .left)) (sym (c .before .before .before .before .before .before .finite-point3 .ensures) ∙ not-false _ (c .before .before .before .before .before .if3 .left))) (c .before .before .before .store-curve .ensures) (c .if4 .taken)
 
 -- src/lib.rt:406:5
-not-drawn-requires-4 : tie.Need-not-drawn-requires-4
-not-drawn-requires-4 c κs = search needs
-
 -- src/lib.rt:369:1
-same-length-2 : tie.Need-same-length-2
-same-length-2 c = search needs
-
 -- src/lib.rt:369:1
 returns-5 : tie.Need-returns-5
 returns-5 c =
@@ -75,19 +48,5 @@ returns-5 c =
 pub add-curve-spec : {M : Type 1} → statement M
 add-curve-spec =
     tie.close
-    (tie.spec
-    finite-point-requires
-    not-drawn-requires
-    returns
-    finite-point-requires-2
-    not-drawn-requires-2
-    returns-2
-    finite-point-requires-3
-    not-drawn-requires-3
-    returns-3
-    store-curve-requires
-    same-length
-    returns-4
-    not-drawn-requires-4
-    same-length-2
-    returns-5)
+    (tie.spec (λ c κs. search needs) (λ c κs. search needs) returns (λ c κs. search needs) (λ c κs. search needs) returns-2 (λ c κs. search needs)
+    (λ c κs. search needs) returns-3 store-curve-requires (λ c. search needs) returns-4 (λ c κs. search needs) (λ c. search needs) returns-5)

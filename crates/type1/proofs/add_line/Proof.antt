@@ -9,13 +9,7 @@ use Rattle.type1.proofs.add_line.Statement.{statement}
 use Rattle.type1.proofs.add_line.Tie as tie
 
 -- src/lib.rt:355:9
-finite-point-requires : tie.Need-finite-point-requires
-finite-point-requires c κs = search needs
-
 -- src/lib.rt:356:9
-not-drawn-requires : tie.Need-not-drawn-requires
-not-drawn-requires c κs = search needs
-
 -- src/lib.rt:356:9
 returns : tie.Need-returns
 returns c =
@@ -27,22 +21,13 @@ store-point-requires c κs =
     (c .before .before .before .before .pre, ((lit< tt, lit< tt), finite-both (add binary64 (c .before .before .before .before .args .x) (c .before .before .before .before .args .dx)) (add binary64 (c .before .before .before .before .args .y) (c .before .before .before .before .args .dy)) _ (c .before .before .finite-point .ensures) (not-false _ (c .before .if1 .left))))
 
 -- src/lib.rt:359:9
-same-length : tie.Need-same-length
-same-length c = search needs
-
 -- src/lib.rt:359:9
 returns-2 : tie.Need-returns-2
 returns-2 c =
     line-added _ _ _ _ _ _ _ _ (sym (c .before .before .before .before .before .before .finite-point .ensures) ∙ not-false _ (c .before .before .before .before .before .if1 .left)) (c .before .before .before .store-point .ensures) (c .if2 .taken)
 
 -- src/lib.rt:365:5
-not-drawn-requires-2 : tie.Need-not-drawn-requires-2
-not-drawn-requires-2 c κs = search needs
-
 -- src/lib.rt:349:1
-same-length-2 : tie.Need-same-length-2
-same-length-2 c = search needs
-
 -- src/lib.rt:349:1
 returns-3 : tie.Need-returns-3
 returns-3 c =
@@ -51,13 +36,5 @@ returns-3 c =
 pub add-line-spec : {M : Type 1} → statement M
 add-line-spec =
     tie.close
-    (tie.spec
-    finite-point-requires
-    not-drawn-requires
-    returns
-    store-point-requires
-    same-length
-    returns-2
-    not-drawn-requires-2
-    same-length-2
-    returns-3)
+    (tie.spec (λ c κs. search needs) (λ c κs. search needs) returns store-point-requires (λ c. search needs) returns-2 (λ c κs. search needs)
+    (λ c. search needs) returns-3)

@@ -1,39 +1,15 @@
-use mathlib.Core.Path.{_≡_, refl, sym, ap, _∙_}
-use borrow.Author.Tests.{not-true, not-false}
-use Rattle.type1.proofs.Paths.{curve-open, curve-stop, curve-move, space-of, space-move, grown-bounds}
+use Rattle.type1.proofs.Paths.{curve-open, curve-stop, curve-move, space-of, space-move}
 use borrow.Author.Needs.{needs}
 use Rattle.type1.proofs.curve_by.Statement.{statement}
 use Rattle.type1.proofs.curve_by.Tie as tie
-use Rattle.type1.proofs.curve_by.Reads as reads
-use Rattle.type1.proofs.curve_by.Lts as lts
-use Rattle.type1.proofs.curve_to.Reads as curve-to-reads
-use Rattle.type1.proofs.open_subpath.Reads as open-subpath-reads
-
-curve-to-requires : tie.Need-curve-to-requires
-curve-to-requires c κs = search needs
-
-same-length : tie.Need-same-length
-same-length c = search needs
 
 returns : tie.Need-returns
 returns c =
     (curve-open _ (c .before .before .before .before .before .before .args .st) _ _ _ _ _ _ _ _ _ _ (c .before .before .before .before .if1 .taken) (c .before .before .curve-to .ensures .0), space-of _ _ _ (c .before .before .curve-to .ensures .1))
 
-open-subpath-requires : tie.Need-open-subpath-requires
-open-subpath-requires c κs = search needs
-
-same-length-2 : tie.Need-same-length-2
-same-length-2 c = search needs
-
 returns-2 : tie.Need-returns-2
 returns-2 c =
     (curve-stop _ (c .before .before .before .before .before .before .before .before .args .st) _ _ _ _ _ _ _ _ _ _ (c .before .before .before .before .before .before .if1 .left) (c .before .before .before .before .open-subpath .ensures .0) (c .if2 .taken), space-of _ _ _ (c .before .before .before .before .open-subpath .ensures .1 .0))
-
-curve-to-requires-2 : tie.Need-curve-to-requires-2
-curve-to-requires-2 c κs = search needs
-
-same-length-3 : tie.Need-same-length-3
-same-length-3 c = search needs
 
 returns-3 : tie.Need-returns-3
 returns-3 c =
@@ -42,13 +18,5 @@ returns-3 c =
 pub curve-by-spec : {M : Type 1} → statement M
 curve-by-spec =
     tie.close
-    (tie.spec
-    curve-to-requires
-    same-length
-    returns
-    open-subpath-requires
-    same-length-2
-    returns-2
-    curve-to-requires-2
-    same-length-3
-    returns-3)
+    (tie.spec (λ c κs. search needs) (λ c. search needs) returns (λ c κs. search needs) (λ c. search needs) returns-2 (λ c κs. search needs)
+    (λ c. search needs) returns-3)

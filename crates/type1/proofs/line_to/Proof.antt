@@ -1,37 +1,19 @@
 use lib.Ieee.{binary64, add}
 use lib.Dec.{lit<}
-use mathlib.Core.Path.{_≡_, refl, sym, ap, _∙_}
+use mathlib.Core.Path.{sym, _∙_}
 use borrow.Author.Tests.{not-true, not-false}
 use Rattle.type1.proofs.Paths.{lines-infinite, lines-listed, moved-path, moved-bounds, finite-both, path-infinite}
 use borrow.Author.Needs.{needs}
 use Rattle.type1.proofs.line_to.Statement.{statement}
 use Rattle.type1.proofs.line_to.Tie as tie
-use Rattle.type1.proofs.line_to.Reads as reads
-use Rattle.type1.proofs.line_to.Lts as lts
-use Rattle.type1.proofs.at_point.Reads as at-point-reads
-use Rattle.type1.proofs.finite_point.Reads as finite-point-reads
-use Rattle.type1.proofs.list_point.Reads as list-point-reads
-use Rattle.type1.proofs.made.Reads as made-reads
-
-finite-point-requires : tie.Need-finite-point-requires
-finite-point-requires c κs = search needs
-
-made-requires : tie.Need-made-requires
-made-requires c κs = search needs
 
 returns : tie.Need-returns
 returns c =
     (lines-infinite _ _ _ _ _ _ _ (c .made .ensures) (sym (c .before .before .finite-point .ensures) ∙ not-true _ (c .before .if1 .taken)), path-infinite _ _ 13 _ (c .made .ensures))
 
-at-point-requires : tie.Need-at-point-requires
-at-point-requires c κs = search needs
-
 list-point-requires : tie.Need-list-point-requires
 list-point-requires c κs =
     (moved-bounds _ _ _ _ _ _ (c .before .at-point .ensures) (c .before .before .before .before .before .before .before .pre .0) (c .before .before .before .before .before .before .before .pre .1) .0, (moved-bounds _ _ _ _ _ _ (c .before .at-point .ensures) (c .before .before .before .before .before .before .before .pre .0) (c .before .before .before .before .before .before .before .pre .1) .1, ((lit< tt, lit< tt), finite-both (add binary64 (c .before .before .before .before .before .before .before .args .st .x) (c .before .before .before .before .before .before .before .args .dx)) (add binary64 (c .before .before .before .before .before .before .before .args .st .y) (c .before .before .before .before .before .before .before .args .dy)) _ (c .before .before .before .finite-point .ensures) (not-false _ (c .before .before .if1 .left)))))
-
-same-length : tie.Need-same-length
-same-length c = search needs
 
 returns-2 : tie.Need-returns-2
 returns-2 c =
@@ -40,11 +22,4 @@ returns-2 c =
 pub line-to-spec : {M : Type 1} → statement M
 line-to-spec =
     tie.close
-    (tie.spec
-    finite-point-requires
-    made-requires
-    returns
-    at-point-requires
-    list-point-requires
-    same-length
-    returns-2)
+    (tie.spec (λ c κs. search needs) (λ c κs. search needs) returns (λ c κs. search needs) list-point-requires (λ c. search needs) returns-2)

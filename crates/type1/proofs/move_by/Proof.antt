@@ -1,52 +1,24 @@
 use lib.Ieee.{binary64, add}
 use lib.Dec.{lit<}
-use mathlib.Core.Path.{_≡_, refl, sym, ap, _∙_}
+use mathlib.Core.Path.{sym, ap, _∙_}
 use borrow.Author.Tests.{not-true, not-false}
 use Rattle.type1.proofs.Groups.{space-same}
 use Rattle.type1.proofs.Paths.{moves-infinite, moves-flexing, moves-listed, moved-bounds, finite-both, space-moved, space-opened}
 use borrow.Author.Needs.{needs}
 use Rattle.type1.proofs.move_by.Statement.{statement}
 use Rattle.type1.proofs.move_by.Tie as tie
-use Rattle.type1.proofs.move_by.Reads as reads
-use Rattle.type1.proofs.move_by.Lts as lts
-use Rattle.type1.proofs.at_point.Reads as at-point-reads
-use Rattle.type1.proofs.finite_point.Reads as finite-point-reads
-use Rattle.type1.proofs.list_point.Reads as list-point-reads
-use Rattle.type1.proofs.made.Reads as made-reads
-use Rattle.type1.proofs.opened.Reads as opened-reads
-
-finite-point-requires : tie.Need-finite-point-requires
-finite-point-requires c κs = search needs
-
-made-requires : tie.Need-made-requires
-made-requires c κs = search needs
 
 returns : tie.Need-returns
 returns c =
     (moves-infinite _ _ _ _ _ _ _ (c .made .ensures) (sym (c .before .before .finite-point .ensures) ∙ not-true _ (c .before .if1 .taken)), space-same (c .before .before .before .before .before .before .args .st) _ 14 _ (c .made .ensures))
 
-at-point-requires : tie.Need-at-point-requires
-at-point-requires c κs = search needs
-
-made-requires-2 : tie.Need-made-requires-2
-made-requires-2 c κs = search needs
-
 returns-2 : tie.Need-returns-2
 returns-2 c =
     (moves-flexing _ _ _ _ _ _ _ (c .made2 .ensures ∙ ap (λ u. record { st = u; flow = 0 }) (c .before .at-point .ensures)) (sym (c .before .before .before .before .finite-point .ensures) ∙ not-false _ (c .before .before .before .if1 .left)) (c .before .before .if2 .taken), space-moved (c .before .before .before .before .before .before .before .before .args .st) _ _ _ _ 0 _ (c .made2 .ensures) (c .before .at-point .ensures))
 
-at-point-requires-2 : tie.Need-at-point-requires-2
-at-point-requires-2 c κs = search needs
-
 list-point-requires : tie.Need-list-point-requires
 list-point-requires c κs =
     (moved-bounds _ _ _ _ _ _ (c .before .at-point2 .ensures) (c .before .before .before .before .before .before .before .before .pre .0) (c .before .before .before .before .before .before .before .before .pre .1) .0, (moved-bounds _ _ _ _ _ _ (c .before .at-point2 .ensures) (c .before .before .before .before .before .before .before .before .pre .0) (c .before .before .before .before .before .before .before .before .pre .1) .1, ((lit< tt, lit< tt), finite-both (add binary64 (c .before .before .before .before .before .before .before .before .args .st .x) (c .before .before .before .before .before .before .before .before .args .dx)) (add binary64 (c .before .before .before .before .before .before .before .before .args .st .y) (c .before .before .before .before .before .before .before .before .args .dy)) _ (c .before .before .before .before .finite-point .ensures) (not-false _ (c .before .before .before .if1 .left)))))
-
-opened-requires : tie.Need-opened-requires
-opened-requires c κs = search needs
-
-same-length : tie.Need-same-length
-same-length c = search needs
 
 returns-3 : tie.Need-returns-3
 returns-3 c =
@@ -55,15 +27,5 @@ returns-3 c =
 pub move-by-spec : {M : Type 1} → statement M
 move-by-spec =
     tie.close
-    (tie.spec
-    finite-point-requires
-    made-requires
-    returns
-    at-point-requires
-    made-requires-2
-    returns-2
-    at-point-requires-2
-    list-point-requires
-    opened-requires
-    same-length
-    returns-3)
+    (tie.spec (λ c κs. search needs) (λ c κs. search needs) returns (λ c κs. search needs) (λ c κs. search needs) returns-2 (λ c κs. search needs)
+    list-point-requires (λ c κs. search needs) (λ c. search needs) returns-3)

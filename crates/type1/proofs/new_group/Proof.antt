@@ -5,66 +5,26 @@ use Rattle.type1.proofs.Groups.{no-group, made-in, grown-same, space-sa
 use borrow.Author.Needs.{needs}
 use Rattle.type1.proofs.new_group.Statement.{statement}
 use Rattle.type1.proofs.new_group.Tie as tie
-use Rattle.type1.proofs.new_group.Reads as reads
-use Rattle.type1.proofs.new_group.Lts as lts
-use Rattle.hints.proofs.new_group.Reads as new-group-reads
-use Rattle.type1.proofs.made.Reads as made-reads
-
-new-group-requires : tie.Need-new-group-requires
-new-group-requires c κs = search needs
-
-made-requires : tie.Need-made-requires
-made-requires c κs = search needs
 
 returns : tie.Need-returns
 returns c =
     (λ m s q H. no-group _ _ s H _ _ _ _ _ (c .before .before .new-group .ensures) (c .before .if1 .taken) (c .made .ensures), ((λ z. refused-not _ _ _ (c .made .ensures) (c .before .if1 .taken) z, space-same _ _ _ _ (c .made .ensures)), grown-same _ _ _ _ _ (c .made .ensures) (c .before .before .before .before .pre .0) (c .before .before .before .before .pre .1)))
 
-mul-at : tie.Need-mul-at
-mul-at c = search needs
-
-mul-cmds : tie.Need-mul-cmds
-mul-cmds c = search needs
-
 slice-write-cmds : tie.Need-slice-write-cmds
 slice-write-cmds c =
     let G = group-room _ _ _ _ _ _ _ (c .before .new-group .ensures) (c .if1 .left) in omega (arith, G .2)
-
-add-cmds : tie.Need-add-cmds
-add-cmds c = search needs
-
-mul-cmds-2 : tie.Need-mul-cmds-2
-mul-cmds-2 c = search needs
 
 slice-write-cmds-2 : tie.Need-slice-write-cmds-2
 slice-write-cmds-2 c =
     let G = group-room _ _ _ _ _ _ _ (c .before .new-group .ensures) (c .if1 .left) in simp length-set (omega (arith, G .2))
 
-add-cmds-2 : tie.Need-add-cmds-2
-add-cmds-2 c = search needs
-
-mul-cmds-3 : tie.Need-mul-cmds-3
-mul-cmds-3 c = search needs
-
 slice-write-cmds-3 : tie.Need-slice-write-cmds-3
 slice-write-cmds-3 c =
     let G = group-room _ _ _ _ _ _ _ (c .before .new-group .ensures) (c .if1 .left) in simp length-set (omega (arith, G .2))
 
-add-s : tie.Need-add-s
-add-s c = search needs
-
 add-s-2 : tie.Need-add-s-2
 add-s-2 c =
     let G = group-room _ _ _ _ _ _ _ (c .before .new-group .ensures) (c .if1 .left) in omega (arith, G .1)
-
-add-s-3 : tie.Need-add-s-3
-add-s-3 c = search needs
-
-made-requires-2 : tie.Need-made-requires-2
-made-requires-2 c κs = search needs
-
-same-length : tie.Need-same-length
-same-length c = search needs
 
 returns-2 : tie.Need-returns-2
 returns-2 c =
@@ -74,22 +34,6 @@ returns-2 c =
 pub new-group-spec : {M : Type 1} → statement M
 new-group-spec =
     tie.close
-    (tie.spec
-    new-group-requires
-    made-requires
-    returns
-    mul-at
-    mul-cmds
-    slice-write-cmds
-    add-cmds
-    mul-cmds-2
-    slice-write-cmds-2
-    add-cmds-2
-    mul-cmds-3
-    slice-write-cmds-3
-    add-s
-    add-s-2
-    add-s-3
-    made-requires-2
-    same-length
-    returns-2)
+    (tie.spec (λ c κs. search needs) (λ c κs. search needs) returns (λ c. search needs) (λ c. search needs) slice-write-cmds (λ c. search needs)
+    (λ c. search needs) slice-write-cmds-2 (λ c. search needs) (λ c. search needs) slice-write-cmds-3 (λ c. search needs) add-s-2 (λ c. search needs)
+    (λ c κs. search needs) (λ c. search needs) returns-2)

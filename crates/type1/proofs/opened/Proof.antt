@@ -3,9 +3,6 @@ use mathlib.Core.Path.{sym, _∙_}
 use borrow.Author.Needs.{needs}
 use Rattle.type1.proofs.opened.Statement.{statement}
 use Rattle.type1.proofs.opened.Tie as tie
-use Rattle.type1.proofs.opened.Reads as reads
-use Rattle.type1.proofs.opened.Lts as lts
-use Rattle.type1.proofs.made.Reads as made-reads
 
 -- src/lib.rt:321:9
 returns : tie.Need-returns
@@ -13,13 +10,10 @@ returns c =
     sym (simp (ne-eqb _ _ (c .if1 .taken)))
 
 -- src/lib.rt:325:5
-made-requires : tie.Need-made-requires
-made-requires c κs = search needs
-
 -- src/lib.rt:317:1
 returns-2 : tie.Need-returns-2
 returns-2 c =
     c .made .ensures ∙ sym (simp (eq-eqb _ _ (c .before .before .if1 .left)))
 
 pub opened-spec : {M : Type 1} → statement M
-opened-spec = tie.close (tie.spec returns made-requires returns-2)
+opened-spec = tie.close (tie.spec returns (λ c κs. search needs) returns-2)

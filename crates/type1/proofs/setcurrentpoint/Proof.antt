@@ -1,47 +1,17 @@
 use native.Mathlib.Omega.{arith}
-use lib.Ieee.{ofBits}
 use Rattle.type1.proofs.Groups.{space-same}
-use Rattle.type1.proofs.Operands.{does-setcurrentpoint, short-setcurrentpoint, clear-bounds, clear-finite, clear-space}
+use Rattle.type1.proofs.Operands.{does-setcurrentpoint, short-setcurrentpoint, clear-bounds, clear-space}
 use borrow.Author.Needs.{needs}
 use Rattle.type1.proofs.setcurrentpoint.Statement.{statement}
 use Rattle.type1.proofs.setcurrentpoint.Tie as tie
-use Rattle.type1.proofs.setcurrentpoint.Reads as reads
-use Rattle.type1.proofs.setcurrentpoint.Lts as lts
-use Rattle.type1.proofs.cleared.Reads as cleared-reads
-use Rattle.type1.proofs.made.Reads as made-reads
-use Rattle.type1.proofs.set_point.Reads as set-point-reads
-
-made-requires : tie.Need-made-requires
-made-requires c κs = search needs
 
 returns : tie.Need-returns
 returns c =
-    (short-setcurrentpoint _ _ _ _ _ _ (c .made .ensures) (c .before .if1 .taken), space-same (c .before .before .before .args .st) _ 7 _ (c .made .ensures))
-
-mul-set-point : tie.Need-mul-set-point
-mul-set-point c = search needs
-
-element-copy-out-set-point : tie.Need-element-copy-out-set-point
-element-copy-out-set-point c = search needs
-
-sub-set-point : tie.Need-sub-set-point
-sub-set-point c = search needs
-
-mul-set-point-2 : tie.Need-mul-set-point-2
-mul-set-point-2 c = search needs
-
-element-copy-out-set-point-2 : tie.Need-element-copy-out-set-point-2
-element-copy-out-set-point-2 c = search needs
-
-cleared-requires : tie.Need-cleared-requires
-cleared-requires c κs = search needs
+    (short-setcurrentpoint _ _ _ _ _ _ (c .before .if1 .taken) (c .made .ensures), space-same (c .before .before .before .args .st) _ 7 _ (c .made .ensures))
 
 set-point-requires : tie.Need-set-point-requires
 set-point-requires c κs =
     (clear-bounds _ _ _ _ (c .before .cleared .ensures) (c .before .before .before .before .before .before .pre .0) (c .before .before .before .before .before .before .pre .1 .0) .0, (clear-bounds _ _ _ _ (c .before .cleared .ensures) (c .before .before .before .before .before .before .pre .0) (c .before .before .before .before .before .before .pre .1 .0) .1, (c .before .before .before .before .before .before .pre .1 .1 .1 _ (omega arith), c .before .before .before .before .before .before .pre .1 .1 .1 _ (omega arith))))
-
-same-length : tie.Need-same-length
-same-length c = search needs
 
 returns-2 : tie.Need-returns-2
 returns-2 c =
@@ -50,15 +20,5 @@ returns-2 c =
 pub setcurrentpoint-spec : {M : Type 1} → statement M
 setcurrentpoint-spec =
     tie.close
-    (tie.spec
-    made-requires
-    returns
-    mul-set-point
-    element-copy-out-set-point
-    sub-set-point
-    mul-set-point-2
-    element-copy-out-set-point-2
-    cleared-requires
-    set-point-requires
-    same-length
-    returns-2)
+    (tie.spec (λ c κs. search needs) returns (λ c. search needs) (λ c. search needs) (λ c. search needs) (λ c. search needs) (λ c. search needs)
+    (λ c κs. search needs) set-point-requires (λ c. search needs) returns-2)

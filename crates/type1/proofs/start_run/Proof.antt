@@ -3,19 +3,10 @@ use Rattle.type1.proofs.start_run.Statement.{statement}
 use Rattle.type1.proofs.start_run.Tie as tie
 use Rattle.type1.proofs.EntryLaws.{flow-is}
 
-zero-state-requires : tie.Need-zero-state-requires
-zero-state-requires c κs = search needs
-
-refused-before-requires : tie.Need-refused-before-requires
-refused-before-requires c κs = search needs
-
-made-requires : tie.Need-made-requires
-made-requires c κs = search needs
-
 returns : tie.Need-returns
 returns c =
     flow-is _ _ _ _ _ (c .made .ensures) (c .before .before .zero-state .ensures) (c .before .refused-before .ensures)
 
 pub start-run-spec : {M : Type 1} → statement M
 start-run-spec =
-    tie.close (tie.spec zero-state-requires refused-before-requires made-requires returns)
+    tie.close (tie.spec (λ c κs. search needs) (λ c κs. search needs) (λ c κs. search needs) returns)

@@ -9,16 +9,8 @@ use Rattle.type1.proofs.Stacks.{too-few, from-cleared, groups-kept}
 use borrow.Author.Needs.{needs}
 use Rattle.type1.proofs.stems3.Statement.{statement}
 use Rattle.type1.proofs.stems3.Tie as tie
-use Rattle.type1.proofs.stems3.Reads as reads
-use Rattle.type1.proofs.stems3.Lts as lts
-use Rattle.type1.proofs.add_stem.Reads as add-stem-reads
-use Rattle.type1.proofs.cleared.Reads as cleared-reads
-use Rattle.type1.proofs.made.Reads as made-reads
 
 -- src/lib.rt:284:9
-made-requires : tie.Need-made-requires
-made-requires c κs = search needs
-
 -- src/lib.rt:284:9
 returns : tie.Need-returns
 unfolding stems3
@@ -26,29 +18,11 @@ returns c =
     (λ m s room words H. too-few _ _ s H 6 _ _ (c .made .ensures) (c .before .if1 .taken), groups-kept _ _ 7 (c .made .ensures))
 
 -- src/lib.rt:288:16
-mul-add-stem : tie.Need-mul-add-stem
-mul-add-stem c = search needs
-
 -- src/lib.rt:288:16
-element-copy-out-add-stem : tie.Need-element-copy-out-add-stem
-element-copy-out-add-stem c = search needs
-
 -- src/lib.rt:289:13
-sub-add-stem : tie.Need-sub-add-stem
-sub-add-stem c = search needs
-
 -- src/lib.rt:289:9
-mul-add-stem-2 : tie.Need-mul-add-stem-2
-mul-add-stem-2 c = search needs
-
 -- src/lib.rt:289:9
-element-copy-out-add-stem-2 : tie.Need-element-copy-out-add-stem-2
-element-copy-out-add-stem-2 c = search needs
-
 -- src/lib.rt:290:9
-cleared-requires : tie.Need-cleared-requires
-cleared-requires c κs = search needs
-
 -- src/lib.rt:286:9
 add-stem-requires : tie.Need-add-stem-requires
 add-stem-requires c κs =
@@ -60,33 +34,12 @@ returns-2 c =
     (λ m s room words H. first-stops _ _ s H _ _ _ (c .before .before .before .before .before .before .before .before .if1 .left) _ _ (c .before .before .add-stem .ensures .0 (withOps (c .before .before .before .before .before .before .before .before .before .args .ops .now) m) _ room words (from-cleared _ _ _ s H (c .before .before .before .before .before .cleared .ensures))) (c .if2 .taken), c .before .before .add-stem .ensures .1 .1 ∙ ap (λ (u : St). u .groups) (c .before .before .before .before .before .cleared .ensures))
 
 -- src/lib.rt:299:20
-sub-add-stem-2 : tie.Need-sub-add-stem-2
-sub-add-stem-2 c = search needs
-
 -- src/lib.rt:299:16
-mul-add-stem-3 : tie.Need-mul-add-stem-3
-mul-add-stem-3 c = search needs
-
 -- src/lib.rt:299:16
-element-copy-out-add-stem-3 : tie.Need-element-copy-out-add-stem-3
-element-copy-out-add-stem-3 c = search needs
-
 -- src/lib.rt:300:13
-sub-add-stem-3 : tie.Need-sub-add-stem-3
-sub-add-stem-3 c = search needs
-
 -- src/lib.rt:300:9
-mul-add-stem-4 : tie.Need-mul-add-stem-4
-mul-add-stem-4 c = search needs
-
 -- src/lib.rt:300:9
-element-copy-out-add-stem-4 : tie.Need-element-copy-out-add-stem-4
-element-copy-out-add-stem-4 c = search needs
-
 -- src/lib.rt:297:9
-add-stem-requires-2 : tie.Need-add-stem-requires-2
-add-stem-requires-2 c κs = search needs
-
 -- src/lib.rt:306:9
 returns-3 : tie.Need-returns-3
 returns-3 c =
@@ -123,9 +76,6 @@ element-copy-out-add-stem-6 c =
     omega (arith, c .before .before .before .before .before .before .before .before .before .before .before .before .before .before .before .before .if1 .left, c .before .before .before .before .before .before .before .before .before .before .before .before .before .before .before .before .before .pre .0)
 
 -- src/lib.rt:308:5
-add-stem-requires-3 : tie.Need-add-stem-requires-3
-add-stem-requires-3 c κs = search needs
-
 -- src/lib.rt:269:1
 returns-4 : tie.Need-returns-4
 returns-4 c =
@@ -134,30 +84,7 @@ returns-4 c =
 pub stems3-spec : {M : Type 1} → statement M
 stems3-spec =
     tie.close
-    (tie.spec
-    made-requires
-    returns
-    mul-add-stem
-    element-copy-out-add-stem
-    sub-add-stem
-    mul-add-stem-2
-    element-copy-out-add-stem-2
-    cleared-requires
-    add-stem-requires
-    returns-2
-    sub-add-stem-2
-    mul-add-stem-3
-    element-copy-out-add-stem-3
-    sub-add-stem-3
-    mul-add-stem-4
-    element-copy-out-add-stem-4
-    add-stem-requires-2
-    returns-3
-    sub-add-stem-4
-    mul-add-stem-5
-    element-copy-out-add-stem-5
-    sub-add-stem-5
-    mul-add-stem-6
-    element-copy-out-add-stem-6
-    add-stem-requires-3
-    returns-4)
+    (tie.spec (λ c κs. search needs) returns (λ c. search needs) (λ c. search needs) (λ c. search needs) (λ c. search needs) (λ c. search needs)
+    (λ c κs. search needs) add-stem-requires returns-2 (λ c. search needs) (λ c. search needs) (λ c. search needs) (λ c. search needs) (λ c. search needs)
+    (λ c. search needs) (λ c κs. search needs) returns-3 sub-add-stem-4 mul-add-stem-5 element-copy-out-add-stem-5 sub-add-stem-5 mul-add-stem-6
+    element-copy-out-add-stem-6 (λ c κs. search needs) returns-4)

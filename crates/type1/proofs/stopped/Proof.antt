@@ -4,12 +4,6 @@ use borrow.Author.Needs.{needs}
 use Rattle.type1.proofs.stopped.Statement.{statement}
 use Rattle.type1.proofs.stopped.Tie as tie
 
-made-requires : tie.Need-made-requires
-made-requires c κs = search needs
-
-made-requires-2 : tie.Need-made-requires-2
-made-requires-2 c κs = search needs
-
 returns : tie.Need-returns
 returns c = c .made .ensures ∙ simp (eq-eqb _ _ (c .before .if1 .taken))
 
@@ -17,4 +11,4 @@ returns-2 : tie.Need-returns-2
 returns-2 c = c .made2 .ensures ∙ simp (ne-eqb _ _ (c .before .if1 .left))
 
 pub stopped-spec : {M : Type 1} → statement M
-stopped-spec = tie.close (tie.spec made-requires made-requires-2 returns returns-2)
+stopped-spec = tie.close (tie.spec (λ c κs. search needs) (λ c κs. search needs) returns returns-2)

@@ -11,39 +11,21 @@ use Rattle.type1.proofs.store_curve.Statement.{statement}
 use Rattle.type1.proofs.store_curve.Tie as tie
 
 -- src/lib.rt:334:14
-mul-at : tie.Need-mul-at
-mul-at c = search needs
-
 -- src/lib.rt:335:8
-sub-if1 : tie.Need-sub-if1
-sub-if1 c = search needs
-
 -- src/lib.rt:336:9
 returns : tie.Need-returns
 returns c =
     stores-none _ _ _ (c .if1 .taken)
 
 -- src/lib.rt:338:5
-mul-cmds : tie.Need-mul-cmds
-mul-cmds c = search needs
-
 -- src/lib.rt:338:5
-slice-write-cmds : tie.Need-slice-write-cmds
-slice-write-cmds c = search needs
-
 -- src/lib.rt:339:20
 float-to-bits-cmds : tie.Need-float-to-bits-cmds
 float-to-bits-cmds c =
     no-nan _ (and-l (finite (c .before .args .px)) (finite (c .before .args .py)) (c .before .pre .1 .0))
 
 -- src/lib.rt:339:10
-add-cmds : tie.Need-add-cmds
-add-cmds c = search needs
-
 -- src/lib.rt:339:5
-mul-cmds-2 : tie.Need-mul-cmds-2
-mul-cmds-2 c = search needs
-
 -- src/lib.rt:339:5
 slice-write-cmds-2 : tie.Need-slice-write-cmds-2
 slice-write-cmds-2 c =
@@ -55,13 +37,7 @@ float-to-bits-cmds-2 c =
     no-nan _ (and-r (finite (c .before .args .px)) (finite (c .before .args .py)) (c .before .pre .1 .0))
 
 -- src/lib.rt:340:10
-add-cmds-2 : tie.Need-add-cmds-2
-add-cmds-2 c = search needs
-
 -- src/lib.rt:340:5
-mul-cmds-3 : tie.Need-mul-cmds-3
-mul-cmds-3 c = search needs
-
 -- src/lib.rt:340:5
 slice-write-cmds-3 : tie.Need-slice-write-cmds-3
 slice-write-cmds-3 c =
@@ -73,13 +49,7 @@ float-to-bits-cmds-3 c =
     no-nan _ (and-l (finite (c .before .args .qx)) (finite (c .before .args .qy)) (c .before .pre .1 .1 .0))
 
 -- src/lib.rt:341:10
-add-cmds-3 : tie.Need-add-cmds-3
-add-cmds-3 c = search needs
-
 -- src/lib.rt:341:5
-mul-cmds-4 : tie.Need-mul-cmds-4
-mul-cmds-4 c = search needs
-
 -- src/lib.rt:341:5
 slice-write-cmds-4 : tie.Need-slice-write-cmds-4
 slice-write-cmds-4 c =
@@ -91,13 +61,7 @@ float-to-bits-cmds-4 c =
     no-nan _ (and-r (finite (c .before .args .qx)) (finite (c .before .args .qy)) (c .before .pre .1 .1 .0))
 
 -- src/lib.rt:342:10
-add-cmds-4 : tie.Need-add-cmds-4
-add-cmds-4 c = search needs
-
 -- src/lib.rt:342:5
-mul-cmds-5 : tie.Need-mul-cmds-5
-mul-cmds-5 c = search needs
-
 -- src/lib.rt:342:5
 slice-write-cmds-5 : tie.Need-slice-write-cmds-5
 slice-write-cmds-5 c =
@@ -109,13 +73,7 @@ float-to-bits-cmds-5 c =
     no-nan _ (and-l (finite (c .before .args .rx)) (finite (c .before .args .ry)) (c .before .pre .1 .1 .1))
 
 -- src/lib.rt:343:10
-add-cmds-5 : tie.Need-add-cmds-5
-add-cmds-5 c = search needs
-
 -- src/lib.rt:343:5
-mul-cmds-6 : tie.Need-mul-cmds-6
-mul-cmds-6 c = search needs
-
 -- src/lib.rt:343:5
 slice-write-cmds-6 : tie.Need-slice-write-cmds-6
 slice-write-cmds-6 c =
@@ -127,13 +85,7 @@ float-to-bits-cmds-6 c =
     no-nan _ (and-r (finite (c .before .args .rx)) (finite (c .before .args .ry)) (c .before .pre .1 .1 .1))
 
 -- src/lib.rt:344:10
-add-cmds-6 : tie.Need-add-cmds-6
-add-cmds-6 c = search needs
-
 -- src/lib.rt:344:5
-mul-cmds-7 : tie.Need-mul-cmds-7
-mul-cmds-7 c = search needs
-
 -- src/lib.rt:344:5
 slice-write-cmds-7 : tie.Need-slice-write-cmds-7
 slice-write-cmds-7 c =
@@ -151,35 +103,8 @@ returns-2 c =
 pub store-curve-spec : {M : Type 1} → statement M
 store-curve-spec =
     tie.close
-    (tie.spec
-    mul-at
-    sub-if1
-    returns
-    mul-cmds
-    slice-write-cmds
-    float-to-bits-cmds
-    add-cmds
-    mul-cmds-2
-    slice-write-cmds-2
-    float-to-bits-cmds-2
-    add-cmds-2
-    mul-cmds-3
-    slice-write-cmds-3
-    float-to-bits-cmds-3
-    add-cmds-3
-    mul-cmds-4
-    slice-write-cmds-4
-    float-to-bits-cmds-4
-    add-cmds-4
-    mul-cmds-5
-    slice-write-cmds-5
-    float-to-bits-cmds-5
-    add-cmds-5
-    mul-cmds-6
-    slice-write-cmds-6
-    float-to-bits-cmds-6
-    add-cmds-6
-    mul-cmds-7
-    slice-write-cmds-7
-    same-length
-    returns-2)
+    (tie.spec (λ c. search needs) (λ c. search needs) returns (λ c. search needs) (λ c. search needs) float-to-bits-cmds (λ c. search needs)
+    (λ c. search needs) slice-write-cmds-2 float-to-bits-cmds-2 (λ c. search needs) (λ c. search needs) slice-write-cmds-3 float-to-bits-cmds-3
+    (λ c. search needs) (λ c. search needs) slice-write-cmds-4 float-to-bits-cmds-4 (λ c. search needs) (λ c. search needs) slice-write-cmds-5
+    float-to-bits-cmds-5 (λ c. search needs) (λ c. search needs) slice-write-cmds-6 float-to-bits-cmds-6 (λ c. search needs) (λ c. search needs)
+    slice-write-cmds-7 same-length returns-2)

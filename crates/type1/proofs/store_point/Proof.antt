@@ -9,39 +9,21 @@ use Rattle.type1.proofs.store_point.Statement.{statement}
 use Rattle.type1.proofs.store_point.Tie as tie
 
 -- src/lib.rt:309:14
-mul-at : tie.Need-mul-at
-mul-at c = search needs
-
 -- src/lib.rt:310:8
-sub-if1 : tie.Need-sub-if1
-sub-if1 c = search needs
-
 -- src/lib.rt:311:9
 returns : tie.Need-returns
 returns c =
     stores-none _ _ _ (c .if1 .taken)
 
 -- src/lib.rt:313:5
-mul-cmds : tie.Need-mul-cmds
-mul-cmds c = search needs
-
 -- src/lib.rt:313:5
-slice-write-cmds : tie.Need-slice-write-cmds
-slice-write-cmds c = search needs
-
 -- src/lib.rt:314:20
 float-to-bits-cmds : tie.Need-float-to-bits-cmds
 float-to-bits-cmds c =
     no-nan _ (c .before .pre .1 .1 .0)
 
 -- src/lib.rt:314:10
-add-cmds : tie.Need-add-cmds
-add-cmds c = search needs
-
 -- src/lib.rt:314:5
-mul-cmds-2 : tie.Need-mul-cmds-2
-mul-cmds-2 c = search needs
-
 -- src/lib.rt:314:5
 slice-write-cmds-2 : tie.Need-slice-write-cmds-2
 slice-write-cmds-2 c =
@@ -53,22 +35,13 @@ float-to-bits-cmds-2 c =
     no-nan _ (c .before .pre .1 .1 .1)
 
 -- src/lib.rt:315:10
-add-cmds-2 : tie.Need-add-cmds-2
-add-cmds-2 c = search needs
-
 -- src/lib.rt:315:5
-mul-cmds-3 : tie.Need-mul-cmds-3
-mul-cmds-3 c = search needs
-
 -- src/lib.rt:315:5
 slice-write-cmds-3 : tie.Need-slice-write-cmds-3
 slice-write-cmds-3 c =
     simp length-set (omega arith)
 
 -- src/lib.rt:303:1
-same-length : tie.Need-same-length
-same-length c = search needs
-
 -- src/lib.rt:303:1
 returns-2 : tie.Need-returns-2
 returns-2 c =
@@ -77,19 +50,5 @@ returns-2 c =
 pub store-point-spec : {M : Type 1} → statement M
 store-point-spec =
     tie.close
-    (tie.spec
-    mul-at
-    sub-if1
-    returns
-    mul-cmds
-    slice-write-cmds
-    float-to-bits-cmds
-    add-cmds
-    mul-cmds-2
-    slice-write-cmds-2
-    float-to-bits-cmds-2
-    add-cmds-2
-    mul-cmds-3
-    slice-write-cmds-3
-    same-length
-    returns-2)
+    (tie.spec (λ c. search needs) (λ c. search needs) returns (λ c. search needs) (λ c. search needs) float-to-bits-cmds (λ c. search needs)
+    (λ c. search needs) slice-write-cmds-2 float-to-bits-cmds-2 (λ c. search needs) (λ c. search needs) slice-write-cmds-3 (λ c. search needs) returns-2)

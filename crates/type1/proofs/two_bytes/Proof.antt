@@ -6,24 +6,6 @@ use borrow.Author.Needs.{needs}
 use Rattle.type1.proofs.two_bytes.Statement.{statement}
 use Rattle.type1.proofs.two_bytes.Tie as tie
 
-wider-requires : tie.Need-wider-requires
-wider-requires c κs = search needs
-
-mul-both : tie.Need-mul-both
-mul-both c = search needs
-
-wider-requires-2 : tie.Need-wider-requires-2
-wider-requires-2 c κs = search needs
-
-add-both : tie.Need-add-both
-add-both c = search needs
-
-add-raised : tie.Need-add-raised
-add-raised c = search needs
-
-sub-raised : tie.Need-sub-raised
-sub-raised c = search needs
-
 int-to-float-result : tie.Need-int-to-float-result
 int-to-float-result c =
     small _ (⊎-elim (λ t. omega (arith, t .1)) (λ t. omega (arith, t .1)) (c .before .if1 .came))
@@ -40,12 +22,5 @@ returns c =
 pub two-bytes-spec : {M : Type 1} → statement M
 two-bytes-spec =
     tie.close
-    (tie.spec
-    wider-requires
-    mul-both
-    wider-requires-2
-    add-both
-    add-raised
-    sub-raised
-    int-to-float-result
-    returns)
+    (tie.spec (λ c κs. search needs) (λ c. search needs) (λ c κs. search needs) (λ c. search needs) (λ c. search needs) (λ c. search needs)
+    int-to-float-result returns)
