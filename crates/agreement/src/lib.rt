@@ -5,8 +5,8 @@ ghost use Rattle.type1.specs.Interpret.{sourceOf};
 ghost use Rattle.type1_to_type2.specs.Convert.{roomsOf};
 ghost use Rattle.agreement.specs.Finished.{refusal, Finishes, ConvertsFinished};
 use geometry::Matrix;
-use type1::Reading;
 use outline::Stem;
+use type1::Reading;
 use type1_to_type2::Type2Glyph;
 use type2::Widths;
 

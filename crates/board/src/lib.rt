@@ -13,8 +13,8 @@ ghost use Rattle.type1_to_type2.specs.FinishAnswer.{finishedAnswer, finishedOut
 ghost use Rattle.widths.specs.Widths.{chosen, zeroWidth};
 ghost use Rattle.board.specs.Answers.{matrixOf, widthsOf, glyphWords, finishedWords, decryptedWords, pairOf, BoardConverts, BoardFinishes};
 use geometry::Matrix;
-use type1::Reading;
 use outline::Stem;
+use type1::Reading;
 use type1_to_type2::Type2Glyph;
 use type2::Widths;
 

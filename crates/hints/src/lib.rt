@@ -3,7 +3,6 @@
 ghost use mathlib.Core.Path.{_≡_};
 ghost use Prim.Native.Nat.{_≤_};
 ghost use Rattle.hints.specs.Hints.{cut, inForce, mayBeLast, newGroup, areFew, needMasks};
-
 use outline::ENTRY;
 use outline::Stem;
 

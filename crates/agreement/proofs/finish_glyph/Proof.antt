@@ -14,43 +14,22 @@ use Rattle.agreement.proofs.wipe_bytes.Reads as wipe-bytes-reads
 use Rattle.type1_to_type2.proofs.Type2Glyph.charstring.Reads as charstring-reads
 
 -- src/lib.rt:45:9
-wipe-bytes-requires : tie.Need-wipe-bytes-requires
-wipe-bytes-requires c κs = search needs
-
 -- src/lib.rt:46:9
-refused-requires : tie.Need-refused-requires
-refused-requires c κs = search needs
-
 -- src/lib.rt:46:9
-same-length : tie.Need-same-length
-same-length c = search needs
-
 -- src/lib.rt:46:9
 returns : tie.Need-returns
 returns c =
     subst (λ (r : Type2Glyph). Finishes (c .before .before .before .before .before .before .before .before .before .args .glyph) (c .before .before .before .before .before .before .before .before .before .args .widths) (now (c .before .before .before .before .before .before .before .before .before .args .program)) (length (now (c .before .before .before .before .before .before .before .before .before .args .out))) r (c .before .before .before .wipe-bytes .last .0)) (sym (c .refused .ensures)) (away (c .before .before .before .before .before .before .before .before .before .args .glyph) (c .before .before .before .before .before .before .before .before .before .args .widths) (now (c .before .before .before .before .before .before .before .before .before .args .program)) (length (now (c .before .before .before .before .before .before .before .before .before .args .out))) _ (c .before .before .before .before .before .if1 .taken) (c .before .before .before .wipe-bytes .ensures))
 
 -- src/lib.rt:48:9
-charstring-requires : tie.Need-charstring-requires
-charstring-requires c κs = search needs
-
 -- src/lib.rt:50:9
-refused-requires-2 : tie.Need-refused-requires-2
-refused-requires-2 c κs = search needs
-
 -- src/lib.rt:50:9
-same-length-2 : tie.Need-same-length-2
-same-length-2 c = search needs
-
 -- src/lib.rt:50:9
 returns-2 : tie.Need-returns-2
 returns-2 c =
     subst (λ (r : Type2Glyph). Finishes (c .before .before .before .before .before .before .before .before .before .before .before .args .glyph) (c .before .before .before .before .before .before .before .before .before .before .before .args .widths) (now (c .before .before .before .before .before .before .before .before .before .before .before .args .program)) (length (now (c .before .before .before .before .before .before .before .before .before .before .before .args .out))) r (c .before .before .before .before .before .charstring .last .1 .1 .1 .0)) (sym (c .refused2 .ensures)) (not-finished (c .before .before .before .before .before .before .before .before .before .before .before .args .glyph) (c .before .before .before .before .before .before .before .before .before .before .before .args .widths) (now (c .before .before .before .before .before .before .before .before .before .before .before .args .program)) (length (now (c .before .before .before .before .before .before .before .before .before .before .before .args .out))) (c .before .before .before .before .before .charstring .result) _ (c .before .before .before .before .before .before .before .if1 .left) (c .before .before .before .before .before .charstring .ensures .0) (c .before .before .before .before .before .charstring .ensures .1) (c .before .if2 .taken))
 
 -- src/lib.rt:41:1
-same-length-3 : tie.Need-same-length-3
-same-length-3 c = search needs
-
 -- src/lib.rt:41:1
 returns-3 : tie.Need-returns-3
 returns-3 c =
@@ -59,14 +38,5 @@ returns-3 c =
 pub finish-glyph-spec : {M : Type 1} → statement M
 finish-glyph-spec =
     tie.close
-    (tie.spec
-    wipe-bytes-requires
-    refused-requires
-    same-length
-    returns
-    charstring-requires
-    refused-requires-2
-    same-length-2
-    returns-2
-    same-length-3
-    returns-3)
+    (tie.spec (λ c κs. search needs) (λ c κs. search needs) (λ c. search needs) returns (λ c κs. search needs) (λ c κs. search needs) (λ c. search needs)
+    returns-2 (λ c. search needs) returns-3)

@@ -7,15 +7,9 @@ use borrow.Author.Needs.{needs}
 use Rattle.agreement.proofs.wipe_bytes.Statement.{statement}
 use Rattle.agreement.proofs.wipe_bytes.Tie as tie
 
-zero-from-requires : tie.Need-zero-from-requires
-zero-from-requires c κs = search needs
-
-same-length : tie.Need-same-length
-same-length c = search needs
-
 returns : tie.Need-returns
 returns c =
     c .before .before .zero-from .ensures ∙ ap (λ (n : ℕ). replicate {A = ℕ} n 0) (sub-zero (length (c .before .before .before .before .before .args .bytes .now)))
 
 pub wipe-bytes-spec : {M : Type 1} → statement M
-wipe-bytes-spec = tie.close (tie.spec zero-from-requires same-length returns)
+wipe-bytes-spec = tie.close (tie.spec (λ c κs. search needs) (λ c. search needs) returns)

@@ -6,17 +6,8 @@ use borrow.Author.Needs.{needs}
 use Rattle.bank.proofs.body.Statement.{statement}
 use Rattle.bank.proofs.body.Tie as tie
 
-find-requires : tie.Need-find-requires
-find-requires c κs = search needs
-
-enum-known-start : tie.Need-enum-known-start
-enum-known-start c = search needs
-
 enum-told : tie.Need-enum-told
 enum-told c = search needs
-
-slice-aggregate-result : tie.Need-slice-aggregate-result
-slice-aggregate-result c = search needs
 
 returns : tie.Need-returns
 returns c =
@@ -41,13 +32,4 @@ returns-2 c =
 pub body-spec : {M : Type 1} → statement M
 body-spec =
     tie.close
-    (tie.spec
-    find-requires
-    enum-known-start
-    enum-told
-    slice-aggregate-result
-    returns
-    sub-result
-    part-result-start
-    part-result-end
-    returns-2)
+    (tie.spec (λ c κs. search needs) (λ c. search needs) enum-told (λ c. search needs) returns sub-result part-result-start part-result-end returns-2)

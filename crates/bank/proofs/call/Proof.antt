@@ -22,20 +22,8 @@ large n ran start end h k = rw (lt-leb (ran + (end - start)) maxCharstringBytes 
 passes : (n ran start end : ℕ) → ran ≤ maxCharstringBytes → end - start ≤ maxCharstringBytes - ran → record { number = 0; index = n; ran = ran + (end - start) } ≡ counted n ran (At start end)
 passes n ran start end h k = rw (le-leb (ran + (end - start)) maxCharstringBytes (omega arith))
 
-to-usize-requires : tie.Need-to-usize-requires
-to-usize-requires c κs = search needs
-
-find-requires : tie.Need-find-requires
-find-requires c κs = search needs
-
-enum-known-start : tie.Need-enum-known-start
-enum-known-start c = search needs
-
 enum-told : tie.Need-enum-told
 enum-told c = search needs
-
-refused-requires : tie.Need-refused-requires
-refused-requires c κs = search needs
 
 returns : tie.Need-returns
 unfolding ofBits
@@ -46,32 +34,20 @@ sub-size : tie.Need-sub-size
 sub-size c =
     found-within _ _ (sym (c .before .before .before .find .ensures) ∙ c .before .start .given .1) .0
 
-refused-requires-2 : tie.Need-refused-requires-2
-refused-requires-2 c κs = search needs
-
 returns-2 : tie.Need-returns-2
 unfolding ofBits
 returns-2 c =
     c .refused2 .ensures ∙ over _ _ _ _ (c .before .if2 .taken) ∙ sym (called-is _ _ _ (c .before .before .before .before .before .before .before .if1 .taken) _ (c .before .before .before .before .before .before .to-usize .ensures) _ (sym (c .before .before .before .before .before .find .ensures) ∙ c .before .before .before .start .given .1))
-
-refused-requires-3 : tie.Need-refused-requires-3
-refused-requires-3 c κs = search needs
 
 returns-3 : tie.Need-returns-3
 unfolding ofBits
 returns-3 c =
     c .refused3 .ensures ∙ large _ _ _ _ (c .before .before .if2 .left) (c .before .if3 .taken) ∙ sym (called-is _ _ _ (c .before .before .before .before .before .before .before .before .if1 .taken) _ (c .before .before .before .before .before .before .before .to-usize .ensures) _ (sym (c .before .before .before .before .before .before .find .ensures) ∙ c .before .before .before .before .start .given .1))
 
-add-total : tie.Need-add-total
-add-total c = search needs
-
 returns-4 : tie.Need-returns-4
 unfolding ofBits
 returns-4 c =
     passes _ _ _ _ (c .before .if2 .left) (c .if3 .left) ∙ sym (called-is _ _ _ (c .before .before .before .before .before .before .before .if1 .taken) _ (c .before .before .before .before .before .before .to-usize .ensures) _ (sym (c .before .before .before .before .before .find .ensures) ∙ c .before .before .before .start .given .1))
-
-refused-requires-4 : tie.Need-refused-requires-4
-refused-requires-4 c κs = search needs
 
 returns-5 : tie.Need-returns-5
 unfolding ofBits
@@ -81,19 +57,5 @@ returns-5 c =
 pub call-spec : {M : Type 1} → statement M
 call-spec =
     tie.close
-    (tie.spec
-    to-usize-requires
-    find-requires
-    enum-known-start
-    enum-told
-    refused-requires
-    returns
-    sub-size
-    refused-requires-2
-    returns-2
-    refused-requires-3
-    returns-3
-    add-total
-    returns-4
-    refused-requires-4
-    returns-5)
+    (tie.spec (λ c κs. search needs) (λ c κs. search needs) (λ c. search needs) enum-told (λ c κs. search needs) returns sub-size (λ c κs. search needs)
+    returns-2 (λ c κs. search needs) returns-3 (λ c. search needs) returns-4 (λ c κs. search needs) returns-5)

@@ -24,59 +24,23 @@ returns : tie.Need-returns
 returns c =
     sym (found-not _ _ (λ w. omega (arith, w .end, c .if1 .taken)))
 
-u16-at-requires : tie.Need-u16-at-requires
-u16-at-requires c κs = search needs
-
 returns-2 : tie.Need-returns-2
 returns-2 c =
     sym (found-not _ _ (λ w. omega (arith, w .below, c .if2 .taken, c .before .u16-at .ensures .0)))
 
-mul-table : tie.Need-mul-table
-mul-table c = search needs
-
-add-table : tie.Need-add-table
-add-table c = search needs
-
 returns-3 : tie.Need-returns-3
 returns-3 c =
     sym (found-not _ _ (λ w. omega (arith, w .end, c .if3 .taken, c .before .before .u16-at .ensures .0)))
-
-mul-u32-at : tie.Need-mul-u32-at
-mul-u32-at c = search needs
-
-add-u32-at : tie.Need-add-u32-at
-add-u32-at c = search needs
-
-u32-at-requires : tie.Need-u32-at-requires
-u32-at-requires c κs = search needs
-
-mul-u32-at-2 : tie.Need-mul-u32-at-2
-mul-u32-at-2 c = search needs
-
-add-u32-at-2 : tie.Need-add-u32-at-2
-add-u32-at-2 c = search needs
-
-u32-at-requires-2 : tie.Need-u32-at-requires-2
-u32-at-requires-2 c κs = search needs
 
 returns-4 : tie.Need-returns-4
 returns-4 c =
     let e = offset-suc (c .before .before .before .before .before .before .before .before .args .bank .now) (c .before .before .before .before .before .before .before .before .args .n) in
     sym (found-not _ _ (λ w. omega (arith, w .order, e, c .if4 .taken, c .before .before .u32-at .ensures .0, c .before .u32-at2 .ensures .0)))
 
-add-if5 : tie.Need-add-if5
-add-if5 c = search needs
-
 returns-5 : tie.Need-returns-5
 returns-5 c =
     let e = offset-suc (c .before .before .before .before .before .before .before .before .before .args .bank .now) (c .before .before .before .before .before .before .before .before .before .args .n) in
     sym (found-not _ _ (λ w. omega (arith, w .end, e, c .if5 .taken, c .before .before .before .before .before .before .u16-at .ensures .0, c .before .before .u32-at2 .ensures .0)))
-
-add-t9 : tie.Need-add-t9
-add-t9 c = search needs
-
-add-t7 : tie.Need-add-t7
-add-t7 c = search needs
 
 returns-6 : tie.Need-returns-6
 returns-6 c =
@@ -85,22 +49,6 @@ returns-6 c =
 pub find-spec : {M : Type 1} → statement M
 find-spec =
     tie.close
-    (tie.spec
-    returns
-    u16-at-requires
-    returns-2
-    mul-table
-    add-table
-    returns-3
-    mul-u32-at
-    add-u32-at
-    u32-at-requires
-    mul-u32-at-2
-    add-u32-at-2
-    u32-at-requires-2
-    returns-4
-    add-if5
-    returns-5
-    add-t9
-    add-t7
-    returns-6)
+    (tie.spec returns (λ c κs. search needs) returns-2 (λ c. search needs) (λ c. search needs) returns-3 (λ c. search needs) (λ c. search needs)
+    (λ c κs. search needs) (λ c. search needs) (λ c. search needs) (λ c κs. search needs) returns-4 (λ c. search needs) returns-5 (λ c. search needs)
+    (λ c. search needs) returns-6)

@@ -44,27 +44,6 @@ module _ (bank : List ℕ) (at p : ℕ) where
     last : (r : Bool) → p ≤ a → a ≤ b → b ≤ c → r ≡ leb c d → r ≡ risesFrom bank p at 4
     last r h k l e = e ∙ (rw (le-leb p a h, le-leb a b k, le-leb b c l) at is)
 
-u32-at-requires : tie.Need-u32-at-requires
-u32-at-requires c κs = search needs
-
-add-u32-at : tie.Need-add-u32-at
-add-u32-at c = search needs
-
-u32-at-requires-2 : tie.Need-u32-at-requires-2
-u32-at-requires-2 c κs = search needs
-
-add-u32-at-2 : tie.Need-add-u32-at-2
-add-u32-at-2 c = search needs
-
-u32-at-requires-3 : tie.Need-u32-at-requires-3
-u32-at-requires-3 c κs = search needs
-
-add-u32-at-3 : tie.Need-add-u32-at-3
-add-u32-at-3 c = search needs
-
-u32-at-requires-4 : tie.Need-u32-at-requires-4
-u32-at-requires-4 c κs = search needs
-
 returns : tie.Need-returns
 returns c =
     falls-1 _ _ _ _ _ _ _ (c .before .before .before .before .u32-at .ensures .0) (c .before .before .before .u32-at2 .ensures .0) (c .before .before .u32-at3 .ensures .0) (c .before .u32-at4 .ensures .0) (c .if1 .taken)
@@ -84,15 +63,5 @@ returns-4 c =
 pub four-rise-spec : {M : Type 1} → statement M
 four-rise-spec =
     tie.close
-    (tie.spec
-    u32-at-requires
-    add-u32-at
-    u32-at-requires-2
-    add-u32-at-2
-    u32-at-requires-3
-    add-u32-at-3
-    u32-at-requires-4
-    returns
-    returns-2
-    returns-3
-    returns-4)
+    (tie.spec (λ c κs. search needs) (λ c. search needs) (λ c κs. search needs) (λ c. search needs) (λ c κs. search needs) (λ c. search needs)
+    (λ c κs. search needs) returns returns-2 returns-3 returns-4)

@@ -83,25 +83,9 @@ returns : tie.Need-returns Inv-loop μ-loop Inv-loop2 μ-loop2
 returns c =
     sym (not-valid _ (λ v. omega (arith, v .table, c .if1 .taken)))
 
-u16-at-requires : tie.Need-u16-at-requires Inv-loop μ-loop Inv-loop2 μ-loop2
-u16-at-requires c κs =
-    omega arith
-
-mul-table : tie.Need-mul-table Inv-loop μ-loop Inv-loop2 μ-loop2
-mul-table c =
-    omega arith
-
-add-table : tie.Need-add-table Inv-loop μ-loop Inv-loop2 μ-loop2
-add-table c =
-    omega arith
-
 returns-2 : tie.Need-returns-2 Inv-loop μ-loop Inv-loop2 μ-loop2
 returns-2 c =
     sym (not-valid _ (λ v. omega (arith, v .table, c .if2 .taken, c .before .u16-at .ensures .0)))
-
-u32-at-requires : tie.Need-u32-at-requires Inv-loop μ-loop Inv-loop2 μ-loop2
-u32-at-requires c κs =
-    omega arith
 
 returns-3 : tie.Need-returns-3 Inv-loop μ-loop Inv-loop2 μ-loop2
 returns-3 c =
@@ -115,41 +99,9 @@ sub-loop : tie.Need-sub-loop Inv-loop μ-loop Inv-loop2 μ-loop2
 sub-loop c =
     omega (arith, c .loop .inv .0)
 
-mul-sixteen-rise : tie.Need-mul-sixteen-rise Inv-loop μ-loop Inv-loop2 μ-loop2
-mul-sixteen-rise c =
-    omega arith
-
-add-sixteen-rise : tie.Need-add-sixteen-rise Inv-loop μ-loop Inv-loop2 μ-loop2
-add-sixteen-rise c =
-    omega arith
-
-sixteen-rise-requires : tie.Need-sixteen-rise-requires Inv-loop μ-loop Inv-loop2 μ-loop2
-sixteen-rise-requires c κs =
-    omega arith
-
 returns-4 : tie.Need-returns-4 Inv-loop μ-loop Inv-loop2 μ-loop2
 returns-4 c =
     sym (not-valid _ (λ v. false-true (sym (not-true _ (c .if4 .taken)) ∙ c .before .sixteen-rise .ensures ∙ all-rise _ _ v (c .before .before .before .before .before .before .before .u16-at .ensures .0) 16 _ _ _ (omega (arith, c .before .before .loop-test .taken)) (c .before .before .before .loop .inv .1) refl)))
-
-mul-u32-at : tie.Need-mul-u32-at Inv-loop μ-loop Inv-loop2 μ-loop2
-mul-u32-at c =
-    omega arith
-
-add-u32-at : tie.Need-add-u32-at Inv-loop μ-loop Inv-loop2 μ-loop2
-add-u32-at c =
-    omega arith
-
-u32-at-requires-2 : tie.Need-u32-at-requires-2 Inv-loop μ-loop Inv-loop2 μ-loop2
-u32-at-requires-2 c κs =
-    omega arith
-
-add-i : tie.Need-add-i Inv-loop μ-loop Inv-loop2 μ-loop2
-add-i c =
-    omega arith
-
-loop-less : tie.Need-loop-less Inv-loop μ-loop Inv-loop2 μ-loop2
-loop-less c =
-    omega arith
 
 loop-again : tie.Need-loop-again Inv-loop μ-loop Inv-loop2 μ-loop2
 loop-again c =
@@ -159,38 +111,14 @@ loop2-holds : tie.Need-loop2-holds Inv-loop μ-loop Inv-loop2 μ-loop2
 loop2-holds c =
     c .before .loop .inv
 
-mul-u32-at-2 : tie.Need-mul-u32-at-2 Inv-loop μ-loop Inv-loop2 μ-loop2
-mul-u32-at-2 c =
-    omega arith
-
-add-u32-at-2 : tie.Need-add-u32-at-2 Inv-loop μ-loop Inv-loop2 μ-loop2
-add-u32-at-2 c =
-    omega arith
-
-u32-at-requires-3 : tie.Need-u32-at-requires-3 Inv-loop μ-loop Inv-loop2 μ-loop2
-u32-at-requires-3 c κs =
-    omega arith
-
 returns-5 : tie.Need-returns-5 Inv-loop μ-loop Inv-loop2 μ-loop2
 returns-5 c =
     let e = offset-suc (c .before .before .before .before .before .before .before .before .before .before .before .before .args .bank .now) (c .before .before .before .loop2 .i) in
     sym (not-valid _ (λ v. omega (arith, v .rising (c .before .before .before .loop2 .i) (omega (arith, c .before .before .loop2-test .taken, c .before .before .before .before .before .before .before .before .before .u16-at .ensures .0)), e, c .if5 .taken, c .before .u32-at3 .ensures .0, c .before .before .before .loop2 .inv .1)))
 
-add-i-2 : tie.Need-add-i-2 Inv-loop μ-loop Inv-loop2 μ-loop2
-add-i-2 c =
-    omega arith
-
-loop2-less : tie.Need-loop2-less Inv-loop μ-loop Inv-loop2 μ-loop2
-loop2-less c =
-    omega arith
-
 loop2-again : tie.Need-loop2-again Inv-loop μ-loop Inv-loop2 μ-loop2
 loop2-again c =
     turn _ _ _ _ _ (c .before .before .loop2-test .taken) (c .before .before .before .loop2 .inv) (c .before .u32-at3 .ensures .0) (c .if5 .left)
-
-sub-result : tie.Need-sub-result Inv-loop μ-loop Inv-loop2 μ-loop2
-sub-result c =
-    omega arith
 
 returns-6 : tie.Need-returns-6 Inv-loop μ-loop Inv-loop2 μ-loop2
 returns-6 c =
@@ -199,37 +127,7 @@ returns-6 c =
 pub is-valid-spec : {M : Type 1} → statement M
 is-valid-spec =
     tie.close
-    (tie.spec
-    Inv-loop
-    μ-loop
-    Inv-loop2
-    μ-loop2
-    returns
-    u16-at-requires
-    mul-table
-    add-table
-    returns-2
-    u32-at-requires
-    returns-3
-    loop-holds
-    sub-loop
-    mul-sixteen-rise
-    add-sixteen-rise
-    sixteen-rise-requires
-    returns-4
-    mul-u32-at
-    add-u32-at
-    u32-at-requires-2
-    add-i
-    loop-less
-    loop-again
-    loop2-holds
-    mul-u32-at-2
-    add-u32-at-2
-    u32-at-requires-3
-    returns-5
-    add-i-2
-    loop2-less
-    loop2-again
-    sub-result
-    returns-6)
+    (tie.spec Inv-loop μ-loop Inv-loop2 μ-loop2 returns (λ c κs. omega arith) (λ c. omega arith) (λ c. omega arith) returns-2 (λ c κs. omega arith)
+    returns-3 loop-holds sub-loop (λ c. omega arith) (λ c. omega arith) (λ c κs. omega arith) returns-4 (λ c. omega arith) (λ c. omega arith)
+    (λ c κs. omega arith) (λ c. omega arith) (λ c. omega arith) loop-again loop2-holds (λ c. omega arith) (λ c. omega arith) (λ c κs. omega arith)
+    returns-5 (λ c. omega arith) (λ c. omega arith) loop2-again (λ c. omega arith) returns-6)

@@ -24,9 +24,6 @@ module _ (bank : List ℕ) (size : ℕ) where
   unfolding refusedBefore
   passes e h = rw (e, le-leb size maxCharstringBytes h)
 
-is-valid-requires : tie.Need-is-valid-requires
-is-valid-requires c κs = search needs
-
 returns : tie.Need-returns
 returns c =
     layout _ _ (sym (c .before .is-valid .ensures) ∙ not-true _ (c .if1 .taken))
@@ -40,4 +37,4 @@ returns-3 c =
     passes _ _ (sym (c .before .before .is-valid .ensures) ∙ not-false _ (c .before .if1 .left)) (c .if2 .left)
 
 pub refused-before-spec : {M : Type 1} → statement M
-refused-before-spec = tie.close (tie.spec is-valid-requires returns returns-2 returns-3)
+refused-before-spec = tie.close (tie.spec (λ c κs. search needs) returns returns-2 returns-3)

@@ -34,59 +34,20 @@ module _ (bank : List ℕ) where
   ends : (p at n : ℕ) (a : Bool) → a ≡ risesFrom bank p at 4 → a ≡ false → false ≡ risesFrom bank p at (suc (suc (suc (suc n))))
   ends p at n a ea f = rw (four-more p at n, sym ea ∙ f) refl
 
-four-rise-requires : tie.Need-four-rise-requires
-four-rise-requires c κs = search needs
-
 returns : tie.Need-returns
 returns c =
     ends _ _ _ 12 _ (c .before .four-rise .ensures) (not-true _ (c .if1 .taken))
-
-add-four-rise : tie.Need-add-four-rise
-add-four-rise c = search needs
-
-add-u32-at : tie.Need-add-u32-at
-add-u32-at c = search needs
-
-u32-at-requires : tie.Need-u32-at-requires
-u32-at-requires c κs = search needs
-
-four-rise-requires-2 : tie.Need-four-rise-requires-2
-four-rise-requires-2 c κs = search needs
 
 returns-2 : tie.Need-returns-2
 returns-2 c =
     ends _ _ _ 8 _ (c .before .four-rise2 .ensures) (not-true _ (c .if2 .taken))
     ∙ sym (more _ _ _ _ _ _ 12 _ (c .before .before .before .before .four-rise .ensures) (not-false _ (c .before .before .before .if1 .left)) (c .before .before .u32-at .ensures .0) refl refl)
 
-add-four-rise-2 : tie.Need-add-four-rise-2
-add-four-rise-2 c = search needs
-
-add-u32-at-2 : tie.Need-add-u32-at-2
-add-u32-at-2 c = search needs
-
-u32-at-requires-2 : tie.Need-u32-at-requires-2
-u32-at-requires-2 c κs = search needs
-
-four-rise-requires-3 : tie.Need-four-rise-requires-3
-four-rise-requires-3 c κs = search needs
-
 returns-3 : tie.Need-returns-3
 returns-3 c =
     ends _ _ _ 4 _ (c .before .four-rise3 .ensures) (not-true _ (c .if3 .taken))
     ∙ sym (more _ _ _ _ _ _ 8 _ (c .before .before .before .before .four-rise2 .ensures) (not-false _ (c .before .before .before .if2 .left)) (c .before .before .u32-at2 .ensures .0) (omega arith) (omega arith))
     ∙ sym (more _ _ _ _ _ _ 12 _ (c .before .before .before .before .before .before .before .four-rise .ensures) (not-false _ (c .before .before .before .before .before .before .if1 .left)) (c .before .before .before .before .before .u32-at .ensures .0) refl refl)
-
-add-four-rise-3 : tie.Need-add-four-rise-3
-add-four-rise-3 c = search needs
-
-add-u32-at-3 : tie.Need-add-u32-at-3
-add-u32-at-3 c = search needs
-
-u32-at-requires-3 : tie.Need-u32-at-requires-3
-u32-at-requires-3 c κs = search needs
-
-four-rise-requires-4 : tie.Need-four-rise-requires-4
-four-rise-requires-4 c κs = search needs
 
 returns-4 : tie.Need-returns-4
 returns-4 c =
@@ -98,21 +59,6 @@ returns-4 c =
 pub sixteen-rise-spec : {M : Type 1} → statement M
 sixteen-rise-spec =
     tie.close
-    (tie.spec
-    four-rise-requires
-    returns
-    add-four-rise
-    add-u32-at
-    u32-at-requires
-    four-rise-requires-2
-    returns-2
-    add-four-rise-2
-    add-u32-at-2
-    u32-at-requires-2
-    four-rise-requires-3
-    returns-3
-    add-four-rise-3
-    add-u32-at-3
-    u32-at-requires-3
-    four-rise-requires-4
-    returns-4)
+    (tie.spec (λ c κs. search needs) returns (λ c. search needs) (λ c. search needs) (λ c κs. search needs) (λ c κs. search needs) returns-2
+    (λ c. search needs) (λ c. search needs) (λ c κs. search needs) (λ c κs. search needs) returns-3 (λ c. search needs) (λ c. search needs)
+    (λ c κs. search needs) (λ c κs. search needs) returns-4)

@@ -10,9 +10,6 @@ use Rattle.binary64.proofs.floor.Tie as tie
 held : (c : tie.Start) → T (fits binary64 (c .args .v))
 held c = subst T (sym (c .good .0 .1)) tt
 
-round-requires : tie.Need-round-requires
-round-requires c κs = search needs
-
 returns : tie.Need-returns
 unfolding ofBits
 returns c = floor-taken _ _ (held (c .before .before)) (c .before .round .ensures) (c .if1 .taken)
@@ -21,4 +18,4 @@ returns-2 : tie.Need-returns-2
 returns-2 c = floor-left _ _ (held (c .before .before)) (c .before .round .ensures) (c .if1 .left)
 
 pub floor-spec : {M : Type 1} → statement M
-floor-spec = tie.close (tie.spec round-requires returns returns-2)
+floor-spec = tie.close (tie.spec (λ c κs. search needs) returns returns-2)

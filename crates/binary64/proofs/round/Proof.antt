@@ -28,10 +28,7 @@ returns c = let s = c .before in at-zero binary64 (s .args .v) (held s) (c .if1 
 returns-2 : tie.Need-returns-2
 returns-2 c = ap neg (c .round-positive .ensures) ∙ away-neg binary64 (c .before .before .before .args .v)
 
-returns-3 : tie.Need-returns-3
-returns-3 c = search needs
-
 pub round-spec : {M : Type 1} → statement M
 round-spec =
     tie.close
-    (tie.spec round-positive-requires round-positive-requires-2 returns returns-2 returns-3)
+    (tie.spec round-positive-requires round-positive-requires-2 returns returns-2 (λ c. search needs))

@@ -8,16 +8,10 @@ use Rattle.board.proofs.cribstork_choose_widths.Reads as reads
 use Rattle.board.proofs.cribstork_choose_widths.Lts as lts
 use Rattle.widths.proofs.choose_widths.Reads as choose-widths-reads
 
-choose-widths-requires : tie.Need-choose-widths-requires
-choose-widths-requires c κs = search needs
-
-same-length : tie.Need-same-length
-same-length c = search needs
-
 returns : tie.Need-returns
 returns c =
     let given = c .before .before .before .choose-widths .ensures in
     (ap (λ (y : Chosen). y .number) (given .0), (ap pairOf (given .0), given .1))
 
 pub cribstork-choose-widths-spec : {M : Type 1} → statement M
-cribstork-choose-widths-spec = tie.close (tie.spec choose-widths-requires same-length returns)
+cribstork-choose-widths-spec = tie.close (tie.spec (λ c κs. search needs) (λ c. search needs) returns)

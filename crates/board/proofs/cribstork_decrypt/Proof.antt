@@ -8,16 +8,10 @@ use Rattle.board.proofs.cribstork_decrypt.Reads as reads
 use Rattle.board.proofs.cribstork_decrypt.Lts as lts
 use Rattle.charstring.proofs.decrypt_charstring.Reads as decrypt-charstring-reads
 
-decrypt-charstring-requires : tie.Need-decrypt-charstring-requires
-decrypt-charstring-requires c κs = search needs
-
-same-length : tie.Need-same-length
-same-length c = search needs
-
 returns : tie.Need-returns
 returns c =
     let given = c .before .before .before .decrypt-charstring .ensures in
     (ap (λ (y : Decrypted). y .number) (given .0), (ap decryptedWords (given .0), given .1))
 
 pub cribstork-decrypt-spec : {M : Type 1} → statement M
-cribstork-decrypt-spec = tie.close (tie.spec decrypt-charstring-requires same-length returns)
+cribstork-decrypt-spec = tie.close (tie.spec (λ c κs. search needs) (λ c. search needs) returns)

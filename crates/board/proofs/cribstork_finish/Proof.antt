@@ -14,15 +14,6 @@ use Rattle.board.proofs.cribstork_finish.Reads as reads
 use Rattle.board.proofs.cribstork_finish.Lts as lts
 use Rattle.type1_to_type2.proofs.Type2Glyph.charstring.Reads as charstring-reads
 
-widths-of-requires : tie.Need-widths-of-requires
-widths-of-requires c κs = search needs
-
-charstring-requires : tie.Need-charstring-requires
-charstring-requires c κs = search needs
-
-same-length : tie.Need-same-length
-same-length c = search needs
-
 returns : tie.Need-returns
 returns c =
     let a = c .before .before .before .before .before .before .before .before .args in
@@ -38,4 +29,4 @@ returns c =
 pub cribstork-finish-spec : {M : Type 1} → statement M
 cribstork-finish-spec =
     tie.close
-    (tie.spec widths-of-requires charstring-requires same-length returns)
+    (tie.spec (λ c κs. search needs) (λ c κs. search needs) (λ c. search needs) returns)

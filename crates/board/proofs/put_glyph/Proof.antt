@@ -7,8 +7,5 @@ use Rattle.board.proofs.put_glyph.Tie as tie
 float-to-bits-t4 : tie.Need-float-to-bits-t4
 float-to-bits-t4 c = finite-number (c .before .args .g .width) (c .before .pre)
 
-returns : tie.Need-returns
-returns c = search needs
-
 pub put-glyph-spec : {M : Type 1} → statement M
-put-glyph-spec = tie.close (tie.spec float-to-bits-t4 returns)
+put-glyph-spec = tie.close (tie.spec float-to-bits-t4 (λ c. search needs))

@@ -35,18 +35,9 @@ whole lenIV n code d copied {k} {out} h is e same o =
     let count : n ≡ length (plain lenIV code) = is .all ∙ ap length p in
     (rw (le-leb _ _ h, count), rw (le-leb _ _ h, o, same, is .front, p, count))
 
-new-requires : tie.Need-new-requires
-new-requires c κs = search needs
-
 sub-length : tie.Need-sub-length
 sub-length c =
     rw (c .before .new .ensures) (start-within _ _)
-
-zero-from-requires : tie.Need-zero-from-requires
-zero-from-requires c κs = search needs
-
-same-length : tie.Need-same-length
-same-length c = search needs
 
 returns : tie.Need-returns
 returns c =
@@ -58,12 +49,6 @@ copy-rest-requires : tie.Need-copy-rest-requires
 copy-rest-requires c κs =
     omega (arith, rest-length (c .before .before .before .new .result) (c .before .before .before .before .before .before .args .«data» .now), c .before .if1 .left)
 
-zero-from-requires-2 : tie.Need-zero-from-requires-2
-zero-from-requires-2 c κs = search needs
-
-same-length-2 : tie.Need-same-length-2
-same-length-2 c = search needs
-
 returns-2 : tie.Need-returns-2
 returns-2 c =
     let h = left (c .before .before .before .before .before .before .before .before .before .before .before .before .before .args .len-iv) (c .before .before .before .before .before .before .before .before .before .before .before .before .before .args .«data» .now) (c .before .before .before .before .before .before .before .before .before .before .new .result) (c .before .before .before .before .before .before .before .before .before .before .new .ensures) in
@@ -72,13 +57,5 @@ returns-2 c =
 pub decrypt-charstring-spec : {M : Type 1} → statement M
 decrypt-charstring-spec =
     tie.close
-    (tie.spec
-    new-requires
-    sub-length
-    zero-from-requires
-    same-length
-    returns
-    copy-rest-requires
-    zero-from-requires-2
-    same-length-2
-    returns-2)
+    (tie.spec (λ c κs. search needs) sub-length (λ c κs. search needs) (λ c. search needs) returns copy-rest-requires (λ c κs. search needs)
+    (λ c. search needs) returns-2)

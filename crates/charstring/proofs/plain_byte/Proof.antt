@@ -5,12 +5,9 @@ use Rattle.charstring.specs.Cipher.{plainByte}
 use Rattle.charstring.proofs.plain_byte.Statement.{statement}
 use Rattle.charstring.proofs.plain_byte.Tie as tie
 
-cast-result : tie.Need-cast-result
-cast-result c = search needs
-
 returns : tie.Need-returns
 unfolding plainByte
 returns c = refl
 
 pub plain-byte-spec : {M : Type 1} → statement M
-plain-byte-spec = tie.close (tie.spec cast-result returns)
+plain-byte-spec = tie.close (tie.spec (λ c. search needs) returns)

@@ -12,11 +12,5 @@ mul-wide c =
     let b : c .args .b ≤ 65535 = omega arith in
     omega (arith, mul-le-mul a b)
 
-cast-result : tie.Need-cast-result
-cast-result c = search needs
-
-returns : tie.Need-returns
-returns c = search needs
-
 pub wrapping-mul-u16-spec : {M : Type 1} → statement M
-wrapping-mul-u16-spec = tie.close (tie.spec mul-wide cast-result returns)
+wrapping-mul-u16-spec = tie.close (tie.spec mul-wide (λ c. search needs) (λ c. search needs))

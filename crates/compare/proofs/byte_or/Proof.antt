@@ -7,10 +7,6 @@ use borrow.Author.Needs.{needs}
 use Rattle.compare.proofs.byte_or.Statement.{statement}
 use Rattle.compare.proofs.byte_or.Tie as tie
 
-shared-slice-read-result : tie.Need-shared-slice-read-result
-shared-slice-read-result c =
-    search needs
-
 returns : tie.Need-returns
 returns c =
     getD-any (c .before .before .args .front .now) (c .before .before .args .at) 0 (c .before .before .args .rest) (omega arith)
@@ -20,4 +16,4 @@ returns-2 c =
     sym (List·getD-eq-default (c .before .args .front .now) (c .before .args .rest) (omega arith))
 
 pub byte-or-spec : {M : Type 1} → statement M
-byte-or-spec = tie.close (tie.spec shared-slice-read-result returns returns-2)
+byte-or-spec = tie.close (tie.spec (λ c. search needs) returns returns-2)

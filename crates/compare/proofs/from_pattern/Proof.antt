@@ -15,8 +15,5 @@ returns : tie.Need-returns
 unfolding ofBits div
 returns c = sym (nan-of (c .before .args .bits) (nanBits-above binary64 (c .before .args .bits) ∙ lt-ltb _ _ (c .if1 .taken)))
 
-returns-2 : tie.Need-returns-2
-returns-2 c = search needs
-
 pub from-pattern-spec : {M : Type 1} → statement M
-from-pattern-spec = tie.close (tie.spec float-from-bits-result returns returns-2)
+from-pattern-spec = tie.close (tie.spec float-from-bits-result returns (λ c. search needs))

@@ -23,29 +23,11 @@ loop-holds : tie.Need-loop-holds Inv-loop μ-loop
 loop-holds c =
     (omega arith, λ k h. absurd (not-suc-le-zero h))
 
-mul-same : tie.Need-mul-same Inv-loop μ-loop
-mul-same c = search needs
-
-shared-slice-read-same : tie.Need-shared-slice-read-same Inv-loop μ-loop
-shared-slice-read-same c = search needs
-
-zero-or-requires : tie.Need-zero-or-requires Inv-loop μ-loop
-zero-or-requires c κs = search needs
-
-same-requires : tie.Need-same-requires Inv-loop μ-loop
-same-requires c κs = search needs
-
 returns : tie.Need-returns Inv-loop μ-loop
 returns c =
     let w = c .before .before .before .before .before .loop in
     let a = c .before .before .before .before .before .before .before .args in
     (λ h. absurd h, λ p. subst T (not-true (c .before .same .result) (c .if1 .taken)) (c .before .same .ensures .1 (then-front nan (a .xs .now) (replicate (a .n) plusZero) (a .rest) p (w .i) (omega arith) ∙ sym (c .before .before .zero-or .ensures))))
-
-add-i : tie.Need-add-i Inv-loop μ-loop
-add-i c = search needs
-
-loop-less : tie.Need-loop-less Inv-loop μ-loop
-loop-less c = search needs
 
 loop-again : tie.Need-loop-again Inv-loop μ-loop
 loop-again c =
@@ -63,16 +45,5 @@ returns-2 c =
 pub is-cleared-spec : {M : Type 1} → statement M
 is-cleared-spec =
     tie.close
-    (tie.spec
-    Inv-loop
-    μ-loop
-    loop-holds
-    mul-same
-    shared-slice-read-same
-    zero-or-requires
-    same-requires
-    returns
-    add-i
-    loop-less
-    loop-again
-    returns-2)
+    (tie.spec Inv-loop μ-loop loop-holds (λ c. search needs) (λ c. search needs) (λ c κs. search needs) (λ c κs. search needs) returns (λ c. search needs)
+    (λ c. search needs) loop-again returns-2)

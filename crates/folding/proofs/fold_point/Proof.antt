@@ -9,12 +9,9 @@ returns : tie.Need-returns
 returns c =
     point-left _ _ _ (c .if1 .taken)
 
-transform-point-requires : tie.Need-transform-point-requires
-transform-point-requires c κs = search needs
-
 returns-2 : tie.Need-returns-2
 returns-2 c =
     c .transform-point .ensures ∙ point-moved _ _ _ (c .before .if1 .left)
 
 pub fold-point-spec : {M : Type 1} → statement M
-fold-point-spec = tie.close (tie.spec returns transform-point-requires returns-2)
+fold-point-spec = tie.close (tie.spec returns (λ c κs. search needs) returns-2)

@@ -9,12 +9,9 @@ returns : tie.Need-returns
 returns c =
     stem-left _ _ (c .if1 .taken)
 
-transform-stem-requires : tie.Need-transform-stem-requires
-transform-stem-requires c κs = search needs
-
 returns-2 : tie.Need-returns-2
 returns-2 c =
     c .transform-stem .ensures ∙ stem-moved _ _ (c .before .if1 .left)
 
 pub fold-stem-spec : {M : Type 1} → statement M
-fold-stem-spec = tie.close (tie.spec returns transform-stem-requires returns-2)
+fold-stem-spec = tie.close (tie.spec returns (λ c κs. search needs) returns-2)

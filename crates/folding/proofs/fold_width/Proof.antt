@@ -7,13 +7,10 @@ use borrow.Author.Needs.{needs}
 use Rattle.folding.proofs.fold_width.Statement.{statement}
 use Rattle.folding.proofs.fold_width.Tie as tie
 
-transform-delta-requires : tie.Need-transform-delta-requires
-transform-delta-requires c κs = search needs
-
 returns : tie.Need-returns
 unfolding foldedWidth ofBits
 returns c =
     ap (λ (p : Point). p .x) (c .transform-delta .ensures)
 
 pub fold-width-spec : {M : Type 1} → statement M
-fold-width-spec = tie.close (tie.spec transform-delta-requires returns)
+fold-width-spec = tie.close (tie.spec (λ c κs. search needs) returns)

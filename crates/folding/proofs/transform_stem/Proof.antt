@@ -5,27 +5,15 @@ use borrow.Author.Needs.{needs}
 use Rattle.folding.proofs.transform_stem.Statement.{statement}
 use Rattle.folding.proofs.transform_stem.Tie as tie
 
-fold-edge-requires : tie.Need-fold-edge-requires
-fold-edge-requires c κs = search needs
-
 returns : tie.Need-returns
 unfolding ofBits neg
 returns c =
     stem-21 _ _ _ (c .before .before .if1 .taken) (c .fold-edge .ensures)
 
-fold-edge-requires-2 : tie.Need-fold-edge-requires-2
-fold-edge-requires-2 c κs = search needs
-
 returns-2 : tie.Need-returns-2
 unfolding ofBits neg
 returns-2 c =
     stem-20 _ _ _ (c .before .before .before .if1 .left) (c .before .if2 .taken) (c .fold-edge2 .ensures)
-
-fold-edge-requires-3 : tie.Need-fold-edge-requires-3
-fold-edge-requires-3 c κs = search needs
-
-scale-width-requires : tie.Need-scale-width-requires
-scale-width-requires c κs = search needs
 
 returns-3 : tie.Need-returns-3
 unfolding ofBits neg
@@ -35,11 +23,4 @@ returns-3 c =
 pub transform-stem-spec : {M : Type 1} → statement M
 transform-stem-spec =
     tie.close
-    (tie.spec
-    fold-edge-requires
-    returns
-    fold-edge-requires-2
-    returns-2
-    fold-edge-requires-3
-    scale-width-requires
-    returns-3)
+    (tie.spec (λ c κs. search needs) returns (λ c κs. search needs) returns-2 (λ c κs. search needs) (λ c κs. search needs) returns-3)

@@ -6,12 +6,9 @@ use borrow.Author.Needs.{needs}
 use Rattle.geometry.proofs.round10.Statement.{statement}
 use Rattle.geometry.proofs.round10.Tie as tie
 
-round-requires : tie.Need-round-requires
-round-requires c κs = search needs
-
 returns : tie.Need-returns
 unfolding ofBits rounded10
 returns c = ap (λ (z : Float). div binary64 z tenBillion) (c .round .ensures)
 
 pub round10-spec : {M : Type 1} → statement M
-round10-spec = tie.close (tie.spec round-requires returns)
+round10-spec = tie.close (tie.spec (λ c κs. search needs) returns)

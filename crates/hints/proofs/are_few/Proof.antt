@@ -20,9 +20,6 @@ few a u h = sym (choose (ltb u (97 - a)) refl)
 many : (a u : ℕ) → 97 ≤ a → false ≡ areFew a u
 many a u h = sym (le-ltb (a + u) 97 (omega arith))
 
-sub-result : tie.Need-sub-result
-sub-result c = search needs
-
 returns : tie.Need-returns
 returns c = few _ _ (c .if1 .taken)
 
@@ -30,4 +27,4 @@ returns-2 : tie.Need-returns-2
 returns-2 c = many _ (c .before .args .upright) (c .if1 .left)
 
 pub are-few-spec : {M : Type 1} → statement M
-are-few-spec = tie.close (tie.spec sub-result returns returns-2)
+are-few-spec = tie.close (tie.spec (λ c. search needs) returns returns-2)

@@ -9,9 +9,6 @@ returns : tie.Need-returns
 returns c =
     taken-few _ _ (c .if1 .taken)
 
-to-usize-requires : tie.Need-to-usize-requires
-to-usize-requires c κs = search needs
-
 returns-2 : tie.Need-returns-2
 unfolding ofBits
 returns-2 c =
@@ -28,4 +25,4 @@ returns-4 c =
     taken-below _ _ (c .before .if1 .left) (c .if2 .left)
 
 pub arguments-spec : {M : Type 1} → statement M
-arguments-spec = tie.close (tie.spec returns to-usize-requires returns-2 returns-3 returns-4)
+arguments-spec = tie.close (tie.spec returns (λ c κs. search needs) returns-2 returns-3 returns-4)

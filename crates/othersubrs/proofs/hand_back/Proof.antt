@@ -50,33 +50,6 @@ loop-holds : tie.Need-loop-holds Inv-loop μ-loop
 loop-holds c =
     begun (c .before .before .before .before .args .args .now) _ (c .before .before .before .before .args .held)
 
-sub-stack : tie.Need-sub-stack Inv-loop μ-loop
-sub-stack c = omega arith
-
-sub-stack-2 : tie.Need-sub-stack-2 Inv-loop μ-loop
-sub-stack-2 c = omega arith
-
-mul-stack : tie.Need-mul-stack Inv-loop μ-loop
-mul-stack c = omega arith
-
-shared-slice-read-stack : tie.Need-shared-slice-read-stack Inv-loop μ-loop
-shared-slice-read-stack c = omega arith
-
-add-stack : tie.Need-add-stack Inv-loop μ-loop
-add-stack c = omega arith
-
-mul-stack-2 : tie.Need-mul-stack-2 Inv-loop μ-loop
-mul-stack-2 c = omega arith
-
-element-write-stack : tie.Need-element-write-stack Inv-loop μ-loop
-element-write-stack c = omega arith
-
-add-i : tie.Need-add-i Inv-loop μ-loop
-add-i c = omega arith
-
-loop-less : tie.Need-loop-less Inv-loop μ-loop
-loop-less c = omega arith
-
 loop-again : tie.Need-loop-again Inv-loop μ-loop
 loop-again c =
     let l = c .before .before .before .before .before .all2 .given .0 in
@@ -90,20 +63,5 @@ returns-3 c =
 pub hand-back-spec : {M : Type 1} → statement M
 hand-back-spec =
     tie.close
-    (tie.spec
-    Inv-loop
-    μ-loop
-    returns
-    returns-2
-    loop-holds
-    sub-stack
-    sub-stack-2
-    mul-stack
-    shared-slice-read-stack
-    add-stack
-    mul-stack-2
-    element-write-stack
-    add-i
-    loop-less
-    loop-again
-    returns-3)
+    (tie.spec Inv-loop μ-loop returns returns-2 loop-holds (λ c. omega arith) (λ c. omega arith) (λ c. omega arith) (λ c. omega arith) (λ c. omega arith)
+    (λ c. omega arith) (λ c. omega arith) (λ c. omega arith) (λ c. omega arith) loop-again returns-3)

@@ -17,24 +17,9 @@ use Rattle.type1.proofs.end_flex.Reads as end-flex-reads
 use Rattle.type1.proofs.hand_back.Reads as hand-back-reads
 use Rattle.type1.proofs.made.Reads as made-reads
 
-made-requires : tie.Need-made-requires
-made-requires c κs = search needs
-
 returns : tie.Need-returns
 returns c =
     (others-none _ _ _ _ _ _ _ _ _ _ _ (c .made .ensures) (c .before .if1 .taken), λ n. absurd (n (ap (λ (q : Ran). q .st .groups) (c .made .ensures))))
-
-mul-arguments : tie.Need-mul-arguments
-mul-arguments c = search needs
-
-element-copy-out-arguments : tie.Need-element-copy-out-arguments
-element-copy-out-arguments c = search needs
-
-arguments-requires : tie.Need-arguments-requires
-arguments-requires c κs = search needs
-
-made-requires-2 : tie.Need-made-requires-2
-made-requires-2 c κs = search needs
 
 returns-2 : tie.Need-returns-2
 returns-2 c =
@@ -44,75 +29,39 @@ sub-from : tie.Need-sub-from
 sub-from c =
     (taken-told _ _ _ (c .before .before .arguments .ensures) (c .if2 .left)) .2
 
-add-to-i64 : tie.Need-add-to-i64
-add-to-i64 c = search needs
-
-mul-to-i64 : tie.Need-mul-to-i64
-mul-to-i64 c = search needs
-
-element-copy-out-to-i64 : tie.Need-element-copy-out-to-i64
-element-copy-out-to-i64 c = search needs
-
-to-i64-requires : tie.Need-to-i64-requires
-to-i64-requires c κs = search needs
-
 end-flex-requires : tie.Need-end-flex-requires
 unfolding ofBits
 end-flex-requires c κs =
     (fewer-bounds (c .before .before .before .before .before .before .before .before .before .before .before .before .before .args .st) _ _ (c .before .before .before .before .before .before .before .before .before .before .before .before .before .pre .0) (omega (arith, (taken-told _ _ _ (c .before .before .before .before .before .before .before .before .before .arguments .ensures) (c .before .before .before .before .before .before .before .if2 .left)) .2)), (c .before .before .before .before .before .before .before .before .before .before .before .before .before .pre .1 .0, (tt, c .before .before .before .before .before .before .before .before .before .before .before .before .before .pre .1 .1 .points)))
-
-same-length : tie.Need-same-length
-same-length c = search needs
 
 returns-3 : tie.Need-returns-3
 unfolding ofBits
 returns-3 c =
     (others-flex _ _ _ _ _ _ _ _ (c .before .before .before .before .before .before .before .before .before .before .before .before .before .before .if1 .left) ((taken-told _ _ _ (c .before .before .before .before .before .before .before .before .before .before .before .before .arguments .ensures) (c .before .before .before .before .before .before .before .before .before .before .if2 .left)) .0) _ ((taken-told _ _ _ (c .before .before .before .before .before .before .before .before .before .before .before .before .arguments .ensures) (c .before .before .before .before .before .before .before .before .before .before .if2 .left)) .1) ((taken-told _ _ _ (c .before .before .before .before .before .before .before .before .before .before .before .before .arguments .ensures) (c .before .before .before .before .before .before .before .before .before .before .if2 .left)) .2) _ (c .before .before .before .before .before .before .before .before .to-i64 .ensures) (c .before .before .before .before .before .before .before .before .to-i64 .ok) _ _ _ (c .before .before .before .before .before .before .before .if3 .taken) (λ o b. height-none _ _ _ (c .before .before .before .before .before .before .if4 .taken)) (c .before .before .end-flex .ensures .0), c .before .before .end-flex .ensures .1)
 
-mul-end-flex : tie.Need-mul-end-flex
-mul-end-flex c = search needs
-
-element-copy-out-end-flex : tie.Need-element-copy-out-end-flex
-element-copy-out-end-flex c = search needs
-
 end-flex-requires-2 : tie.Need-end-flex-requires-2
 end-flex-requires-2 c κs =
     (fewer-bounds (c .before .before .before .before .before .before .before .before .before .before .before .before .before .before .args .st) _ _ (c .before .before .before .before .before .before .before .before .before .before .before .before .before .before .pre .0) (omega (arith, (taken-told _ _ _ (c .before .before .before .before .before .before .before .before .before .before .arguments .ensures) (c .before .before .before .before .before .before .before .before .if2 .left)) .2)), (c .before .before .before .before .before .before .before .before .before .before .before .before .before .before .pre .1 .0, (c .before .before .before .before .before .before .before .before .before .before .before .before .before .before .pre .1 .1 .operands _ (omega (arith, c .before .before .before .before .before .before .before .before .before .before .before .before .if1 .left)), c .before .before .before .before .before .before .before .before .before .before .before .before .before .before .pre .1 .1 .points)))
-
-same-length-2 : tie.Need-same-length-2
-same-length-2 c = search needs
 
 returns-4 : tie.Need-returns-4
 unfolding ofBits
 returns-4 c =
     (others-flex _ _ _ _ _ _ _ _ (c .before .before .before .before .before .before .before .before .before .before .before .before .before .before .before .if1 .left) ((taken-told _ _ _ (c .before .before .before .before .before .before .before .before .before .before .before .before .before .arguments .ensures) (c .before .before .before .before .before .before .before .before .before .before .before .if2 .left)) .0) _ ((taken-told _ _ _ (c .before .before .before .before .before .before .before .before .before .before .before .before .before .arguments .ensures) (c .before .before .before .before .before .before .before .before .before .before .before .if2 .left)) .1) ((taken-told _ _ _ (c .before .before .before .before .before .before .before .before .before .before .before .before .before .arguments .ensures) (c .before .before .before .before .before .before .before .before .before .before .before .if2 .left)) .2) _ (c .before .before .before .before .before .before .before .before .before .to-i64 .ensures) (c .before .before .before .before .before .before .before .before .before .to-i64 .ok) _ _ _ (c .before .before .before .before .before .before .before .before .if3 .taken) (λ o b. height-first _ _ _ (c .before .before .before .before .before .before .before .if4 .left) ((taken-told _ _ _ (c .before .before .before .before .before .before .before .before .before .before .before .before .before .arguments .ensures) (c .before .before .before .before .before .before .before .before .before .before .before .if2 .left)) .2) (omega arith)) (c .before .before .end-flex2 .ensures .0), c .before .before .end-flex2 .ensures .1)
 
-made-requires-3 : tie.Need-made-requires-3
-made-requires-3 c κs = search needs
-
 returns-5 : tie.Need-returns-5
 unfolding ofBits
 returns-5 c =
     (others-begin _ _ _ _ _ _ _ _ (c .before .before .before .before .before .before .before .before .before .if1 .left) ((taken-told _ _ _ (c .before .before .before .before .before .before .before .arguments .ensures) (c .before .before .before .before .before .if2 .left)) .0) _ ((taken-told _ _ _ (c .before .before .before .before .before .before .before .arguments .ensures) (c .before .before .before .before .before .if2 .left)) .1) ((taken-told _ _ _ (c .before .before .before .before .before .before .before .arguments .ensures) (c .before .before .before .before .before .if2 .left)) .2) _ (c .before .before .before .to-i64 .ensures) (c .before .before .before .to-i64 .ok) (c .before .before .if3 .left) (c .made3 .ensures) (c .before .if5 .taken), λ n. absurd (n (ap (λ (q : Ran). q .st .groups) (c .made3 .ensures))))
-
-collect-requires : tie.Need-collect-requires
-collect-requires c κs = search needs
 
 returns-6 : tie.Need-returns-6
 unfolding ofBits
 returns-6 c =
     (others-collect _ _ _ _ _ _ _ _ (c .before .before .before .before .before .before .before .before .before .before .before .if1 .left) ((taken-told _ _ _ (c .before .before .before .before .before .before .before .before .before .arguments .ensures) (c .before .before .before .before .before .before .before .if2 .left)) .0) _ ((taken-told _ _ _ (c .before .before .before .before .before .before .before .before .before .arguments .ensures) (c .before .before .before .before .before .before .before .if2 .left)) .1) ((taken-told _ _ _ (c .before .before .before .before .before .before .before .before .before .arguments .ensures) (c .before .before .before .before .before .before .before .if2 .left)) .2) _ (c .before .before .before .before .before .to-i64 .ensures) (c .before .before .before .before .before .to-i64 .ok) (c .before .before .before .before .if3 .left) (c .before .before .before .if5 .left) _ (c .before .before .if6 .taken) (c .collect .ensures .1) (c .collect .ensures .0), λ n. absurd (n (c .collect .ensures .1)))
 
-hand-back-requires : tie.Need-hand-back-requires
-hand-back-requires c κs = search needs
-
 returns-7 : tie.Need-returns-7
 unfolding ofBits
 returns-7 c =
     (others-hints _ _ _ _ _ _ _ _ (c .before .before .before .before .before .before .before .before .before .before .before .before .if1 .left) ((taken-told _ _ _ (c .before .before .before .before .before .before .before .before .before .before .arguments .ensures) (c .before .before .before .before .before .before .before .before .if2 .left)) .0) _ ((taken-told _ _ _ (c .before .before .before .before .before .before .before .before .before .before .arguments .ensures) (c .before .before .before .before .before .before .before .before .if2 .left)) .1) ((taken-told _ _ _ (c .before .before .before .before .before .before .before .before .before .before .arguments .ensures) (c .before .before .before .before .before .before .before .before .if2 .left)) .2) _ (c .before .before .before .before .before .before .to-i64 .ensures) (c .before .before .before .before .before .before .to-i64 .ok) (c .before .before .before .before .before .if3 .left) (c .before .before .before .before .if5 .left) (c .before .before .before .if6 .left) _ (c .before .before .if7 .taken) (c .hand-back .ensures .1) (c .hand-back .ensures .0), λ n. absurd (n (c .hand-back .ensures .1)))
-
-hand-back-requires-2 : tie.Need-hand-back-requires-2
-hand-back-requires-2 c κs = search needs
 
 returns-8 : tie.Need-returns-8
 unfolding ofBits
@@ -122,32 +71,7 @@ returns-8 c =
 pub callothersubr-spec : {M : Type 1} → statement M
 callothersubr-spec =
     tie.close
-    (tie.spec
-    made-requires
-    returns
-    mul-arguments
-    element-copy-out-arguments
-    arguments-requires
-    made-requires-2
-    returns-2
-    sub-from
-    add-to-i64
-    mul-to-i64
-    element-copy-out-to-i64
-    to-i64-requires
-    end-flex-requires
-    same-length
-    returns-3
-    mul-end-flex
-    element-copy-out-end-flex
-    end-flex-requires-2
-    same-length-2
-    returns-4
-    made-requires-3
-    returns-5
-    collect-requires
-    returns-6
-    hand-back-requires
-    returns-7
-    hand-back-requires-2
-    returns-8)
+    (tie.spec (λ c κs. search needs) returns (λ c. search needs) (λ c. search needs) (λ c κs. search needs) (λ c κs. search needs) returns-2 sub-from
+    (λ c. search needs) (λ c. search needs) (λ c. search needs) (λ c κs. search needs) end-flex-requires (λ c. search needs) returns-3 (λ c. search needs)
+    (λ c. search needs) end-flex-requires-2 (λ c. search needs) returns-4 (λ c κs. search needs) returns-5 (λ c κs. search needs) returns-6
+    (λ c κs. search needs) returns-7 (λ c κs. search needs) returns-8)

@@ -10,34 +10,13 @@ use borrow.Author.Needs.{needs}
 use Rattle.type1.proofs.enter_flex.Statement.{statement}
 use Rattle.type1.proofs.enter_flex.Tie as tie
 
-mul-at : tie.Need-mul-at
-mul-at c = search needs
-
-sub-if1 : tie.Need-sub-if1
-sub-if1 c = search needs
-
-made-requires : tie.Need-made-requires
-made-requires c κs = search needs
-
 returns : tie.Need-returns
 returns c =
     (λ m s room H. enter-full _ _ s H room _ _ (c .made .ensures) (c .before .if1 .taken), plain-same _ _ 17 (c .made .ensures))
 
-mul-cmds : tie.Need-mul-cmds
-mul-cmds c = search needs
-
-slice-write-cmds : tie.Need-slice-write-cmds
-slice-write-cmds c = search needs
-
-add-put-point : tie.Need-add-put-point
-add-put-point c = search needs
-
 put-point-requires : tie.Need-put-point-requires
 put-point-requires c κs =
     (omega (arith, c .before .before .before .pre .0, c .before .if1 .left, length-set (c .before .before .before .args .cmds .now) (14 * c .before .before .before .args .st .entries) 4), c .before .before .before .pre .1 .0 .0)
-
-add-put-point-2 : tie.Need-add-put-point-2
-add-put-point-2 c = search needs
 
 put-point-requires-2 : tie.Need-put-point-requires-2
 put-point-requires-2 c κs =
@@ -95,9 +74,6 @@ add-s : tie.Need-add-s
 add-s c =
     omega (arith, c .before .before .before .before .before .before .before .before .before .before .before .before .before .before .before .before .before .before .before .before .before .before .before .before .before .before .pre .0, c .before .before .before .before .before .before .before .before .before .before .before .before .before .before .before .before .before .before .before .before .before .before .before .before .if1 .left, c .before .before .before .before .before .before .before .before .before .before .before .before .before .before .before .before .before .before .before .before .before .before .before .before .before .before .good .1 .1 .1 .1 .1 .1 .1 .1)
 
-made-requires-2 : tie.Need-made-requires-2
-made-requires-2 c κs = search needs
-
 same-length : tie.Need-same-length
 same-length c =
     flex-length (14 * c .before .before .before .before .before .before .before .before .before .before .before .before .before .before .before .before .before .before .before .before .before .before .before .before .before .before .before .args .st .entries) (toBits binary64 (c .before .before .before .before .before .before .before .before .before .before .before .before .before .before .before .before .before .before .before .before .before .before .before .before .before .before .before .args .height)) (c .before .before .before .before .before .before .before .before .before .before .before .before .before .before .before .before .before .before .before .before .before .before .before .before .before .before .before .args .cmds .now) _ _ _ _ _ _ (c .before .before .before .before .before .before .before .before .before .before .before .before .before .before .before .before .before .before .before .before .before .before .before .before .before .before .before .args .p1) _ _ _ _ _ (c .before .before .before .before .before .before .before .before .before .before .before .before .before .before .before .before .before .before .before .before .before .before .before .put-point .ensures) (c .before .before .before .before .before .before .before .before .before .before .before .before .before .before .before .before .before .before .before .put-point2 .ensures) (c .before .before .before .before .before .before .before .before .before .before .before .before .before .before .before .put-point3 .ensures) (c .before .before .before .before .before .before .before .before .before .before .before .put-point4 .ensures) (c .before .before .before .before .before .before .before .put-point5 .ensures) (c .before .before .before .put-point6 .ensures)
@@ -109,30 +85,7 @@ returns-2 c =
 pub enter-flex-spec : {M : Type 1} → statement M
 enter-flex-spec =
     tie.close
-    (tie.spec
-    mul-at
-    sub-if1
-    made-requires
-    returns
-    mul-cmds
-    slice-write-cmds
-    add-put-point
-    put-point-requires
-    add-put-point-2
-    put-point-requires-2
-    add-put-point-3
-    put-point-requires-3
-    add-put-point-4
-    put-point-requires-4
-    add-put-point-5
-    put-point-requires-5
-    add-put-point-6
-    put-point-requires-6
-    float-to-bits-cmds
-    add-cmds
-    mul-cmds-2
-    slice-write-cmds-2
-    add-s
-    made-requires-2
-    same-length
-    returns-2)
+    (tie.spec (λ c. search needs) (λ c. search needs) (λ c κs. search needs) returns (λ c. search needs) (λ c. search needs) (λ c. search needs)
+    put-point-requires (λ c. search needs) put-point-requires-2 add-put-point-3 put-point-requires-3 add-put-point-4 put-point-requires-4 add-put-point-5
+    put-point-requires-5 add-put-point-6 put-point-requires-6 float-to-bits-cmds add-cmds mul-cmds-2 slice-write-cmds-2 add-s (λ c κs. search needs)
+    same-length returns-2)

@@ -6,30 +6,9 @@ use borrow.Author.Needs.{needs}
 use Rattle.type1.proofs.list_flex.Statement.{statement}
 use Rattle.type1.proofs.list_flex.Tie as tie
 
-collected-requires : tie.Need-collected-requires
-collected-requires c κs = search needs
-
-collected-requires-2 : tie.Need-collected-requires-2
-collected-requires-2 c κs = search needs
-
-collected-requires-3 : tie.Need-collected-requires-3
-collected-requires-3 c κs = search needs
-
-collected-requires-4 : tie.Need-collected-requires-4
-collected-requires-4 c κs = search needs
-
-collected-requires-5 : tie.Need-collected-requires-5
-collected-requires-5 c κs = search needs
-
-collected-requires-6 : tie.Need-collected-requires-6
-collected-requires-6 c κs = search needs
-
 enter-flex-requires : tie.Need-enter-flex-requires
 enter-flex-requires c κs =
     (c .before .before .before .before .before .before .before .before .pre .0, ((subst GoodPoint (sym (c .before .before .before .before .before .before .collected .ensures)) (c .before .before .before .before .before .before .before .before .pre .1 .1 2 (lit< tt), c .before .before .before .before .before .before .before .before .pre .1 .1 3 (lit< tt)), (subst GoodPoint (sym (c .before .before .before .before .before .collected2 .ensures)) (c .before .before .before .before .before .before .before .before .pre .1 .1 4 (lit< tt), c .before .before .before .before .before .before .before .before .pre .1 .1 5 (lit< tt)), subst GoodPoint (sym (c .before .before .before .before .collected3 .ensures)) (c .before .before .before .before .before .before .before .before .pre .1 .1 6 (lit< tt), c .before .before .before .before .before .before .before .before .pre .1 .1 7 (lit< tt)))), ((subst GoodPoint (sym (c .before .before .before .collected4 .ensures)) (c .before .before .before .before .before .before .before .before .pre .1 .1 8 (lit< tt), c .before .before .before .before .before .before .before .before .pre .1 .1 9 (lit< tt)), (subst GoodPoint (sym (c .before .before .collected5 .ensures)) (c .before .before .before .before .before .before .before .before .pre .1 .1 10 (lit< tt), c .before .before .before .before .before .before .before .before .pre .1 .1 11 (lit< tt)), subst GoodPoint (sym (c .before .collected6 .ensures)) (c .before .before .before .before .before .before .before .before .pre .1 .1 12 (lit< tt), c .before .before .before .before .before .before .before .before .pre .1 .1 13 (lit< tt)))), c .before .before .before .before .before .before .before .before .pre .1 .0)))
-
-same-length : tie.Need-same-length
-same-length c = search needs
 
 returns : tie.Need-returns
 returns c =
@@ -38,13 +17,5 @@ returns c =
 pub list-flex-spec : {M : Type 1} → statement M
 list-flex-spec =
     tie.close
-    (tie.spec
-    collected-requires
-    collected-requires-2
-    collected-requires-3
-    collected-requires-4
-    collected-requires-5
-    collected-requires-6
-    enter-flex-requires
-    same-length
-    returns)
+    (tie.spec (λ c κs. search needs) (λ c κs. search needs) (λ c κs. search needs) (λ c κs. search needs) (λ c κs. search needs) (λ c κs. search needs)
+    enter-flex-requires (λ c. search needs) returns)

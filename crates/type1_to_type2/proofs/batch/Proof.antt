@@ -17,15 +17,9 @@ returns : tie.Need-returns
 returns c =
     let w = c .before .before .before .before .args .w in let t = is-shared w _ _ (c .before .if1 .taken) (c .if2 .taken) in record { puts = record { then = shared-none w _ _ _ t; same = refl }; at = refl; waits = c .before .if1 .taken; held = ap (λ (x : Bool). pick x (w .held + c .before .before .before .before .args .count) (c .before .before .before .before .args .count)) (sym t) }
 
-flush-requires : tie.Need-flush-requires
-flush-requires c κs = search needs
-
-same-length : tie.Need-same-length
-same-length c = search needs
-
 returns-2 : tie.Need-returns-2
 returns-2 c =
     let w = c .before .before .before .before .before .before .before .args .w in let p = c .before .before .flush .ensures in let t = not-shared w (c .before .before .before .before .before .before .before .args .op) (c .before .before .before .before .before .before .before .args .takes) (⊎-elim (λ x. inr (x .1 .left)) (λ x. inl (x .left)) (c .before .before .before .before .if1 .came)) in let q = as-put _ (p .puts) (first-closed w _ _ t) in record { puts = record { then = q .then; same = q .same }; at = p .at; waits = refl; held = ap (λ (x : Bool). pick x (w .held + c .before .before .before .before .before .before .before .args .count) (c .before .before .before .before .before .before .before .args .count)) (sym t) }
 
 pub batch-spec : {M : Type 1} → statement M
-batch-spec = tie.close (tie.spec add-r returns flush-requires same-length returns-2)
+batch-spec = tie.close (tie.spec add-r returns (λ c κs. search needs) (λ c. search needs) returns-2)

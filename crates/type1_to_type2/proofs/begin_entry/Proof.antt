@@ -6,39 +6,21 @@ use borrow.Author.Needs.{needs}
 use Rattle.type1_to_type2.proofs.begin_entry.Statement.{statement}
 use Rattle.type1_to_type2.proofs.begin_entry.Tie as tie
 
-takes-curve-requires : tie.Need-takes-curve-requires
-takes-curve-requires c κs = search needs
-
 batch-requires : tie.Need-batch-requires
 batch-requires c κs =
     takes-few _ 42 _ (lit< tt) (c .before .takes-curve .ensures)
-
-same-length : tie.Need-same-length
-same-length c = search needs
 
 returns : tie.Need-returns
 returns c =
     begins-curve _ _ (c .before .before .before .before .before .if1 .taken) (c .before .before .before .before .takes-curve .ensures) (c .before .before .batch .ensures)
 
-takes-line-requires : tie.Need-takes-line-requires
-takes-line-requires c κs = search needs
-
 batch-requires-2 : tie.Need-batch-requires-2
 batch-requires-2 c κs =
     takes-few _ 46 _ (lit< tt) (c .before .takes-line .ensures)
 
-same-length-2 : tie.Need-same-length-2
-same-length-2 c = search needs
-
 returns-2 : tie.Need-returns-2
 returns-2 c =
     begins-line _ _ (c .before .before .before .before .before .if2 .taken) (c .before .before .before .before .takes-line .ensures) (c .before .before .batch2 .ensures)
-
-flush-requires : tie.Need-flush-requires
-flush-requires c κs = search needs
-
-same-length-3 : tie.Need-same-length-3
-same-length-3 c = search needs
 
 returns-3 : tie.Need-returns-3
 returns-3 c =
@@ -51,16 +33,5 @@ returns-4 c =
 pub begin-entry-spec : {M : Type 1} → statement M
 begin-entry-spec =
     tie.close
-    (tie.spec
-    takes-curve-requires
-    batch-requires
-    same-length
-    returns
-    takes-line-requires
-    batch-requires-2
-    same-length-2
-    returns-2
-    flush-requires
-    same-length-3
-    returns-3
-    returns-4)
+    (tie.spec (λ c κs. search needs) batch-requires (λ c. search needs) returns (λ c κs. search needs) batch-requires-2 (λ c. search needs) returns-2
+    (λ c κs. search needs) (λ c. search needs) returns-3 returns-4)

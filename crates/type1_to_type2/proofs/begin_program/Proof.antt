@@ -13,17 +13,11 @@ returns c =
     opened-refused _ _ _ _ _ _ (c .if1 .taken) refl
 
 -- src/lib.rt:1288:5
-write-front-requires : tie.Need-write-front-requires
-write-front-requires c κs = search needs
-
 -- src/lib.rt:1274:1
-same-length : tie.Need-same-length
-same-length c = search needs
-
 -- src/lib.rt:1274:1
 returns-2 : tie.Need-returns-2
 returns-2 c =
     opened-front _ _ _ _ _ _ (c .before .before .before .before .if1 .left) (c .before .before .write-front .ensures .0)
 
 pub begin-program-spec : {M : Type 1} → statement M
-begin-program-spec = tie.close (tie.spec returns write-front-requires same-length returns-2)
+begin-program-spec = tie.close (tie.spec returns (λ c κs. search needs) (λ c. search needs) returns-2)

@@ -6,19 +6,10 @@ use borrow.Author.Needs.{needs}
 use Rattle.type1_to_type2.proofs.begin_stem.Statement.{statement}
 use Rattle.type1_to_type2.proofs.begin_stem.Tie as tie
 
-returns : tie.Need-returns
-returns c = search needs
-
-put-byte-requires : tie.Need-put-byte-requires
-put-byte-requires c κs = search needs
-
-same-length : tie.Need-same-length
-same-length c = search needs
-
 returns-2 : tie.Need-returns-2
 unfolding ofBits
 returns-2 c =
     let p = c .before .before .put-byte .ensures in record { then = next-operator _ (c .before .before .before .before .before .before .before .before .args .s) (c .before .before .before .before .before .if1 .left) (p .0); still = p .1 .0; some = omega arith; few = λ h. omega arith; same = p .0 .same }
 
 pub begin-stem-spec : {M : Type 1} → statement M
-begin-stem-spec = tie.close (tie.spec returns put-byte-requires same-length returns-2)
+begin-stem-spec = tie.close (tie.spec (λ c. search needs) (λ c κs. search needs) (λ c. search needs) returns-2)

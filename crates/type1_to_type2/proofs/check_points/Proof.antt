@@ -7,18 +7,6 @@ use borrow.Author.Needs.{needs}
 use Rattle.type1_to_type2.proofs.check_points.Statement.{statement}
 use Rattle.type1_to_type2.proofs.check_points.Tie as tie
 
-mul-at : tie.Need-mul-at
-mul-at c = search needs
-
-mul-kind : tie.Need-mul-kind
-mul-kind c = search needs
-
-shared-slice-read-kind : tie.Need-shared-slice-read-kind
-shared-slice-read-kind c = search needs
-
-add-check-point : tie.Need-add-check-point
-add-check-point c = search needs
-
 check-point-requires : tie.Need-check-point-requires
 check-point-requires c κs =
     (omega arith, good-move (c .before .before .before .args .commands .now) (c .before .before .before .args .e) (c .before .before .before .pre .1) (c .if1 .taken))
@@ -26,9 +14,6 @@ check-point-requires c κs =
 returns : tie.Need-returns
 returns c =
     c .check-point .ensures ∙ fine-move (c .before .before .before .before .args .commands .now) (c .before .before .before .before .args .e) (c .before .before .before .before .args .fold) (c .before .if1 .taken)
-
-add-check-point-2 : tie.Need-add-check-point-2
-add-check-point-2 c = search needs
 
 check-point-requires-2 : tie.Need-check-point-requires-2
 check-point-requires-2 c κs =
@@ -38,9 +23,6 @@ returns-2 : tie.Need-returns-2
 returns-2 c =
     c .check-point2 .ensures ∙ fine-line (c .before .before .before .before .before .args .commands .now) (c .before .before .before .before .before .args .e) (c .before .before .before .before .before .args .fold) (c .before .if2 .taken)
 
-add-check-point-3 : tie.Need-add-check-point-3
-add-check-point-3 c = search needs
-
 check-point-requires-3 : tie.Need-check-point-requires-3
 check-point-requires-3 c κs =
     (omega arith, good-curve (c .before .before .before .before .before .args .commands .now) (c .before .before .before .before .before .args .e) (c .before .before .before .before .before .pre .1) (c .if3 .taken) .0)
@@ -48,9 +30,6 @@ check-point-requires-3 c κs =
 returns-3 : tie.Need-returns-3
 returns-3 c =
     three-1 (fine (c .before .before .before .before .before .before .before .args .commands .now) (c .before .before .before .before .before .before .before .args .e) (c .before .before .before .before .before .before .before .args .fold) 1) (fine (c .before .before .before .before .before .before .before .args .commands .now) (c .before .before .before .before .before .before .before .args .e) (c .before .before .before .before .before .before .before .args .fold) 3) (fine (c .before .before .before .before .before .before .before .args .commands .now) (c .before .before .before .before .before .before .before .args .e) (c .before .before .before .before .before .before .before .args .fold) 5) (sym (c .before .check-point3 .ensures) ∙ not-true _ (c .if4 .taken)) ∙ fine-curve (c .before .before .before .before .before .before .before .args .commands .now) (c .before .before .before .before .before .before .before .args .e) (c .before .before .before .before .before .before .before .args .fold) (c .before .before .if3 .taken)
-
-add-check-point-4 : tie.Need-add-check-point-4
-add-check-point-4 c = search needs
 
 check-point-requires-4 : tie.Need-check-point-requires-4
 check-point-requires-4 c κs =
@@ -60,9 +39,6 @@ returns-4 : tie.Need-returns-4
 returns-4 c =
     three-2 (fine (c .before .before .before .before .before .before .before .before .before .args .commands .now) (c .before .before .before .before .before .before .before .before .before .args .e) (c .before .before .before .before .before .before .before .before .before .args .fold) 1) (fine (c .before .before .before .before .before .before .before .before .before .args .commands .now) (c .before .before .before .before .before .before .before .before .before .args .e) (c .before .before .before .before .before .before .before .before .before .args .fold) 3) (fine (c .before .before .before .before .before .before .before .before .before .args .commands .now) (c .before .before .before .before .before .before .before .before .before .args .e) (c .before .before .before .before .before .before .before .before .before .args .fold) 5) (sym (c .before .before .before .check-point3 .ensures) ∙ not-false _ (c .before .before .if4 .left)) (sym (c .before .check-point4 .ensures) ∙ not-true _ (c .if5 .taken)) ∙ fine-curve (c .before .before .before .before .before .before .before .before .before .args .commands .now) (c .before .before .before .before .before .before .before .before .before .args .e) (c .before .before .before .before .before .before .before .before .before .args .fold) (c .before .before .before .before .if3 .taken)
 
-add-check-point-5 : tie.Need-add-check-point-5
-add-check-point-5 c = search needs
-
 check-point-requires-5 : tie.Need-check-point-requires-5
 check-point-requires-5 c κs =
     (omega arith, good-curve (c .before .before .before .before .before .before .before .before .before .args .commands .now) (c .before .before .before .before .before .before .before .before .before .args .e) (c .before .before .before .before .before .before .before .before .before .pre .1) (c .before .before .before .before .if3 .taken) .1 .1)
@@ -70,9 +46,6 @@ check-point-requires-5 c κs =
 returns-5 : tie.Need-returns-5
 returns-5 c =
     three-3 (fine (c .before .before .before .before .before .before .before .before .before .before .args .commands .now) (c .before .before .before .before .before .before .before .before .before .before .args .e) (c .before .before .before .before .before .before .before .before .before .before .args .fold) 1) (fine (c .before .before .before .before .before .before .before .before .before .before .args .commands .now) (c .before .before .before .before .before .before .before .before .before .before .args .e) (c .before .before .before .before .before .before .before .before .before .before .args .fold) 3) (fine (c .before .before .before .before .before .before .before .before .before .before .args .commands .now) (c .before .before .before .before .before .before .before .before .before .before .args .e) (c .before .before .before .before .before .before .before .before .before .before .args .fold) 5) _ (sym (c .before .before .before .before .check-point3 .ensures) ∙ not-false _ (c .before .before .before .if4 .left)) (sym (c .before .before .check-point4 .ensures) ∙ not-false _ (c .before .if5 .left)) (c .check-point5 .ensures) ∙ fine-curve (c .before .before .before .before .before .before .before .before .before .before .args .commands .now) (c .before .before .before .before .before .before .before .before .before .before .args .e) (c .before .before .before .before .before .before .before .before .before .before .args .fold) (c .before .before .before .before .before .if3 .taken)
-
-add-check-point-6 : tie.Need-add-check-point-6
-add-check-point-6 c = search needs
 
 check-point-requires-6 : tie.Need-check-point-requires-6
 check-point-requires-6 c κs =
@@ -82,9 +55,6 @@ returns-6 : tie.Need-returns-6
 returns-6 c =
     six-1 (fine (c .before .before .before .before .before .before .before .before .args .commands .now) (c .before .before .before .before .before .before .before .before .args .e) (c .before .before .before .before .before .before .before .before .args .fold) 1) (fine (c .before .before .before .before .before .before .before .before .args .commands .now) (c .before .before .before .before .before .before .before .before .args .e) (c .before .before .before .before .before .before .before .before .args .fold) 3) (fine (c .before .before .before .before .before .before .before .before .args .commands .now) (c .before .before .before .before .before .before .before .before .args .e) (c .before .before .before .before .before .before .before .before .args .fold) 5) (fine (c .before .before .before .before .before .before .before .before .args .commands .now) (c .before .before .before .before .before .before .before .before .args .e) (c .before .before .before .before .before .before .before .before .args .fold) 7) (fine (c .before .before .before .before .before .before .before .before .args .commands .now) (c .before .before .before .before .before .before .before .before .args .e) (c .before .before .before .before .before .before .before .before .args .fold) 9) (fine (c .before .before .before .before .before .before .before .before .args .commands .now) (c .before .before .before .before .before .before .before .before .args .e) (c .before .before .before .before .before .before .before .before .args .fold) 11) (sym (c .before .check-point6 .ensures) ∙ not-true _ (c .if7 .taken)) ∙ fine-flex (c .before .before .before .before .before .before .before .before .args .commands .now) (c .before .before .before .before .before .before .before .before .args .e) (c .before .before .before .before .before .before .before .before .args .fold) (c .before .before .if6 .taken)
 
-add-check-point-7 : tie.Need-add-check-point-7
-add-check-point-7 c = search needs
-
 check-point-requires-7 : tie.Need-check-point-requires-7
 check-point-requires-7 c κs =
     (omega arith, good-flex (c .before .before .before .before .before .before .before .before .args .commands .now) (c .before .before .before .before .before .before .before .before .args .e) (c .before .before .before .before .before .before .before .before .pre .1) (c .before .before .if6 .taken) .1 .0)
@@ -92,9 +62,6 @@ check-point-requires-7 c κs =
 returns-7 : tie.Need-returns-7
 returns-7 c =
     six-2 (fine (c .before .before .before .before .before .before .before .before .before .before .args .commands .now) (c .before .before .before .before .before .before .before .before .before .before .args .e) (c .before .before .before .before .before .before .before .before .before .before .args .fold) 1) (fine (c .before .before .before .before .before .before .before .before .before .before .args .commands .now) (c .before .before .before .before .before .before .before .before .before .before .args .e) (c .before .before .before .before .before .before .before .before .before .before .args .fold) 3) (fine (c .before .before .before .before .before .before .before .before .before .before .args .commands .now) (c .before .before .before .before .before .before .before .before .before .before .args .e) (c .before .before .before .before .before .before .before .before .before .before .args .fold) 5) (fine (c .before .before .before .before .before .before .before .before .before .before .args .commands .now) (c .before .before .before .before .before .before .before .before .before .before .args .e) (c .before .before .before .before .before .before .before .before .before .before .args .fold) 7) (fine (c .before .before .before .before .before .before .before .before .before .before .args .commands .now) (c .before .before .before .before .before .before .before .before .before .before .args .e) (c .before .before .before .before .before .before .before .before .before .before .args .fold) 9) (fine (c .before .before .before .before .before .before .before .before .before .before .args .commands .now) (c .before .before .before .before .before .before .before .before .before .before .args .e) (c .before .before .before .before .before .before .before .before .before .before .args .fold) 11) (sym (c .before .before .before .check-point6 .ensures) ∙ not-false _ (c .before .before .if7 .left)) (sym (c .before .check-point7 .ensures) ∙ not-true _ (c .if8 .taken)) ∙ fine-flex (c .before .before .before .before .before .before .before .before .before .before .args .commands .now) (c .before .before .before .before .before .before .before .before .before .before .args .e) (c .before .before .before .before .before .before .before .before .before .before .args .fold) (c .before .before .before .before .if6 .taken)
-
-add-check-point-8 : tie.Need-add-check-point-8
-add-check-point-8 c = search needs
 
 check-point-requires-8 : tie.Need-check-point-requires-8
 check-point-requires-8 c κs =
@@ -104,9 +71,6 @@ returns-8 : tie.Need-returns-8
 returns-8 c =
     six-3 (fine (c .before .before .before .before .before .before .before .before .before .before .before .before .args .commands .now) (c .before .before .before .before .before .before .before .before .before .before .before .before .args .e) (c .before .before .before .before .before .before .before .before .before .before .before .before .args .fold) 1) (fine (c .before .before .before .before .before .before .before .before .before .before .before .before .args .commands .now) (c .before .before .before .before .before .before .before .before .before .before .before .before .args .e) (c .before .before .before .before .before .before .before .before .before .before .before .before .args .fold) 3) (fine (c .before .before .before .before .before .before .before .before .before .before .before .before .args .commands .now) (c .before .before .before .before .before .before .before .before .before .before .before .before .args .e) (c .before .before .before .before .before .before .before .before .before .before .before .before .args .fold) 5) (fine (c .before .before .before .before .before .before .before .before .before .before .before .before .args .commands .now) (c .before .before .before .before .before .before .before .before .before .before .before .before .args .e) (c .before .before .before .before .before .before .before .before .before .before .before .before .args .fold) 7) (fine (c .before .before .before .before .before .before .before .before .before .before .before .before .args .commands .now) (c .before .before .before .before .before .before .before .before .before .before .before .before .args .e) (c .before .before .before .before .before .before .before .before .before .before .before .before .args .fold) 9) (fine (c .before .before .before .before .before .before .before .before .before .before .before .before .args .commands .now) (c .before .before .before .before .before .before .before .before .before .before .before .before .args .e) (c .before .before .before .before .before .before .before .before .before .before .before .before .args .fold) 11) (sym (c .before .before .before .before .before .check-point6 .ensures) ∙ not-false _ (c .before .before .before .before .if7 .left)) (sym (c .before .before .before .check-point7 .ensures) ∙ not-false _ (c .before .before .if8 .left)) (sym (c .before .check-point8 .ensures) ∙ not-true _ (c .if9 .taken)) ∙ fine-flex (c .before .before .before .before .before .before .before .before .before .before .before .before .args .commands .now) (c .before .before .before .before .before .before .before .before .before .before .before .before .args .e) (c .before .before .before .before .before .before .before .before .before .before .before .before .args .fold) (c .before .before .before .before .before .before .if6 .taken)
 
-add-check-point-9 : tie.Need-add-check-point-9
-add-check-point-9 c = search needs
-
 check-point-requires-9 : tie.Need-check-point-requires-9
 check-point-requires-9 c κs =
     (omega arith, good-flex (c .before .before .before .before .before .before .before .before .before .before .before .before .args .commands .now) (c .before .before .before .before .before .before .before .before .before .before .before .before .args .e) (c .before .before .before .before .before .before .before .before .before .before .before .before .pre .1) (c .before .before .before .before .before .before .if6 .taken) .1 .1 .1 .0)
@@ -115,9 +79,6 @@ returns-9 : tie.Need-returns-9
 returns-9 c =
     six-4 (fine (c .before .before .before .before .before .before .before .before .before .before .before .before .before .before .args .commands .now) (c .before .before .before .before .before .before .before .before .before .before .before .before .before .before .args .e) (c .before .before .before .before .before .before .before .before .before .before .before .before .before .before .args .fold) 1) (fine (c .before .before .before .before .before .before .before .before .before .before .before .before .before .before .args .commands .now) (c .before .before .before .before .before .before .before .before .before .before .before .before .before .before .args .e) (c .before .before .before .before .before .before .before .before .before .before .before .before .before .before .args .fold) 3) (fine (c .before .before .before .before .before .before .before .before .before .before .before .before .before .before .args .commands .now) (c .before .before .before .before .before .before .before .before .before .before .before .before .before .before .args .e) (c .before .before .before .before .before .before .before .before .before .before .before .before .before .before .args .fold) 5) (fine (c .before .before .before .before .before .before .before .before .before .before .before .before .before .before .args .commands .now) (c .before .before .before .before .before .before .before .before .before .before .before .before .before .before .args .e) (c .before .before .before .before .before .before .before .before .before .before .before .before .before .before .args .fold) 7) (fine (c .before .before .before .before .before .before .before .before .before .before .before .before .before .before .args .commands .now) (c .before .before .before .before .before .before .before .before .before .before .before .before .before .before .args .e) (c .before .before .before .before .before .before .before .before .before .before .before .before .before .before .args .fold) 9) (fine (c .before .before .before .before .before .before .before .before .before .before .before .before .before .before .args .commands .now) (c .before .before .before .before .before .before .before .before .before .before .before .before .before .before .args .e) (c .before .before .before .before .before .before .before .before .before .before .before .before .before .before .args .fold) 11) (sym (c .before .before .before .before .before .before .before .check-point6 .ensures) ∙ not-false _ (c .before .before .before .before .before .before .if7 .left)) (sym (c .before .before .before .before .before .check-point7 .ensures) ∙ not-false _ (c .before .before .before .before .if8 .left)) (sym (c .before .before .before .check-point8 .ensures) ∙ not-false _ (c .before .before .if9 .left)) (sym (c .before .check-point9 .ensures) ∙ not-true _ (c .if10 .taken)) ∙ fine-flex (c .before .before .before .before .before .before .before .before .before .before .before .before .before .before .args .commands .now) (c .before .before .before .before .before .before .before .before .before .before .before .before .before .before .args .e) (c .before .before .before .before .before .before .before .before .before .before .before .before .before .before .args .fold) (c .before .before .before .before .before .before .before .before .if6 .taken)
 
-add-check-point-10 : tie.Need-add-check-point-10
-add-check-point-10 c = search needs
-
 check-point-requires-10 : tie.Need-check-point-requires-10
 check-point-requires-10 c κs =
     (omega arith, good-flex (c .before .before .before .before .before .before .before .before .before .before .before .before .before .before .args .commands .now) (c .before .before .before .before .before .before .before .before .before .before .before .before .before .before .args .e) (c .before .before .before .before .before .before .before .before .before .before .before .before .before .before .pre .1) (c .before .before .before .before .before .before .before .before .if6 .taken) .1 .1 .1 .1 .0)
@@ -125,9 +86,6 @@ check-point-requires-10 c κs =
 returns-10 : tie.Need-returns-10
 returns-10 c =
     six-5 (fine (c .before .before .before .before .before .before .before .before .before .before .before .before .before .before .before .before .args .commands .now) (c .before .before .before .before .before .before .before .before .before .before .before .before .before .before .before .before .args .e) (c .before .before .before .before .before .before .before .before .before .before .before .before .before .before .before .before .args .fold) 1) (fine (c .before .before .before .before .before .before .before .before .before .before .before .before .before .before .before .before .args .commands .now) (c .before .before .before .before .before .before .before .before .before .before .before .before .before .before .before .before .args .e) (c .before .before .before .before .before .before .before .before .before .before .before .before .before .before .before .before .args .fold) 3) (fine (c .before .before .before .before .before .before .before .before .before .before .before .before .before .before .before .before .args .commands .now) (c .before .before .before .before .before .before .before .before .before .before .before .before .before .before .before .before .args .e) (c .before .before .before .before .before .before .before .before .before .before .before .before .before .before .before .before .args .fold) 5) (fine (c .before .before .before .before .before .before .before .before .before .before .before .before .before .before .before .before .args .commands .now) (c .before .before .before .before .before .before .before .before .before .before .before .before .before .before .before .before .args .e) (c .before .before .before .before .before .before .before .before .before .before .before .before .before .before .before .before .args .fold) 7) (fine (c .before .before .before .before .before .before .before .before .before .before .before .before .before .before .before .before .args .commands .now) (c .before .before .before .before .before .before .before .before .before .before .before .before .before .before .before .before .args .e) (c .before .before .before .before .before .before .before .before .before .before .before .before .before .before .before .before .args .fold) 9) (fine (c .before .before .before .before .before .before .before .before .before .before .before .before .before .before .before .before .args .commands .now) (c .before .before .before .before .before .before .before .before .before .before .before .before .before .before .before .before .args .e) (c .before .before .before .before .before .before .before .before .before .before .before .before .before .before .before .before .args .fold) 11) (sym (c .before .before .before .before .before .before .before .before .before .check-point6 .ensures) ∙ not-false _ (c .before .before .before .before .before .before .before .before .if7 .left)) (sym (c .before .before .before .before .before .before .before .check-point7 .ensures) ∙ not-false _ (c .before .before .before .before .before .before .if8 .left)) (sym (c .before .before .before .before .before .check-point8 .ensures) ∙ not-false _ (c .before .before .before .before .if9 .left)) (sym (c .before .before .before .check-point9 .ensures) ∙ not-false _ (c .before .before .if10 .left)) (sym (c .before .check-point10 .ensures) ∙ not-true _ (c .if11 .taken)) ∙ fine-flex (c .before .before .before .before .before .before .before .before .before .before .before .before .before .before .before .before .args .commands .now) (c .before .before .before .before .before .before .before .before .before .before .before .before .before .before .before .before .args .e) (c .before .before .before .before .before .before .before .before .before .before .before .before .before .before .before .before .args .fold) (c .before .before .before .before .before .before .before .before .before .before .if6 .taken)
-
-add-check-point-11 : tie.Need-add-check-point-11
-add-check-point-11 c = search needs
 
 check-point-requires-11 : tie.Need-check-point-requires-11
 check-point-requires-11 c κs =
@@ -144,41 +102,8 @@ returns-12 c =
 pub check-points-spec : {M : Type 1} → statement M
 check-points-spec =
     tie.close
-    (tie.spec
-    mul-at
-    mul-kind
-    shared-slice-read-kind
-    add-check-point
-    check-point-requires
-    returns
-    add-check-point-2
-    check-point-requires-2
-    returns-2
-    add-check-point-3
-    check-point-requires-3
-    returns-3
-    add-check-point-4
-    check-point-requires-4
-    returns-4
-    add-check-point-5
-    check-point-requires-5
-    returns-5
-    add-check-point-6
-    check-point-requires-6
-    returns-6
-    add-check-point-7
-    check-point-requires-7
-    returns-7
-    add-check-point-8
-    check-point-requires-8
-    returns-8
-    add-check-point-9
-    check-point-requires-9
-    returns-9
-    add-check-point-10
-    check-point-requires-10
-    returns-10
-    add-check-point-11
-    check-point-requires-11
-    returns-11
-    returns-12)
+    (tie.spec (λ c. search needs) (λ c. search needs) (λ c. search needs) (λ c. search needs) check-point-requires returns (λ c. search needs)
+    check-point-requires-2 returns-2 (λ c. search needs) check-point-requires-3 returns-3 (λ c. search needs) check-point-requires-4 returns-4
+    (λ c. search needs) check-point-requires-5 returns-5 (λ c. search needs) check-point-requires-6 returns-6 (λ c. search needs) check-point-requires-7
+    returns-7 (λ c. search needs) check-point-requires-8 returns-8 (λ c. search needs) check-point-requires-9 returns-9 (λ c. search needs)
+    check-point-requires-10 returns-10 (λ c. search needs) check-point-requires-11 returns-11 returns-12)

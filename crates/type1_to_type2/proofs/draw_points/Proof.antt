@@ -28,17 +28,9 @@ read-point-requires : tie.Need-read-point-requires Inv-loop μ-loop
 read-point-requires c κs =
     let p = c .before .before .before .before .pre in ((p .0 .0, omega (arith, p .0)), point-good _ _ _ _ _ (c .loop-test .taken) (c .before .loop .inv .1))
 
-put-delta-requires : tie.Need-put-delta-requires Inv-loop μ-loop
-put-delta-requires c κs =
-    search needs
-
 add-j : tie.Need-add-j Inv-loop μ-loop
 add-j c =
     omega (arith, c .before .before .before .before .before .before .before .before .before .pre .0)
-
-loop-less : tie.Need-loop-less Inv-loop μ-loop
-loop-less c =
-    omega arith
 
 loop-again : tie.Need-loop-again Inv-loop μ-loop
 loop-again c =
@@ -55,16 +47,5 @@ returns c =
 pub draw-points-spec : {M : Type 1} → statement M
 draw-points-spec =
     tie.close
-    (tie.spec
-    Inv-loop
-    μ-loop
-    loop-holds
-    mul-read-point
-    add-read-point
-    read-point-requires
-    put-delta-requires
-    add-j
-    loop-less
-    loop-again
-    same-length
-    returns)
+    (tie.spec Inv-loop μ-loop loop-holds mul-read-point add-read-point read-point-requires (λ c κs. search needs) add-j (λ c. omega arith) loop-again
+    same-length returns)

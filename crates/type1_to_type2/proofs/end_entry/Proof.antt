@@ -9,33 +9,9 @@ returns : tie.Need-returns
 returns c =
     ends-none (c .before .before .before .args .w) _ _ _ (c .if1 .taken)
 
-mul-height : tie.Need-mul-height
-mul-height c = search needs
-
-add-height : tie.Need-add-height
-add-height c = search needs
-
-mul-height-2 : tie.Need-mul-height-2
-mul-height-2 c = search needs
-
-shared-slice-read-height : tie.Need-shared-slice-read-height
-shared-slice-read-height c = search needs
-
 float-from-bits-height : tie.Need-float-from-bits-height
 float-from-bits-height c =
     no-nan-bits _ (c .before .before .before .before .pre .1 (c .before .if1 .left) .fine)
-
-put-number-requires : tie.Need-put-number-requires
-put-number-requires c κs = search needs
-
-put-byte-requires : tie.Need-put-byte-requires
-put-byte-requires c κs = search needs
-
-put-byte-requires-2 : tie.Need-put-byte-requires-2
-put-byte-requires-2 c κs = search needs
-
-same-length : tie.Need-same-length
-same-length c = search needs
 
 returns-2 : tie.Need-returns-2
 returns-2 c =
@@ -44,15 +20,5 @@ returns-2 c =
 pub end-entry-spec : {M : Type 1} → statement M
 end-entry-spec =
     tie.close
-    (tie.spec
-    returns
-    mul-height
-    add-height
-    mul-height-2
-    shared-slice-read-height
-    float-from-bits-height
-    put-number-requires
-    put-byte-requires
-    put-byte-requires-2
-    same-length
-    returns-2)
+    (tie.spec returns (λ c. search needs) (λ c. search needs) (λ c. search needs) (λ c. search needs) float-from-bits-height (λ c κs. search needs)
+    (λ c κs. search needs) (λ c κs. search needs) (λ c. search needs) returns-2)

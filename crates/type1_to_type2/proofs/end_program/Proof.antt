@@ -10,21 +10,9 @@ use Rattle.type1_to_type2.proofs.end_program.Statement.{statement}
 use Rattle.type1_to_type2.proofs.end_program.Tie as tie
 
 -- src/lib.rt:1203:9
-finish-program-requires : tie.Need-finish-program-requires
-finish-program-requires c κs = search needs
-
 -- src/lib.rt:1205:13
-finite-points-requires : tie.Need-finite-points-requires
-finite-points-requires c κs = search needs
-
 -- src/lib.rt:1207:21
-refusal-requires : tie.Need-refusal-requires
-refusal-requires c κs = search needs
-
 -- src/lib.rt:1206:9
-same-length : tie.Need-same-length
-same-length c = search needs
-
 -- src/lib.rt:1206:9
 returns : tie.Need-returns
 unfolding ofBits
@@ -32,9 +20,6 @@ returns c =
     ended-refused (resumedAll false [] (c .before .before .before .before .before .before .before .before .before .before .args .w) (now (c .before .before .before .before .before .before .before .before .before .before .args .out)) []) _ (c .before .before .before .before .before .before .finish-program .result) _ (glyphOf (c .before .before .before .before .before .before .before .before .before .before .args .p .width) (c .before .before .before .before .before .before .before .before .before .before .args .r .ran)) (c .before .before .before .before .before .before .before .before .before .before .args .p .number) _ _ _ (c .before .before .before .before .before .before .finish-program .ensures false []) (c .before .before .if1 .taken) (c .before .finite-points .ensures) (c .refusal .ensures)
 
 -- src/lib.rt:1191:1
-same-length-2 : tie.Need-same-length-2
-same-length-2 c = search needs
-
 -- src/lib.rt:1191:1
 returns-2 : tie.Need-returns-2
 returns-2 c =
@@ -43,11 +28,4 @@ returns-2 c =
 pub end-program-spec : {M : Type 1} → statement M
 end-program-spec =
     tie.close
-    (tie.spec
-    finish-program-requires
-    finite-points-requires
-    refusal-requires
-    same-length
-    returns
-    same-length-2
-    returns-2)
+    (tie.spec (λ c κs. search needs) (λ c κs. search needs) (λ c κs. search needs) (λ c. search needs) returns (λ c. search needs) returns-2)

@@ -5,21 +5,6 @@ use borrow.Author.Needs.{needs}
 use Rattle.type1_to_type2.proofs.finish_program.Statement.{statement}
 use Rattle.type1_to_type2.proofs.finish_program.Tie as tie
 
-flush-requires : tie.Need-flush-requires
-flush-requires c κs = search needs
-
-put-byte-requires : tie.Need-put-byte-requires
-put-byte-requires c κs = search needs
-
-kept-bytes-requires : tie.Need-kept-bytes-requires
-kept-bytes-requires c κs = search needs
-
-zero-from-requires : tie.Need-zero-from-requires
-zero-from-requires c κs = search needs
-
-same-length : tie.Need-same-length
-same-length c = search needs
-
 returns : tie.Need-returns
 returns c =
     λ masked ss. finished _ (c .before .before .before .before .kept-bytes .result) (c .before .before .before .before .before .before .before .put-byte .result) _ _ _ _ (ended (c .before .before .before .before .before .before .before .before .before .before .before .flush .ensures) (c .before .before .before .before .before .before .before .put-byte .ensures .0) masked ss) (c .before .before .before .before .before .before .before .put-byte .ensures .0 .same ∙ c .before .before .before .before .before .before .before .before .before .before .before .flush .ensures .puts .same) (c .before .before .zero-from .ensures) refl refl (c .before .before .before .before .before .before .before .put-byte .ensures .1 .1) (c .before .before .before .before .kept-bytes .ensures)
@@ -27,10 +12,4 @@ returns c =
 pub finish-program-spec : {M : Type 1} → statement M
 finish-program-spec =
     tie.close
-    (tie.spec
-    flush-requires
-    put-byte-requires
-    kept-bytes-requires
-    zero-from-requires
-    same-length
-    returns)
+    (tie.spec (λ c κs. search needs) (λ c κs. search needs) (λ c κs. search needs) (λ c κs. search needs) (λ c. search needs) returns)

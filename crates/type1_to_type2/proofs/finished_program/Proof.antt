@@ -6,9 +6,6 @@ use Rattle.type1_to_type2.proofs.Finishing.{front-of}
 use Rattle.type1_to_type2.proofs.finished_program.Statement.{statement}
 use Rattle.type1_to_type2.proofs.finished_program.Tie as tie
 
-front-requires : tie.Need-front-requires
-front-requires c κs = search needs
-
 returns : tie.Need-returns
 returns c =
     let s = c .before .before .args in
@@ -16,4 +13,4 @@ returns c =
     (is .0, (is .1, λ x e h. subst (Front x (s .len) (s .out .now)) (sym (is .0)) (front-of x (s .len) (s .out .now) e h)))
 
 pub finished-program-spec : {M : Type 1} → statement M
-finished-program-spec = tie.close (tie.spec front-requires returns)
+finished-program-spec = tie.close (tie.spec (λ c κs. search needs) returns)

@@ -27,10 +27,6 @@ check-entry-requires c κs =
     (omega (arith, c .before .before .before .pre .0, c .loop-test .taken), c .before .before .before .pre .1 _ (c .loop-test .taken))
 
 -- src/lib.rt:1123:9
-and-requires : tie.Need-and-requires Inv-loop μ-loop
-and-requires c κs =
-    search needs
-
 -- src/lib.rt:1124:9
 add-e : tie.Need-add-e Inv-loop μ-loop
 add-e c =
@@ -54,13 +50,4 @@ returns c =
 pub finite-points-spec : {M : Type 1} → statement M
 finite-points-spec =
     tie.close
-    (tie.spec
-    Inv-loop
-    μ-loop
-    loop-holds
-    check-entry-requires
-    and-requires
-    add-e
-    loop-less
-    loop-again
-    returns)
+    (tie.spec Inv-loop μ-loop loop-holds check-entry-requires (λ c κs. search needs) add-e loop-less loop-again returns)

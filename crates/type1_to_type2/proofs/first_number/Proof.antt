@@ -7,9 +7,6 @@ use Rattle.type1_to_type2.proofs.first_number.Reads as reads
 use Rattle.type1_to_type2.proofs.first_number.Lts as lts
 
 -- src/lib.rt:809:8
-finite-matrix-requires : tie.Need-finite-matrix-requires
-finite-matrix-requires c κs = search needs
-
 -- src/lib.rt:806:1
 returns : tie.Need-returns
 returns c =
@@ -21,4 +18,4 @@ returns-2 c =
     matrix-not _ _ _ (c .before .finite-matrix .ensures) (c .if1 .left)
 
 pub first-number-spec : {M : Type 1} → statement M
-first-number-spec = tie.close (tie.spec finite-matrix-requires returns returns-2)
+first-number-spec = tie.close (tie.spec (λ c κs. search needs) returns returns-2)

@@ -7,51 +7,15 @@ use borrow.Author.Needs.{needs}
 use Rattle.type1_to_type2.proofs.move_to.Statement.{statement}
 use Rattle.type1_to_type2.proofs.move_to.Tie as tie
 
-quantize-requires : tie.Need-quantize-requires
-quantize-requires c κs = search needs
-
-quantize-requires-2 : tie.Need-quantize-requires-2
-quantize-requires-2 c κs = search needs
-
-flush-requires : tie.Need-flush-requires
-flush-requires c κs = search needs
-
-put-number-requires : tie.Need-put-number-requires
-put-number-requires c κs = search needs
-
-put-byte-requires : tie.Need-put-byte-requires
-put-byte-requires c κs = search needs
-
-same-length : tie.Need-same-length
-same-length c = search needs
-
 returns : tie.Need-returns
 unfolding ofBits
 returns c =
     let p = c .before .before .before .before .before .before .put-number .ensures in let q = c .before .before .put-byte .ensures in let fl = c .before .before .before .before .before .before .before .before .before .before .before .before .before .flush .ensures in move-drawn _ _ _ _ _ (c .before .before .before .before .before .before .before .before .before .before .before .before .before .before .before .before .before .quantize .ensures) (c .before .before .before .before .before .before .before .before .before .before .before .before .before .before .before .quantize2 .ensures) (is-hmove _ _ _ (c .before .before .before .before .before .before .before .before .before .before .before .before .before .before .before .quantize2 .ensures) (sub-fits binary64 _ _) (c .before .before .before .before .before .before .before .before .if1 .taken)) (puts-to (fl .puts) refl refl) (fl .waits) (fl .held) (in-turn (p .0) (q .0)) (q .1 .0 .x ∙ p .1 .0 .x) (q .1 .0 .y ∙ p .1 .0 .y) (q .1 .0 .waits ∙ p .1 .0 .waits) (q .1 .0 .held ∙ p .1 .0 .held)
 
-put-number-requires-2 : tie.Need-put-number-requires-2
-put-number-requires-2 c κs = search needs
-
-put-byte-requires-2 : tie.Need-put-byte-requires-2
-put-byte-requires-2 c κs = search needs
-
-same-length-2 : tie.Need-same-length-2
-same-length-2 c = search needs
-
 returns-2 : tie.Need-returns-2
 unfolding ofBits
 returns-2 c =
     let p = c .before .before .before .before .before .before .put-number2 .ensures in let q = c .before .before .put-byte2 .ensures in let fl = c .before .before .before .before .before .before .before .before .before .before .before .before .before .before .flush .ensures in move-drawn _ _ _ _ _ (c .before .before .before .before .before .before .before .before .before .before .before .before .before .before .before .before .before .before .quantize .ensures) (c .before .before .before .before .before .before .before .before .before .before .before .before .before .before .before .before .quantize2 .ensures) (is-vmove _ _ _ _ (c .before .before .before .before .before .before .before .before .before .before .before .before .before .before .before .before .before .before .quantize .ensures) (c .before .before .before .before .before .before .before .before .before .before .before .before .before .before .before .before .quantize2 .ensures) (sub-fits binary64 _ _) (sub-fits binary64 _ _) (c .before .before .before .before .before .before .before .before .if2 .taken) (c .before .before .before .before .before .before .before .before .before .if1 .left)) (puts-to (fl .puts) refl refl) (fl .waits) (fl .held) (in-turn (p .0) (q .0)) (q .1 .0 .x ∙ p .1 .0 .x) (q .1 .0 .y ∙ p .1 .0 .y) (q .1 .0 .waits ∙ p .1 .0 .waits) (q .1 .0 .held ∙ p .1 .0 .held)
-
-put-number-requires-3 : tie.Need-put-number-requires-3
-put-number-requires-3 c κs = search needs
-
-put-number-requires-4 : tie.Need-put-number-requires-4
-put-number-requires-4 c κs = search needs
-
-put-byte-requires-3 : tie.Need-put-byte-requires-3
-put-byte-requires-3 c κs = search needs
 
 same-length-3 : tie.Need-same-length-3
 same-length-3 c =
@@ -65,20 +29,6 @@ returns-3 c =
 pub move-to-spec : {M : Type 1} → statement M
 move-to-spec =
     tie.close
-    (tie.spec
-    quantize-requires
-    quantize-requires-2
-    flush-requires
-    put-number-requires
-    put-byte-requires
-    same-length
-    returns
-    put-number-requires-2
-    put-byte-requires-2
-    same-length-2
-    returns-2
-    put-number-requires-3
-    put-number-requires-4
-    put-byte-requires-3
-    same-length-3
-    returns-3)
+    (tie.spec (λ c κs. search needs) (λ c κs. search needs) (λ c κs. search needs) (λ c κs. search needs) (λ c κs. search needs) (λ c. search needs)
+    returns (λ c κs. search needs) (λ c κs. search needs) (λ c. search needs) returns-2 (λ c κs. search needs) (λ c κs. search needs)
+    (λ c κs. search needs) same-length-3 returns-3)

@@ -11,13 +11,7 @@ returns c =
     refused-already (c .before .args .number) (finite (c .before .args .width) && c .before .args .stems) (c .if1 .taken)
 
 -- src/lib.rt:1148:12
-is-finite-requires : tie.Need-is-finite-requires
-is-finite-requires c κs = search needs
-
 -- src/lib.rt:1148:8
-and-requires : tie.Need-and-requires
-and-requires c κs = search needs
-
 -- src/lib.rt:1142:1
 returns-2 : tie.Need-returns-2
 returns-2 c =
@@ -29,4 +23,4 @@ returns-3 c =
     not-fine (c .before .before .before .before .args .number) _ (c .before .before .before .before .args .stems) _ (c .before .before .before .before .args .width) (c .before .before .before .if1 .left) (c .before .before .is-finite .ensures) (c .before .and .ensures) (c .if2 .left)
 
 pub plan-number-spec : {M : Type 1} → statement M
-plan-number-spec = tie.close (tie.spec returns is-finite-requires and-requires returns-2 returns-3)
+plan-number-spec = tie.close (tie.spec returns (λ c κs. search needs) (λ c κs. search needs) returns-2 returns-3)

@@ -15,18 +15,9 @@ returns-2 : tie.Need-returns-2
 returns-2 c =
     (record { then = λ f. not-before _ _ _ _ _ (c .before .if1 .left) (byte-refused _ _ _ _ f (c .if2 .taken)); same = refl }, (record { x = refl; y = refl; waits = refl; held = refl }, λ e. absurd (let z : ⊥ = omega arith in z)))
 
-slice-write-out : tie.Need-slice-write-out
-slice-write-out c = search needs
-
-add-r : tie.Need-add-r
-add-r c = search needs
-
-same-length : tie.Need-same-length
-same-length c = search needs
-
 returns-3 : tie.Need-returns-3
 returns-3 c =
     (record { then = λ f. byte-stored _ _ _ _ f (c .before .if1 .left) (c .if2 .left); same = simp length-set }, (record { x = refl; y = refl; waits = refl; held = refl }, λ e. simp length-set (omega arith)))
 
 pub put-byte-spec : {M : Type 1} → statement M
-put-byte-spec = tie.close (tie.spec returns returns-2 slice-write-out add-r same-length returns-3)
+put-byte-spec = tie.close (tie.spec returns returns-2 (λ c. search needs) (λ c. search needs) (λ c. search needs) returns-3)

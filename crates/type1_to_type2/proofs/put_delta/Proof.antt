@@ -10,22 +10,10 @@ returns : tie.Need-returns
 returns c =
     record { puts = record { then = λ f. refused-stays _ _ _ _ _ _ _ (c .if1 .taken); same = refl }; at = λ z. absurd (c .if1 .taken z); waits = refl; held = refl }
 
-push-step-requires : tie.Need-push-step-requires
-push-step-requires c κs = search needs
-
-same-length : tie.Need-same-length
-same-length c = search needs
-
 returns-2 : tie.Need-returns-2
 returns-2 c =
     let p = c .before .before .before .before .push-step .ensures in
     record { puts = record { then = delta-refused (c .before .before .before .before .before .before .before .before .before .args .w) _ _ (c .before .before .before .before .before .before .before .before .before .args .py) _ _ _ (c .before .before .before .before .before .before .if1 .left) (p .0) (c .if2 .taken); same = search needs }; at = λ z. absurd (c .if2 .taken z); waits = refl; held = refl }
-
-push-step-requires-2 : tie.Need-push-step-requires-2
-push-step-requires-2 c κs = search needs
-
-same-length-2 : tie.Need-same-length-2
-same-length-2 c = search needs
 
 returns-3 : tie.Need-returns-3
 returns-3 c =
@@ -37,11 +25,4 @@ returns-3 c =
 pub put-delta-spec : {M : Type 1} → statement M
 put-delta-spec =
     tie.close
-    (tie.spec
-    returns
-    push-step-requires
-    same-length
-    returns-2
-    push-step-requires-2
-    same-length-2
-    returns-3)
+    (tie.spec returns (λ c κs. search needs) (λ c. search needs) returns-2 (λ c κs. search needs) (λ c. search needs) returns-3)

@@ -16,18 +16,9 @@ returns : tie.Need-returns
 returns c =
     (record { then = λ f. refused-stays _ _ _ _ _ _ _ (c .if1 .taken); same = refl }, (record { x = refl; y = refl; waits = refl; held = refl }, units-quantized _ (held (c .before .before .before))))
 
-push-number-requires : tie.Need-push-number-requires
-push-number-requires c κs = search needs
-
-cast-r : tie.Need-cast-r
-cast-r c = search needs
-
-same-length : tie.Need-same-length
-same-length c = search needs
-
 returns-2 : tie.Need-returns-2
 returns-2 c =
     (record { then = λ f. not-before _ _ _ _ _ (c .before .before .before .before .before .if1 .left) (pushed _ _ _ _ _ _ f (c .before .before .before .push-number .ensures)); same = search needs }, (record { x = refl; y = refl; waits = refl; held = refl }, units-quantized _ (held (c .before .before .before .before .before .before .before .before))))
 
 pub put-number-spec : {M : Type 1} → statement M
-put-number-spec = tie.close (tie.spec returns push-number-requires cast-r same-length returns-2)
+put-number-spec = tie.close (tie.spec returns (λ c κs. search needs) (λ c. search needs) (λ c. search needs) returns-2)

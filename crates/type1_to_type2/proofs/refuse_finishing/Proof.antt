@@ -7,15 +7,9 @@ use borrow.Author.Needs.{needs}
 use Rattle.type1_to_type2.proofs.refuse_finishing.Statement.{statement}
 use Rattle.type1_to_type2.proofs.refuse_finishing.Tie as tie
 
-zero-from-requires : tie.Need-zero-from-requires
-zero-from-requires c κs = search needs
-
-same-length : tie.Need-same-length
-same-length c = search needs
-
 returns : tie.Need-returns
 returns c =
     (refl, c .before .before .zero-from .ensures ∙ ap (λ (n : ℕ). replicate {A = ℕ} n 0) (sub-zero (length (c .before .before .before .before .before .args .out .now))))
 
 pub refuse-finishing-spec : {M : Type 1} → statement M
-refuse-finishing-spec = tie.close (tie.spec zero-from-requires same-length returns)
+refuse-finishing-spec = tie.close (tie.spec (λ c κs. search needs) (λ c. search needs) returns)

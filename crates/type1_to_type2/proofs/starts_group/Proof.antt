@@ -7,17 +7,8 @@ use Rattle.type1_to_type2.proofs.starts_group.Reads as reads
 use Rattle.type1_to_type2.proofs.starts_group.Lts as lts
 
 -- src/lib.rt:717:17
-mul-if1 : tie.Need-mul-if1
-mul-if1 c = search needs
-
 -- src/lib.rt:717:8
-mul-if1-2 : tie.Need-mul-if1-2
-mul-if1-2 c = search needs
-
 -- src/lib.rt:717:8
-shared-slice-read-if1 : tie.Need-shared-slice-read-if1
-shared-slice-read-if1 c = search needs
-
 -- src/lib.rt:713:1
 returns : tie.Need-returns
 returns c =
@@ -29,4 +20,4 @@ returns-2 c =
     no-start (now (c .before .before .args .commands)) (c .before .before .args .e) (c .if1 .left)
 
 pub starts-group-spec : {M : Type 1} → statement M
-starts-group-spec = tie.close (tie.spec mul-if1 mul-if1-2 shared-slice-read-if1 returns returns-2)
+starts-group-spec = tie.close (tie.spec (λ c. search needs) (λ c. search needs) (λ c. search needs) returns returns-2)

@@ -3,14 +3,8 @@ use borrow.Author.Needs.{needs}
 use Rattle.type1_to_type2.proofs.wipe_words.Statement.{statement}
 use Rattle.type1_to_type2.proofs.wipe_words.Tie as tie
 
-wipe-words-requires : tie.Need-wipe-words-requires
-wipe-words-requires c κs = search needs
-
-same-length : tie.Need-same-length
-same-length c = search needs
-
 returns : tie.Need-returns
 returns c = c .before .before .wipe-words .ensures
 
 pub wipe-words-spec : {M : Type 1} → statement M
-wipe-words-spec = tie.close (tie.spec wipe-words-requires same-length returns)
+wipe-words-spec = tie.close (tie.spec (λ c κs. search needs) (λ c. search needs) returns)

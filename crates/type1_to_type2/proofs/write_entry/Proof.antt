@@ -9,34 +9,13 @@ use borrow.Author.Needs.{needs}
 use Rattle.type1_to_type2.proofs.write_entry.Statement.{statement}
 use Rattle.type1_to_type2.proofs.write_entry.Tie as tie
 
-mul-kind : tie.Need-mul-kind
-mul-kind c = search needs
-
-mul-kind-2 : tie.Need-mul-kind-2
-mul-kind-2 c = search needs
-
-shared-slice-read-kind : tie.Need-shared-slice-read-kind
-shared-slice-read-kind c = search needs
-
 read-point-requires : tie.Need-read-point-requires
 read-point-requires c κs =
     let p = c .before .before .before .before .pre in ((p .0, omega arith), good-entry _ _ _ (is-move _ _ (c .if1 .taken)) (p .1 .1))
 
-move-to-requires : tie.Need-move-to-requires
-move-to-requires c κs = search needs
-
-same-length : tie.Need-same-length
-same-length c = search needs
-
 returns : tie.Need-returns
 returns c =
     let d = draws-as _ _ (ap move (c .before .before .before .before .read-point .ensures)) (c .before .before .move-to .ensures) in (λ ss g cs h. entry-drawn _ _ _ 1 _ (c .before .before .before .before .before .if1 .taken) refl (is-move _ _ (c .before .before .before .before .before .if1 .taken)) d _ ss g cs, d true [] .same)
-
-write-mask-requires : tie.Need-write-mask-requires
-write-mask-requires c κs = search needs
-
-same-length-2 : tie.Need-same-length-2
-same-length-2 c = search needs
 
 returns-2 : tie.Need-returns-2
 returns-2 c =
@@ -46,12 +25,6 @@ returns-3 : tie.Need-returns-3
 returns-3 c =
     (λ ss g cs h. mask-left (c .before .before .before .before .before .before .args .w) _ _ _ _ _ (c .before .if2 .taken) (c .if3 .left) ss g cs, refl)
 
-begin-entry-requires : tie.Need-begin-entry-requires
-begin-entry-requires c κs = search needs
-
-points-of-requires : tie.Need-points-of-requires
-points-of-requires c κs = search needs
-
 draw-points-requires : tie.Need-draw-points-requires
 draw-points-requires c κs =
     let p = c .before .before .before .before .before .before .before .before .before .before .before .pre in let n = c .before .points-of .ensures in ((p .0, n .1), points-good _ _ _ _ refl (n .0) (p .1 .1))
@@ -59,9 +32,6 @@ draw-points-requires c κs =
 end-entry-requires : tie.Need-end-entry-requires
 end-entry-requires c κs =
     let p = c .before .before .before .before .before .before .before .before .before .before .before .before .before .before .before .pre in (p .0, height-good _ _ _ refl (p .1 .1))
-
-same-length-3 : tie.Need-same-length-3
-same-length-3 c = search needs
 
 returns-4 : tie.Need-returns-4
 returns-4 c =
@@ -71,21 +41,6 @@ returns-4 c =
 pub write-entry-spec : {M : Type 1} → statement M
 write-entry-spec =
     tie.close
-    (tie.spec
-    mul-kind
-    mul-kind-2
-    shared-slice-read-kind
-    read-point-requires
-    move-to-requires
-    same-length
-    returns
-    write-mask-requires
-    same-length-2
-    returns-2
-    returns-3
-    begin-entry-requires
-    points-of-requires
-    draw-points-requires
-    end-entry-requires
-    same-length-3
-    returns-4)
+    (tie.spec (λ c. search needs) (λ c. search needs) (λ c. search needs) read-point-requires (λ c κs. search needs) (λ c. search needs) returns
+    (λ c κs. search needs) (λ c. search needs) returns-2 returns-3 (λ c κs. search needs) (λ c κs. search needs) draw-points-requires end-entry-requires
+    (λ c. search needs) returns-4)

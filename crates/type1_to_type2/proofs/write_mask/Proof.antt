@@ -31,10 +31,6 @@ loop-holds : tie.Need-loop-holds Inv-loop μ-loop
 loop-holds c =
     (λ f. refl, (record { x = refl; y = refl; waits = refl; held = refl }, refl))
 
-mask-byte-requires : tie.Need-mask-byte-requires Inv-loop μ-loop
-mask-byte-requires c κs =
-    search needs
-
 put-byte-requires-2 : tie.Need-put-byte-requires-2 Inv-loop μ-loop
 put-byte-requires-2 c κs =
     tt
@@ -42,10 +38,6 @@ put-byte-requires-2 c κs =
 add-i : tie.Need-add-i Inv-loop μ-loop
 add-i c =
     omega (arith, c .before .before .before .before .before .before .before .before .before .before .before .before .before .before .before .before .pre .0)
-
-loop-less : tie.Need-loop-less Inv-loop μ-loop
-loop-less c =
-    omega arith
 
 loop-again : tie.Need-loop-again Inv-loop μ-loop
 loop-again c =
@@ -65,16 +57,5 @@ returns c =
 pub write-mask-spec : {M : Type 1} → statement M
 write-mask-spec =
     tie.close
-    (tie.spec
-    Inv-loop
-    μ-loop
-    flush-requires
-    put-byte-requires
-    loop-holds
-    mask-byte-requires
-    put-byte-requires-2
-    add-i
-    loop-less
-    loop-again
-    same-length
-    returns)
+    (tie.spec Inv-loop μ-loop flush-requires put-byte-requires loop-holds (λ c κs. search needs) put-byte-requires-2 add-i (λ c. omega arith) loop-again
+    same-length returns)

@@ -24,45 +24,9 @@ loop-holds : tie.Need-loop-holds Inv-loop μ-loop
 loop-holds c =
     (λ h f. refl, (record { x = refl; y = refl; waits = refl; held = refl }, (refl, omega arith)))
 
-mul-write-stem : tie.Need-mul-write-stem Inv-loop μ-loop
-mul-write-stem c =
-    omega arith
-
-mul-write-stem-2 : tie.Need-mul-write-stem-2 Inv-loop μ-loop
-mul-write-stem-2 c =
-    omega arith
-
-element-copy-out-write-stem : tie.Need-element-copy-out-write-stem Inv-loop μ-loop
-element-copy-out-write-stem c =
-    omega arith
-
-mul-write-stem-3 : tie.Need-mul-write-stem-3 Inv-loop μ-loop
-mul-write-stem-3 c =
-    omega arith
-
-add-write-stem : tie.Need-add-write-stem Inv-loop μ-loop
-add-write-stem c =
-    omega arith
-
-mul-write-stem-4 : tie.Need-mul-write-stem-4 Inv-loop μ-loop
-mul-write-stem-4 c =
-    omega arith
-
-element-copy-out-write-stem-2 : tie.Need-element-copy-out-write-stem-2 Inv-loop μ-loop
-element-copy-out-write-stem-2 c =
-    omega arith
-
 write-stem-requires : tie.Need-write-stem-requires Inv-loop μ-loop
 write-stem-requires c κs =
     c .before .before .before .before .loop .inv .1 .1 .1
-
-add-i : tie.Need-add-i Inv-loop μ-loop
-add-i c =
-    omega arith
-
-loop-less : tie.Need-loop-less Inv-loop μ-loop
-loop-less c =
-    omega arith
 
 loop-again : tie.Need-loop-again Inv-loop μ-loop
 loop-again c =
@@ -99,23 +63,5 @@ returns-2 c =
 pub write-stems-spec : {M : Type 1} → statement M
 write-stems-spec =
     tie.close
-    (tie.spec
-    Inv-loop
-    μ-loop
-    loop-holds
-    mul-write-stem
-    mul-write-stem-2
-    element-copy-out-write-stem
-    mul-write-stem-3
-    add-write-stem
-    mul-write-stem-4
-    element-copy-out-write-stem-2
-    write-stem-requires
-    add-i
-    loop-less
-    loop-again
-    same-length
-    returns
-    put-byte-requires
-    same-length-2
-    returns-2)
+    (tie.spec Inv-loop μ-loop loop-holds (λ c. omega arith) (λ c. omega arith) (λ c. omega arith) (λ c. omega arith) (λ c. omega arith) (λ c. omega arith)
+    (λ c. omega arith) write-stem-requires (λ c. omega arith) (λ c. omega arith) loop-again same-length returns put-byte-requires same-length-2 returns-2)

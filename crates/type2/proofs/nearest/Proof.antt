@@ -22,11 +22,5 @@ returns-2 c =
     let s = c .before .before .before .before .before .before in
     came-near (s .args .v) (held s) (c .before .before .before .before .before .if1 .taken) (c .before .before .before .before .if2 .taken) _ refl (c .before .before .if4 .taken) (c .before .if5 .taken) (not-true _ (c .if6 .taken))
 
-round-requires : tie.Need-round-requires
-round-requires c κs = search needs
-
-returns-3 : tie.Need-returns-3
-returns-3 c = search needs
-
 pub nearest-spec : {M : Type 1} → statement M
-nearest-spec = tie.close (tie.spec returns returns-2 round-requires returns-3)
+nearest-spec = tie.close (tie.spec returns returns-2 (λ c κs. search needs) (λ c. search needs))

@@ -19,39 +19,14 @@ float-to-int-put1 : tie.Need-float-to-int-put1
 unfolding ofBits
 float-to-int-put1 c = let w = short-number c in short-cast _ (w .0) (w .1) (w .2) (w .3)
 
-put1-requires : tie.Need-put1-requires
-put1-requires c κs = search needs
-
-cast-t15 : tie.Need-cast-t15
-cast-t15 c = search needs
-
-same-length : tie.Need-same-length
-same-length c = search needs
-
 returns : tie.Need-returns
 unfolding ofBits
 returns c =
     let w = short-number (c .before .before .before .before) in
     (c .before .before .before .put1 .ensures ∙ short-pushed _ (w .0) (w .1) (w .2) (w .3) _ _, short-value _ (w .0) (w .1) (w .2) (w .3))
 
-push-far-requires : tie.Need-push-far-requires
-push-far-requires c κs = search needs
-
-same-length-2 : tie.Need-same-length-2
-same-length-2 c = search needs
-
-returns-2 : tie.Need-returns-2
-returns-2 c = search needs
-
 pub push-delta-spec : {M : Type 1} → statement M
 push-delta-spec =
     tie.close
-    (tie.spec
-    float-to-int-put1
-    put1-requires
-    cast-t15
-    same-length
-    returns
-    push-far-requires
-    same-length-2
-    returns-2)
+    (tie.spec float-to-int-put1 (λ c κs. search needs) (λ c. search needs) (λ c. search needs) returns (λ c κs. search needs) (λ c. search needs)
+    (λ c. search needs))

@@ -36,12 +36,6 @@ push-whole-requires : tie.Need-push-whole-requires
 unfolding ofBits
 push-whole-requires c κs = let w = whole-number c in whole-bounds _ _ (w .1) (whole-cast _ (w .0) (w .1) (w .2) .1)
 
-cast-t17 : tie.Need-cast-t17
-cast-t17 c = search needs
-
-same-length : tie.Need-same-length
-same-length c = search needs
-
 returns : tie.Need-returns
 unfolding ofBits
 returns c =
@@ -58,9 +52,6 @@ counted c =
     let t = raised-by (s .args .v) (c .before .before .nearest .result) (held s) r (c .before .before .nearest .ensures) in
     (r, t .0, t .1)
 
-nearest-requires : tie.Need-nearest-requires
-nearest-requires c κs = search needs
-
 float-to-int-push-units : tie.Need-float-to-int-push-units
 unfolding ofBits
 float-to-int-push-units c = counted c .1
@@ -69,21 +60,12 @@ push-units-requires : tie.Need-push-units-requires
 unfolding ofBits
 push-units-requires c κs = let t = counted c in bounds _ _ (t .0) (t .2)
 
-cast-t20 : tie.Need-cast-t20
-cast-t20 c = search needs
-
-same-length-2 : tie.Need-same-length-2
-same-length-2 c = search needs
-
 returns-2 : tie.Need-returns-2
 unfolding ofBits
 returns-2 c =
     let d = c .before .before .before .before in
     let t = counted d in
     (c .before .before .before .push-units .ensures ∙ accepted _ _ _ _ (t .0) (t .2), delta-value _ _ (held (d .before .before .before .before .before .before .before)) (t .0) (d .before .before .nearest .ensures))
-
-quantize-requires : tie.Need-quantize-requires
-quantize-requires c κs = search needs
 
 returns-3 : tie.Need-returns-3
 unfolding ofBits neg
@@ -95,17 +77,5 @@ returns-3 c =
 pub push-far-spec : {M : Type 1} → statement M
 push-far-spec =
     tie.close
-    (tie.spec
-    float-to-int-push-whole
-    push-whole-requires
-    cast-t17
-    same-length
-    returns
-    nearest-requires
-    float-to-int-push-units
-    push-units-requires
-    cast-t20
-    same-length-2
-    returns-2
-    quantize-requires
-    returns-3)
+    (tie.spec float-to-int-push-whole push-whole-requires (λ c. search needs) (λ c. search needs) returns (λ c κs. search needs) float-to-int-push-units
+    push-units-requires (λ c. search needs) (λ c. search needs) returns-2 (λ c κs. search needs) returns-3)

@@ -7,17 +7,8 @@ use Rattle.type2.specs.Pushes.{push-number-few}
 use Rattle.type2.proofs.push_number.Statement.{statement}
 use Rattle.type2.proofs.push_number.Tie as tie
 
-push-far-requires : tie.Need-push-far-requires
-push-far-requires c κs = search needs
-
 cast-t7 : tie.Need-cast-t7
 cast-t7 c = fits-under _ _ 19 (subst (λ (p : Push). p .number < 19) (sym (c .before .before .before .push-far .ensures .0)) (push-number-few _ _ _)) tt
 
-same-length : tie.Need-same-length
-same-length c = search needs
-
-returns : tie.Need-returns
-returns c = search needs
-
 pub push-number-spec : {M : Type 1} → statement M
-push-number-spec = tie.close (tie.spec push-far-requires cast-t7 same-length returns)
+push-number-spec = tie.close (tie.spec (λ c κs. search needs) cast-t7 (λ c. search needs) (λ c. search needs))

@@ -5,16 +5,10 @@ use borrow.Author.Needs.{needs}
 use Rattle.type2.proofs.push_step.Statement.{statement}
 use Rattle.type2.proofs.push_step.Tie as tie
 
-push-delta-requires : tie.Need-push-delta-requires
-push-delta-requires c κs = search needs
-
-same-length : tie.Need-same-length
-same-length c = search needs
-
 returns : tie.Need-returns
 returns c =
     let d = c .before .before .before .push-delta .ensures in
     (d .0, ap (λ (x : Float). add binary64 (c .before .before .before .before .before .before .args .from) x) (d .1))
 
 pub push-step-spec : {M : Type 1} → statement M
-push-step-spec = tie.close (tie.spec push-delta-requires same-length returns)
+push-step-spec = tie.close (tie.spec (λ c κs. search needs) (λ c. search needs) returns)

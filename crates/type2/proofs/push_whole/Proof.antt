@@ -18,9 +18,6 @@ size c = ⊎-elim (λ w. inl (w .0 .taken, w .1)) (λ w. inr (w .0 .left, w .1))
 side : (c : lts.Joined2 (put1-reads.Asked, put1-reads.Learnt, put2-reads.Asked, put2-reads.Learnt, put3-reads.Asked, put3-reads.Learnt) reads.Pre reads.Post) → Side (c .before .before .before .args .w) (c .if2 .base)
 side c = ⊎-elim (λ w. inl (w .0 .taken, w .1)) (λ w. inr (w .0 .left, w .1)) (c .if2 .came)
 
-sub-i : tie.Need-sub-i
-sub-i c = search needs
-
 sub-put1 : tie.Need-sub-put1
 sub-put1 c =
     let (a, b) = small _ _ (size (c .before .before .before)) (c .before .if3 .taken) in omega arith
@@ -28,12 +25,6 @@ sub-put1 c =
 cast-put1 : tie.Need-cast-put1
 cast-put1 c =
     let (a, b) = small _ _ (size (c .before .before .before)) (c .before .if3 .taken) in omega arith
-
-put1-requires : tie.Need-put1-requires
-put1-requires c κs = search needs
-
-same-length : tie.Need-same-length
-same-length c = search needs
 
 returns : tie.Need-returns
 returns c =
@@ -49,31 +40,10 @@ cast-put2 : tie.Need-cast-put2
 cast-put2 c =
     let z = pair-fits _ (c .before .before .before .before .before .before .if1 .i) (c .before .before .before .before .before .if2 .base) (side (c .before .before .before .before .before)) (c .before .before .before .if4 .taken) in omega arith
 
-cast-put2-2 : tie.Need-cast-put2-2
-cast-put2-2 c = search needs
-
-put2-requires : tie.Need-put2-requires
-put2-requires c κs = search needs
-
-same-length-2 : tie.Need-same-length-2
-same-length-2 c = search needs
-
 returns-2 : tie.Need-returns-2
 returns-2 c =
     let s = c .before .before .before .before .before .before .before .before .before .before .before in
     same-bytes (s .args .out .now) (s .args .at) (c .before .before .put2 .ensures) (two-form (s .args .w) (s .pre .0) (s .pre .1) (c .before .before .before .before .before .before .before .before .before .if1 .i) (c .before .before .before .before .before .before .before .before .if2 .base) (size (c .before .before .before .before .before .before .before .before .before)) (side (c .before .before .before .before .before .before .before .before)) (c .before .before .before .before .before .before .before .if3 .left) (c .before .before .before .before .before .before .if4 .taken))
-
-cast-put3 : tie.Need-cast-put3
-cast-put3 c = search needs
-
-cast-put3-2 : tie.Need-cast-put3-2
-cast-put3-2 c = search needs
-
-put3-requires : tie.Need-put3-requires
-put3-requires c κs = search needs
-
-same-length-3 : tie.Need-same-length-3
-same-length-3 c = search needs
 
 returns-3 : tie.Need-returns-3
 returns-3 c =
@@ -83,21 +53,5 @@ returns-3 c =
 pub push-whole-spec : {M : Type 1} → statement M
 push-whole-spec =
     tie.close
-    (tie.spec
-    sub-i
-    sub-put1
-    cast-put1
-    put1-requires
-    same-length
-    returns
-    add-put2
-    cast-put2
-    cast-put2-2
-    put2-requires
-    same-length-2
-    returns-2
-    cast-put3
-    cast-put3-2
-    put3-requires
-    same-length-3
-    returns-3)
+    (tie.spec (λ c. search needs) sub-put1 cast-put1 (λ c κs. search needs) (λ c. search needs) returns add-put2 cast-put2 (λ c. search needs)
+    (λ c κs. search needs) (λ c. search needs) returns-2 (λ c. search needs) (λ c. search needs) (λ c κs. search needs) (λ c. search needs) returns-3)

@@ -21,21 +21,12 @@ not-the-default out width p w e h =
     ap (λ (x : Float). pushNumber out 0 (sub binary64 x (p .«nominal_width_x»))) e
     ∙ ap (λ (c : Bool). cond c (gave 0 0 out) (pushNumber out 0 (sub binary64 (quantized width) (p .«nominal_width_x»)))) (sym h ∙ ap (λ (x : Float). eq x (p .«default_width_x»)) e)
 
-quantize-requires : tie.Need-quantize-requires
-quantize-requires c κs = search needs
-
 returns : tie.Need-returns
 returns c = the-default _ _ _ _ (c .before .before .quantize .ensures) (c .if1 .taken)
-
-push-number-requires : tie.Need-push-number-requires
-push-number-requires c κs = search needs
-
-same-length : tie.Need-same-length
-same-length c = search needs
 
 returns-2 : tie.Need-returns-2
 returns-2 c =
     c .before .before .push-number .ensures ∙ not-the-default _ _ _ _ (c .before .before .before .before .before .before .before .quantize .ensures) (c .before .before .before .before .before .if1 .left)
 
 pub push-width-spec : {M : Type 1} → statement M
-push-width-spec = tie.close (tie.spec quantize-requires returns push-number-requires same-length returns-2)
+push-width-spec = tie.close (tie.spec (λ c κs. search needs) returns (λ c κs. search needs) (λ c. search needs) returns-2)

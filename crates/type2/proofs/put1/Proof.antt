@@ -7,23 +7,11 @@ use Rattle.type2.specs.Put.{stored, no-room}
 use Rattle.type2.proofs.put1.Statement.{statement}
 use Rattle.type2.proofs.put1.Tie as tie
 
-room-requires : tie.Need-room-requires
-room-requires c κs = search needs
-
 returns : tie.Need-returns
 returns c = no-room _ _ _ 1 _ (c .before .room .ensures) (c .if1 .taken) refl
-
-slice-write-out : tie.Need-slice-write-out
-slice-write-out c = search needs
-
-add-t4 : tie.Need-add-t4
-add-t4 c = search needs
-
-same-length : tie.Need-same-length
-same-length c = search needs
 
 returns-2 : tie.Need-returns-2
 returns-2 c = let s = c .before .before .before in stored (s .args .out .now) (s .args .at) (s .args .a) [] (omega arith)
 
 pub put1-spec : {M : Type 1} → statement M
-put1-spec = tie.close (tie.spec room-requires returns slice-write-out add-t4 same-length returns-2)
+put1-spec = tie.close (tie.spec (λ c κs. search needs) returns (λ c. search needs) (λ c. search needs) (λ c. search needs) returns-2)

@@ -8,32 +8,14 @@ use Rattle.type2.specs.Put.{stored, no-room}
 use Rattle.type2.proofs.put3.Statement.{statement}
 use Rattle.type2.proofs.put3.Tie as tie
 
-room-requires : tie.Need-room-requires
-room-requires c κs = search needs
-
 returns : tie.Need-returns
 returns c = no-room _ _ _ 3 _ (c .before .room .ensures) (c .if1 .taken) refl
-
-slice-write-out : tie.Need-slice-write-out
-slice-write-out c = search needs
-
-add-out : tie.Need-add-out
-add-out c = search needs
 
 slice-write-out-2 : tie.Need-slice-write-out-2
 slice-write-out-2 c = simp length-set (omega arith)
 
-add-out-2 : tie.Need-add-out-2
-add-out-2 c = search needs
-
 slice-write-out-3 : tie.Need-slice-write-out-3
 slice-write-out-3 c = simp length-set (omega arith)
-
-add-t6 : tie.Need-add-t6
-add-t6 c = search needs
-
-same-length : tie.Need-same-length
-same-length c = search needs
 
 returns-2 : tie.Need-returns-2
 returns-2 c = let s = c .before .before .before in stored (s .args .out .now) (s .args .at) (s .args .a) ((s .args .b) ∷ (s .args .c) ∷ []) (omega arith)
@@ -41,14 +23,5 @@ returns-2 c = let s = c .before .before .before in stored (s .args .out .now) (s
 pub put3-spec : {M : Type 1} → statement M
 put3-spec =
     tie.close
-    (tie.spec
-    room-requires
-    returns
-    slice-write-out
-    add-out
-    slice-write-out-2
-    add-out-2
-    slice-write-out-3
-    add-t6
-    same-length
-    returns-2)
+    (tie.spec (λ c κs. search needs) returns (λ c. search needs) (λ c. search needs) slice-write-out-2 (λ c. search needs) slice-write-out-3
+    (λ c. search needs) (λ c. search needs) returns-2)

@@ -8,44 +8,20 @@ use Rattle.type2.specs.Put.{stored, no-room}
 use Rattle.type2.proofs.put5.Statement.{statement}
 use Rattle.type2.proofs.put5.Tie as tie
 
-room-requires : tie.Need-room-requires
-room-requires c κs = search needs
-
 returns : tie.Need-returns
 returns c = no-room _ _ _ 5 _ (c .before .room .ensures) (c .if1 .taken) refl
-
-slice-write-out : tie.Need-slice-write-out
-slice-write-out c = search needs
-
-add-out : tie.Need-add-out
-add-out c = search needs
 
 slice-write-out-2 : tie.Need-slice-write-out-2
 slice-write-out-2 c = simp length-set (omega arith)
 
-add-out-2 : tie.Need-add-out-2
-add-out-2 c = search needs
-
 slice-write-out-3 : tie.Need-slice-write-out-3
 slice-write-out-3 c = simp length-set (omega arith)
-
-add-out-3 : tie.Need-add-out-3
-add-out-3 c = search needs
 
 slice-write-out-4 : tie.Need-slice-write-out-4
 slice-write-out-4 c = simp length-set (omega arith)
 
-add-out-4 : tie.Need-add-out-4
-add-out-4 c = search needs
-
 slice-write-out-5 : tie.Need-slice-write-out-5
 slice-write-out-5 c = simp length-set (omega arith)
-
-add-t8 : tie.Need-add-t8
-add-t8 c = search needs
-
-same-length : tie.Need-same-length
-same-length c = search needs
 
 returns-2 : tie.Need-returns-2
 returns-2 c = let s = c .before .before .before in stored (s .args .out .now) (s .args .at) (s .args .a) ((s .args .b) ∷ (s .args .c) ∷ (s .args .d) ∷ (s .args .e) ∷ []) (omega arith)
@@ -53,18 +29,5 @@ returns-2 c = let s = c .before .before .before in stored (s .args .out .now) (s
 pub put5-spec : {M : Type 1} → statement M
 put5-spec =
     tie.close
-    (tie.spec
-    room-requires
-    returns
-    slice-write-out
-    add-out
-    slice-write-out-2
-    add-out-2
-    slice-write-out-3
-    add-out-3
-    slice-write-out-4
-    add-out-4
-    slice-write-out-5
-    add-t8
-    same-length
-    returns-2)
+    (tie.spec (λ c κs. search needs) returns (λ c. search needs) (λ c. search needs) slice-write-out-2 (λ c. search needs) slice-write-out-3
+    (λ c. search needs) slice-write-out-4 (λ c. search needs) slice-write-out-5 (λ c. search needs) (λ c. search needs) returns-2)

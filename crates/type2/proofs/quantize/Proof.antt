@@ -5,15 +5,6 @@ use Rattle.type2.specs.Quantize.{quantized-first, quantized-second}
 use Rattle.type2.proofs.quantize.Statement.{statement}
 use Rattle.type2.proofs.quantize.Tie as tie
 
-nearest-requires : tie.Need-nearest-requires
-nearest-requires c κs = search needs
-
-abs-requires : tie.Need-abs-requires
-abs-requires c κs = search needs
-
-nearest-requires-2 : tie.Need-nearest-requires-2
-nearest-requires-2 c κs = search needs
-
 returns : tie.Need-returns
 unfolding ofBits
 returns c = quantized-first _ _ _ (c .before .before .nearest .ensures) (c .before .abs .ensures) (c .if1 .taken)
@@ -23,4 +14,4 @@ unfolding ofBits
 returns-2 c = quantized-second _ _ _ _ (c .before .before .before .nearest .ensures) (c .before .before .abs .ensures) (c .before .if1 .left) (c .nearest2 .ensures)
 
 pub quantize-spec : {M : Type 1} → statement M
-quantize-spec = tie.close (tie.spec nearest-requires abs-requires nearest-requires-2 returns returns-2)
+quantize-spec = tie.close (tie.spec (λ c κs. search needs) (λ c κs. search needs) (λ c κs. search needs) returns returns-2)

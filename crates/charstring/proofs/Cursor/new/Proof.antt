@@ -29,12 +29,6 @@ returns : tie.Need-returns
 unfolding start
 returns c = rw (eq-eqb (c .before .before .args .len-iv) notEncrypted (c .if1 .taken))
 
-skip-requires : tie.Need-skip-requires
-skip-requires c κs = search needs
-
-skip-requires-2 : tie.Need-skip-requires-2
-skip-requires-2 c κs = search needs
-
 returns-2 : tie.Need-returns-2
 returns-2 c =
     let code = c .before .before .before .before .args .code .now in
@@ -47,4 +41,4 @@ returns-3 c =
     skipped _ _ code _ (c .before .before .if1 .left) (c .skip2 .ensures) (take-length code ∙ sym all) (sym (ap length all))
 
 pub new-spec : {M : Type 1} → statement M
-new-spec = tie.close (tie.spec returns skip-requires skip-requires-2 returns-2 returns-3)
+new-spec = tie.close (tie.spec returns (λ c κs. search needs) (λ c κs. search needs) returns-2 returns-3)

@@ -25,21 +25,6 @@ read-by k code m b r h e p q = rw (read-more k code h, e, p, q)
 returns : tie.Need-returns
 returns c = sym (read-none (c .before .before .args .self) (c .before .before .args .code .now) (c .if1 .taken))
 
-shared-slice-read-c : tie.Need-shared-slice-read-c
-shared-slice-read-c c = search needs
-
-plain-byte-requires : tie.Need-plain-byte-requires
-plain-byte-requires c κs = search needs
-
-add-t12 : tie.Need-add-t12
-add-t12 c = search needs
-
-next-key-requires : tie.Need-next-key-requires
-next-key-requires c κs = search needs
-
-add-t15 : tie.Need-add-t15
-add-t15 c = search needs
-
 returns-2 : tie.Need-returns-2
 returns-2 c = read-by (c .before .before .before .before .before .before .args .self) _ true _ _ (c .before .before .before .before .if1 .left) (c .before .before .if2 .taken) (c .before .plain-byte .ensures) (c .next-key .ensures)
 
@@ -49,12 +34,4 @@ returns-3 c = read-by (c .before .before .before .before .args .self) _ false _ 
 pub next-spec : {M : Type 1} → statement M
 next-spec =
     tie.close
-    (tie.spec
-    returns
-    shared-slice-read-c
-    plain-byte-requires
-    add-t12
-    next-key-requires
-    add-t15
-    returns-2
-    returns-3)
+    (tie.spec returns (λ c. search needs) (λ c κs. search needs) (λ c. search needs) (λ c κs. search needs) (λ c. search needs) returns-2 returns-3)

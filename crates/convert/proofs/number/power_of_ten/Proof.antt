@@ -9,21 +9,6 @@ Inv-loop n x₀ left₀ x left = Unit {0}
 abbrev μ-loop : tie.MeasureT-loop
 μ-loop n x₀ left₀ x left = left
 
-loop-holds : tie.Need-loop-holds Inv-loop μ-loop
-loop-holds c = search needs
-
-sub-left : tie.Need-sub-left Inv-loop μ-loop
-sub-left c = search needs
-
-loop-less : tie.Need-loop-less Inv-loop μ-loop
-loop-less c = search needs
-
-loop-again : tie.Need-loop-again Inv-loop μ-loop
-loop-again c = search needs
-
-returns : tie.Need-returns Inv-loop μ-loop
-returns c = search needs
-
 pub power-of-ten-spec : {M : Type 1} → statement M
 power-of-ten-spec =
-    tie.close (tie.spec Inv-loop μ-loop loop-holds sub-left loop-less loop-again returns)
+    tie.close (tie.spec Inv-loop μ-loop (λ c. search needs) (λ c. search needs) (λ c. search needs) (λ c. search needs) (λ c. search needs))

@@ -6,12 +6,9 @@ use Rattle.folding.specs.declared.Fold.{Fold}
 use Rattle.folding.proofs.Fold.new.Statement.{statement}
 use Rattle.folding.proofs.Fold.new.Tie as tie
 
-is-identity-requires : tie.Need-is-identity-requires
-is-identity-requires c κs = search needs
-
 returns : tie.Need-returns
 returns c =
     ap (λ (b : Bool). record { matrix = c .before .args .m; identity = b }) (c .is-identity .ensures)
 
 pub new-spec : {M : Type 1} → statement M
-new-spec = tie.close (tie.spec is-identity-requires returns)
+new-spec = tie.close (tie.spec (λ c κs. search needs) returns)

@@ -6,15 +6,9 @@ use borrow.Author.Needs.{needs}
 use Rattle.geometry.proofs.Matrix.transform_delta.Statement.{statement}
 use Rattle.geometry.proofs.Matrix.transform_delta.Tie as tie
 
-round10-requires : tie.Need-round10-requires
-round10-requires c κs = search needs
-
-round10-requires-2 : tie.Need-round10-requires-2
-round10-requires-2 c κs = search needs
-
 returns : tie.Need-returns
 unfolding delta
 returns c = ap₂ (λ (u v : Float). record { x = u; y = v }) (c .before .before .before .round10 .ensures) (c .round102 .ensures)
 
 pub transform-delta-spec : {M : Type 1} → statement M
-transform-delta-spec = tie.close (tie.spec round10-requires round10-requires-2 returns)
+transform-delta-spec = tie.close (tie.spec (λ c κs. search needs) (λ c κs. search needs) returns)

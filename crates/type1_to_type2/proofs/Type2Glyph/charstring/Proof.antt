@@ -12,21 +12,6 @@ put-width : (c : tie.After-push-width) → let s = c .before .before .before .be
     Finishes (s .self .width) (s .widths) (s .out .now) (gave (r .number) (r .next) (c .push-width .last .0))
 put-width c = let s = c .before .before .before .before .before .args in after-width (s .out .now) (s .self .width) (s .widths) _ _ _ (c .push-width .ensures)
 
-program-len-requires : tie.Need-program-len-requires
-program-len-requires c κs = search needs
-
-push-width-requires : tie.Need-push-width-requires
-push-width-requires c κs = search needs
-
-cast-refuse-finishing : tie.Need-cast-refuse-finishing
-cast-refuse-finishing c = search needs
-
-refuse-finishing-requires : tie.Need-refuse-finishing-requires
-refuse-finishing-requires c κs = search needs
-
-same-length : tie.Need-same-length
-same-length c = search needs
-
 returns : tie.Need-returns
 returns c =
     let p = c .before .before .before .before .before .before .before .before .before in
@@ -37,12 +22,6 @@ returns c =
 sub-if2 : tie.Need-sub-if2
 sub-if2 c =
     let w = put-width (c .before .before .before .before) .0 (c .if1 .left) in omega (arith, w .room, w .same)
-
-refuse-finishing-requires-2 : tie.Need-refuse-finishing-requires-2
-refuse-finishing-requires-2 c κs = search needs
-
-same-length-2 : tie.Need-same-length-2
-same-length-2 c = search needs
 
 returns-2 : tie.Need-returns-2
 returns-2 c =
@@ -59,18 +38,6 @@ put-program-requires c κs =
     let w = put-width p .0 (c .before .before .if1 .left) in
     (front-short (s .self .len) _ (s .program .now) (p .before .before .program-len .ensures), omega (arith, w .room, w .same, c .before .if2 .left))
 
-add-zero-from : tie.Need-add-zero-from
-add-zero-from c = search needs
-
-zero-from-requires : tie.Need-zero-from-requires
-zero-from-requires c κs = search needs
-
-add-t15 : tie.Need-add-t15
-add-t15 c = search needs
-
-same-length-3 : tie.Need-same-length-3
-same-length-3 c = search needs
-
 returns-3 : tie.Need-returns-3
 returns-3 c =
     let p = c .before .before .before .before .before .before .before .before .before .before .before .before .before in
@@ -81,20 +48,6 @@ returns-3 c =
 pub charstring-spec : {M : Type 1} → statement M
 charstring-spec =
     tie.close
-    (tie.spec
-    program-len-requires
-    push-width-requires
-    cast-refuse-finishing
-    refuse-finishing-requires
-    same-length
-    returns
-    sub-if2
-    refuse-finishing-requires-2
-    same-length-2
-    returns-2
-    put-program-requires
-    add-zero-from
-    zero-from-requires
-    add-t15
-    same-length-3
-    returns-3)
+    (tie.spec (λ c κs. search needs) (λ c κs. search needs) (λ c. search needs) (λ c κs. search needs) (λ c. search needs) returns sub-if2
+    (λ c κs. search needs) (λ c. search needs) returns-2 put-program-requires (λ c. search needs) (λ c κs. search needs) (λ c. search needs)
+    (λ c. search needs) returns-3)
