@@ -5,10 +5,11 @@ use native.Mathlib.Numerals.{add-one}
 use native.Mathlib.Omega.{arith}
 use mathlib.Core.Bool.{Bool, true, false, cond, true≢false}
 use mathlib.Core.List.{List, [], _∷_, _++_}
+use mathlib.Core.Option.{Option, none, some}
 use borrow.Author.Tests.{lt-ltb, le-ltb, ne-eqb, le-leb, lt-leb, eqb-true, eqb-false}
 use lib.Dec.{T, eqb, ltb, leb, lit≤}
 use lib.IntN.{ℤ}
-use lib.ListN.{length, getD, take, drop, set, length-set, length-take}
+use lib.ListN.{length, getD, take, drop, set, replicate, length-set, length-take}
 use lib.Seq.{take-suc-set}
 use lib.Arith.{lt-of-le-ne}
 use lib.Ieee.{Float}
@@ -22,16 +23,18 @@ use Rattle.type1.specs.declared.Ran.{Ran}
 use Rattle.type1.specs.declared.Drawn.{Drawn}
 use Rattle.type1.specs.Operator.{Operator, closepath, ofByte, ofEscape}
 use Rattle.type1.specs.Number.{Token, cut, number, operator, token, tokenTwo, tokenFive, tokenEscape, oneByte, twoBytes, twoBytesBelow, fourBytes, double}
-use Rattle.outline.specs.Outline.{pick}
-use Rattle.type1.specs.State.{State, withOperands}
+use Rattle.geometry.specs.declared.Point.{Point}
+use Rattle.outline.specs.Outline.{pick, origin}
+use Rattle.type1.specs.State.{State, withOperands, withOpen}
 use Rattle.type1.specs.Outcomes.{limit-check}
-use Rattle.type1.specs.Run.{Limits, within, Outcome, going, returning, ending, refused, andThen, check, push, consume, operate, runBytes}
-use Rattle.type1.specs.Memory.{Mem, abs, Fit, Meets, operatorOf}
+use Rattle.type1.specs.Run.{Limits, within, atMost, Outcome, going, returning, ending, refused, andThen, check, push, consume, operate, runBytes}
+use Rattle.type1.specs.Memory.{Mem, flexHeld, abs, Fit, Holds, Good, Meets, operatorOf}
 use Rattle.type1.specs.Small.{ranOf, withOpened}
-use Rattle.type1.specs.Sound.{Sound, SoundOut, SmallToken}
-use Rattle.type1.specs.SoundLaws.{sound-stable}
+use Rattle.type1.specs.Sound.{All, OfFlex, GoodPoint, Sound, SoundOut, SmallToken}
+use Rattle.type1.specs.SoundLaws.{zero-good, sound-stable}
 use Rattle.type1.specs.StableLaws.{token-small}
 use Rattle.type1.specs.Reading.{cursorOf, placed, tokOf, left, isRead, isQuick, drawnTo, Draws, ReadsAs, readMem, goesOn, Numbered, Operated, Reads}
+use Rattle.type1.proofs.Stacks.{operands-are, holds-itself}
 
 -- ---- one byte more; where the bytes are not encrypted, the key does not count
 pub left-more : (code : List ℕ) (i key : ℕ) (e : Bool) → i < length code → left code i key e ≡ byteOf (getD code i 0) key e ∷ left code (i + 1) (step (getD code i 0) key) e
@@ -162,12 +165,39 @@ and-same (returning s) k k' h = refl
 and-same (ending s) k k' h = refl
 and-same (refused n) k k' h = refl
 
+origins : (n : ℕ) → All GoodPoint (replicate n origin)
+unfolding All
+origins zero = tt
+origins (suc n) = ((zero-good, zero-good), origins n)
+
+-- what is held of a state has finite numbers if the state has
+pub held-sound : (t : St) (m : Mem) (s : State) → Holds t m s → Sound s → Sound (abs t m)
+held-sound t m s H q = subst Sound (sym (H .is)) (record {
+  operands = q .operands;
+  postscript = q .postscript;
+  point = q .point;
+  bearing = q .bearing;
+  width = q .width;
+  flexing = go (s .flexing) (q .flexing);
+  hints = q .hints;
+  groups = q .groups;
+  drawn = q .drawn;
+})
+  where
+    few : (b : Bool) (l : List Point) → All GoodPoint l → All GoodPoint (pick b l (replicate 8 origin))
+    few true l h = h
+    few false l h = origins 8
+
+    go : (o : Option (List Point)) → OfFlex Good o → OfFlex Good (flexHeld o)
+    go none h = tt
+    go (some l) h = few (ltb (length l) 8) l h
+
 -- a step that goes on
-pub goes : (o : Outcome) (k : State → Outcome) (r : Ran) (m : Mem) → Meets r m o → r .flow ≡ 0 → ((andThen o k ≡ k (abs (r .st) m)) × (Fit (r .st) m × (SoundOut o → Sound (abs (r .st) m))))
-goes (going s) k r m e z = (ap k (sym (e .1 .is)), (e .1 .fit, λ q. subst Sound (sym (e .1 .is)) q))
-goes (returning s) k r m e z = absurd (let y : 1 ≡ 0 = sym (e .0) ∙ z in let x : ⊥ = omega arith in x)
-goes (ending s) k r m e z = absurd (let y : 2 ≡ 0 = sym (e .0) ∙ z in let x : ⊥ = omega arith in x)
-goes (refused i) k r m e z = absurd (let a = e .0 in let b = e .1 in let x : ⊥ = omega arith in x)
+pub goes : (o : Outcome) (r : Ran) (m : Mem) → Meets r m o → r .flow ≡ 0 → (u : State) × Holds (r .st) m u × (o ≡ going u)
+goes (going s) r m e z = (s, e .1, refl)
+goes (returning s) r m e z = absurd (let y : 1 ≡ 0 = sym (e .0) ∙ z in let x : ⊥ = omega arith in x)
+goes (ending s) r m e z = absurd (let y : 2 ≡ 0 = sym (e .0) ∙ z in let x : ⊥ = omega arith in x)
+goes (refused i) r m e z = absurd (let a = e .0 in let b = e .1 in let x : ⊥ = omega arith in x)
 
 pub quick-is : (c o b : Bool) → b ≡ isQuick c o → b ≡ true → (o ≡ true) × (c ≡ false)
 quick-is true o b e z = absurd (true≢false (sym (sym e ∙ z)))
@@ -180,8 +210,8 @@ nine-is = refl
 -- what was read so far: what is left does what the whole does
 pub record Going (code : List ℕ) (from start : ℕ) (e : Bool) (st : St) (ops₀ : List Float) (cmds₀ : List ℕ) (ops : List Float) (cmds : List ℕ) (i key n : ℕ) (x y : Float) (k : ℕ) (o : Bool) : Type 0 where
   pub fit : (m : Mem) → Fit st (readMem ops₀ cmds₀ m) → Fit (placed n x y k (withOpened o st)) (readMem ops cmds m)
-  pub same : (m : Mem) (f : Operator → State → Outcome) → Fit st (readMem ops₀ cmds₀ m) → ReadsAs (within (length (m .stems)) (length cmds₀)) f
-      → runBytes (within (length (m .stems)) (length cmds₀)) f (left code from start e) 0 (abs st (readMem ops₀ cmds₀ m)) ≡ runBytes (within (length (m .stems)) (length cmds₀)) f (left code i key e) 0 (abs (placed n x y k (withOpened o st)) (readMem ops cmds m))
+  pub same : (m : Mem) (s : State) → Holds st (readMem ops₀ cmds₀ m) s → (u : State) × Holds (placed n x y k (withOpened o st)) (readMem ops cmds m) u × ((f : Operator → State → Outcome) → ReadsAs (within (length (m .stems)) (length cmds₀)) f
+      → runBytes (within (length (m .stems)) (length cmds₀)) f (left code from start e) 0 s ≡ runBytes (within (length (m .stems)) (length cmds₀)) f (left code i key e) 0 u)
   pub sound : (m : Mem) → Fit st (readMem ops₀ cmds₀ m) → Bytes code → Sound (abs st (readMem ops₀ cmds₀ m)) → Sound (abs (placed n x y k (withOpened o st)) (readMem ops cmds m))
   pub short : key < 65536
   pub few : n ≤ 256
@@ -211,8 +241,8 @@ module _ (code : List ℕ) (from start : ℕ) (e : Bool) (st : St) (ops₀ : Lis
     after-it = left code (i + 1) k′ e
 
     -- the bytes from here on, by the next token
-    next : (m : Mem) (f : Operator → State → Outcome) → runBytes (limits m) f (left code i key e) 0 (state m) ≡ consume (limits m) f (token v after-it) (state m) (runBytes (limits m) f after-it)
-    next m f = one (limits m) f (state m) v after-it (left-read code i key e c v k′ h p q q′)
+    next : (m : Mem) (f : Operator → State → Outcome) (s : State) → runBytes (limits m) f (left code i key e) 0 s ≡ consume (limits m) f (token v after-it) s (runBytes (limits m) f after-it)
+    next m f s = one (limits m) f s v after-it (left-read code i key e c v k′ h p q q′)
 
     short-after : k′ < 65536
     short-after = subst (λ (z : ℕ). z < 65536) (sym q′) (step-key c key)
@@ -228,7 +258,7 @@ module _ (code : List ℕ) (from start : ℕ) (e : Bool) (st : St) (ops₀ : Lis
     at-operator u t d ed eu O = subst (λ (z : List ℕ). Reads code from start e st ops₀ cmds₀ t ops z) (sym ed) (record {
       fit = λ m F. subst (λ (z : St). Fit z (readMem ops cmds m)) (sym is-here) (G .fit m F);
       sound = λ m F b q. subst (λ (z : St). Sound (abs z (readMem ops cmds m))) (sym is-here) (G .sound m F b q);
-      same = λ m f F w. G .same m f F w ∙ next m f ∙ go (eqb (t .flow) 0) refl m f;
+      same = λ m s H. let (u, K, is) = G .same m s H in (u, subst (λ (z : St). Holds z (readMem ops cmds m) u) (sym is-here) K, λ f w. is f w ∙ next m f u ∙ go (eqb (t .flow) 0) refl m f u);
       on = (let a = O .on .0 in let b = G .on in omega arith);
       whole = G .whole;
       number = λ a b. subst (λ (j : ℕ). 3 ≤ j) (sym (O .cut a .0)) (lit≤ tt);
@@ -237,38 +267,47 @@ module _ (code : List ℕ) (from start : ℕ) (e : Bool) (st : St) (ops₀ : Lis
         is-here : t .st ≡ here
         is-here = O .state ∙ eu
 
-        go : (z : Bool) → eqb (t .flow) 0 ≡ z → (m : Mem) (f : Operator → State → Outcome) → consume (limits m) f (token v after-it) (state m) (runBytes (limits m) f after-it) ≡ goesOn t code e (limits m) f (abs (t .st) (readMem ops cmds m))
-        go true z m f =
+        go : (z : Bool) → eqb (t .flow) 0 ≡ z → (m : Mem) (f : Operator → State → Outcome) (s : State) → consume (limits m) f (token v after-it) s (runBytes (limits m) f after-it) ≡ goesOn t code e (limits m) f s
+        go true z m f s =
             let (j, tk, dr) = O .operator (eqb-true (t .flow) 0 z) in
-            ap (λ (a : Token). consume (limits m) f a (state m) (runBytes (limits m) f after-it)) tk
-            ∙ and-same (f (operatorOf (t .op)) (state m)) (runBytes (limits m) f after-it j) (runBytes (limits m) f (left code (t .next) (t .key) e) 0) (λ a. skip (limits m) f after-it j a ∙ ap (λ (b : List ℕ). runBytes (limits m) f b 0 a) dr)
-            ∙ sym (simp (z, is-here))
-        go false z m f =
+            ap (λ (a : Token). consume (limits m) f a s (runBytes (limits m) f after-it)) tk
+            ∙ and-same (f (operatorOf (t .op)) s) (runBytes (limits m) f after-it j) (runBytes (limits m) f (left code (t .next) (t .key) e) 0) (λ a. skip (limits m) f after-it j a ∙ ap (λ (b : List ℕ). runBytes (limits m) f b 0 a) dr)
+            ∙ sym (simp z)
+        go false z m f s =
             let w = O .cut (eqb-false (t .flow) 0 z) in
-            ap (λ (a : Token). consume (limits m) f a (state m) (runBytes (limits m) f after-it)) (w .1) ∙ sym (simp (w .0))
+            ap (λ (a : Token). consume (limits m) f a s (runBytes (limits m) f after-it)) (w .1) ∙ sym (simp (w .0))
 
     -- an operator was done
-    did-so : (m : Mem) (f : Operator → State → Outcome) (op : Operator) → ReadsAs (limits m) f → T (isRead op) → token v after-it ≡ operator 0 op → runBytes (limits m) f (left code i key e) 0 (state m) ≡ andThen (operate (limits m) (refused 6) op (state m)) (runBytes (limits m) f after-it 0)
-    did-so m f op w r is = next m f ∙ ap (λ (a : Token). consume (limits m) f a (state m) (runBytes (limits m) f after-it)) is ∙ ap (λ (a : Outcome). andThen a (runBytes (limits m) f after-it 0)) (w op (state m) r)
+    did-so : (m : Mem) (f : Operator → State → Outcome) (s : State) (op : Operator) → ReadsAs (limits m) f → T (isRead op) → token v after-it ≡ operator 0 op → runBytes (limits m) f (left code i key e) 0 s ≡ andThen (operate (limits m) (refused 6) op s) (runBytes (limits m) f after-it 0)
+    did-so m f s op w r is = next m f s ∙ ap (λ (a : Token). consume (limits m) f a s (runBytes (limits m) f after-it)) is ∙ ap (λ (a : Outcome). andThen a (runBytes (limits m) f after-it 0)) (w op s r)
 
     -- a line or a curve was listed
     module _ (r : Drawn) (d : List ℕ) (op : o ≡ true) (ch : st .changed ≡ false) (low : v < 32) (D : Draws v n x y k ops cmds r d) (z : r .done ≡ true) where
       abbrev to : Ran
       to = ranOf (drawnTo r k (withOpened o st)) 0
 
-      did : (m : Mem) → Fit st (readMem ops₀ cmds₀ m) → Meets to (readMem ops d m) (operate (limits m) (refused 6) (operatorOf v) (state m))
-      did m F = subst (λ (j : ℕ). Meets to (readMem ops d m) (operate (within (length (m .stems)) j) (refused 6) (operatorOf v) (state m))) (G .whole) (D .done z (withOpened o st) m (state m) op ch (record { is = refl; fit = G .fit m F }))
+      did : (m : Mem) (s : State) → Holds here (readMem ops cmds m) s → Meets to (readMem ops d m) (operate (limits m) (refused 6) (operatorOf v) s)
+      did m s H = subst (λ (j : ℕ). Meets to (readMem ops d m) (operate (within (length (m .stems)) j) (refused 6) (operatorOf v) s)) (G .whole) (D .done z (withOpened o st) m s op ch H)
 
-      after-did : (m : Mem) (f : State → Outcome) → Fit st (readMem ops₀ cmds₀ m) → ((andThen (operate (limits m) (refused 6) (operatorOf v) (state m)) f ≡ f (abs (to .st) (readMem ops d m))) × (Fit (to .st) (readMem ops d m) × (SoundOut (operate (limits m) (refused 6) (operatorOf v) (state m)) → Sound (abs (to .st) (readMem ops d m)))))
-      after-did m f F = goes (operate (limits m) (refused 6) (operatorOf v) (state m)) f to (readMem ops d m) (did m F) refl
+      after-did : (m : Mem) (s : State) → Holds here (readMem ops cmds m) s → (u : State) × Holds (to .st) (readMem ops d m) u × (operate (limits m) (refused 6) (operatorOf v) s ≡ going u)
+      after-did m s H = goes (operate (limits m) (refused 6) (operatorOf v) s) to (readMem ops d m) (did m s H) refl
+
+      itself : (m : Mem) → Fit st (readMem ops₀ cmds₀ m) → Holds here (readMem ops cmds m) (state m)
+      itself m F = holds-itself here (readMem ops cmds m) (G .fit m F)
 
       pub listed : Going code from start e st ops₀ cmds₀ ops d (i + 1) k′ 0 (r .x) (r .y) (k + 1) o
       listed = record {
-        fit = λ m F. after-did m (λ s. going s) F .1 .0;
-        sound = λ m F b s. after-did m (λ s. going s) F .1 .1 (sound-stable (limits m) .operator (refused 6) (operatorOf v) (state m) (G .sound m F b s) tt);
-        same = λ m f F w.
-            G .same m f F w ∙ did-so m f (operatorOf v) w (D .drawn z .0) (token-op v after-it low (D .drawn z .1) ∙ ap (operator 0) (sym (operator-low v (omega arith))))
-            ∙ after-did m (runBytes (limits m) f after-it 0) F .0;
+        fit = λ m F. after-did m (state m) (itself m F) .1 .fit;
+        sound = λ m F b s. let (u, K, is) = after-did m (state m) (itself m F) in held-sound (to .st) (readMem ops d m) u K (subst SoundOut is (sound-stable (limits m) .operator (refused 6) (operatorOf v) (state m) (G .sound m F b s) tt));
+        same = λ m s H.
+            let (u, K, is) = G .same m s H in
+            let (u′, K′, is′) = after-did m u K in (
+              u′,
+              K′,
+              λ f w.
+                  is f w ∙ did-so m f u (operatorOf v) w (D .drawn z .0) (token-op v after-it low (D .drawn z .1) ∙ ap (operator 0) (sym (operator-low v (omega arith))))
+                  ∙ ap (λ (a : Outcome). andThen a (runBytes (limits m) f after-it 0)) is′,
+            );
         short = short-after;
         few = lit≤ tt;
         space = (let a = D .space z in let b = D .same in omega arith);
@@ -279,9 +318,9 @@ module _ (code : List ℕ) (from start : ℕ) (e : Bool) (st : St) (ops₀ : Lis
 
     -- the subpath was closed
     module _ (nine : v ≡ 9) where
-      closed-is : (m : Mem) → operate (limits m) (refused 6) closepath (state m) ≡ going (abs (placed 0 x y k (withOpened false st)) (readMem ops cmds m))
-      unfolding operate abs
-      closed-is m = refl
+      closed-is : (m : Mem) (s : State) → operate (limits m) (refused 6) closepath s ≡ going (withOpen false (withOperands [] s))
+      unfolding operate
+      closed-is m s = refl
 
       closed-fit : (m : Mem) → Fit here (readMem ops cmds m) → Fit (placed 0 x y k (withOpened false st)) (readMem ops cmds m)
       closed-fit m F = record {
@@ -299,13 +338,22 @@ module _ (code : List ℕ) (from start : ℕ) (e : Bool) (st : St) (ops₀ : Lis
         last = F .last;
       }
 
+      closed-held : (m : Mem) (s : State) → Holds here (readMem ops cmds m) s → Holds (placed 0 x y k (withOpened false st)) (readMem ops cmds m) (withOpen false (withOperands [] s))
+      unfolding abs
+      closed-held m s H = record { is = ap (λ (u : State). withOpen false (withOperands [] u)) (H .is); fit = closed-fit m (H .fit) }
+
       pub closed : Going code from start e st ops₀ cmds₀ ops cmds (i + 1) k′ 0 x y k false
       closed = record {
         fit = λ m F. closed-fit m (G .fit m F);
-        sound = λ m F b s. subst SoundOut (closed-is m) (sound-stable (limits m) .operator (refused 6) closepath (state m) (G .sound m F b s) tt);
-        same = λ m f F w.
-            G .same m f F w ∙ did-so m f closepath w tt (token-op v after-it (omega arith) (λ t. let z : ⊥ = omega arith in z) ∙ ap (operator 0) (ap ofByte nine ∙ nine-is))
-            ∙ ap (λ (a : Outcome). andThen a (runBytes (limits m) f after-it 0)) (closed-is m);
+        sound = λ m F b s. held-sound (placed 0 x y k (withOpened false st)) (readMem ops cmds m) _ (closed-held m (state m) (holds-itself here (readMem ops cmds m) (G .fit m F))) (subst SoundOut (closed-is m (state m)) (sound-stable (limits m) .operator (refused 6) closepath (state m) (G .sound m F b s) tt));
+        same = λ m s H.
+            let (u, K, is) = G .same m s H in (
+              withOpen false (withOperands [] u),
+              closed-held m u K,
+              λ f w.
+                  is f w ∙ did-so m f u closepath w tt (token-op v after-it (omega arith) (λ t. let z : ⊥ = omega arith in z) ∙ ap (operator 0) (ap ofByte nine ∙ nine-is))
+                  ∙ ap (λ (a : Outcome). andThen a (runBytes (limits m) f after-it 0)) (closed-is m u),
+            );
         short = short-after;
         few = lit≤ tt;
         space = G .space;
@@ -320,7 +368,7 @@ module _ (code : List ℕ) (from start : ℕ) (e : Bool) (st : St) (ops₀ : Lis
       at-cut u t z eu et = subst (λ (a : Tok). Reads code from start e st ops₀ cmds₀ a ops cmds) (sym (et ∙ ap (λ (a : St). tokOf a (i + 1) k′ 5 0) eu)) (record {
         fit = G .fit;
         sound = G .sound;
-        same = λ m f F w. G .same m f F w ∙ next m f ∙ ap (λ (a : Token). consume (limits m) f a (state m) (runBytes (limits m) f after-it)) (N .cut z);
+        same = λ m s H. let (u, K, is) = G .same m s H in (u, K, λ f w. is f w ∙ next m f u ∙ ap (λ (a : Token). consume (limits m) f a u (runBytes (limits m) f after-it)) (N .cut z));
         on = (let b = G .on in omega arith);
         whole = G .whole;
         number = λ a b. lit≤ tt;
@@ -330,15 +378,16 @@ module _ (code : List ℕ) (from start : ℕ) (e : Bool) (st : St) (ops₀ : Lis
       taken w = length-take n ops ∙ (let b = G .few in let z : min n (length ops) ≡ n = omega arith in z)
 
       -- a number is pushed, or finds the stack full
-      push-is : (m : Mem) (z : ℤ) → length ops ≡ 256 → (b : Bool) → leb (n + 1) 256 ≡ b → r .x ≡ double z → push (limits m) (double z) (state m) ≡ check b 15 (going (withOperands (take n ops ++ (r .x ∷ [])) (state m)))
-      unfolding push abs
-      push-is m z w b is eq =
-          limit-check (leb (length (take n ops) + 1) 256) 15 _ refl ∙ ap (λ (a : Bool). check a 15 (going (withOperands (take n ops ++ (double z ∷ [])) (state m)))) (ap (λ (a : ℕ). leb (a + 1) 256) (taken w) ∙ is)
-          ∙ ap (λ (a : Float). check b 15 (going (withOperands (take n ops ++ (a ∷ [])) (state m)))) (sym eq)
+      push-is : (m : Mem) (s : State) → Holds here (readMem ops cmds m) s → (z : ℤ) (b : Bool) → leb (n + 1) 256 ≡ b → r .x ≡ double z → push (limits m) (double z) s ≡ check b 15 (going (withOperands (take n ops ++ (r .x ∷ [])) s))
+      unfolding push
+      push-is m s H z b is eq =
+          ap (λ (l : List Float). check (eqb (atMost 256 15 (length l + 1)) 0) (atMost 256 15 (length l + 1)) (going (withOperands (l ++ (double z ∷ [])) s))) (operands-are here (readMem ops cmds m) s H)
+          ∙ limit-check (leb (length (take n ops) + 1) 256) 15 _ refl ∙ ap (λ (a : Bool). check a 15 (going (withOperands (take n ops ++ (double z ∷ [])) s))) (ap (λ (a : ℕ). leb (a + 1) 256) (taken (H .fit .ops)) ∙ is)
+          ∙ ap (λ (a : Float). check b 15 (going (withOperands (take n ops ++ (a ∷ [])) s))) (sym eq)
 
-      pushing : (m : Mem) (f : Operator → State → Outcome) (j : ℕ) (z : ℤ) → length ops ≡ 256 → (b : Bool) → leb (n + 1) 256 ≡ b → r .x ≡ double z
-          → consume (limits m) f (number j z) (state m) (runBytes (limits m) f after-it) ≡ andThen (check b 15 (going (withOperands (take n ops ++ (r .x ∷ [])) (state m)))) (runBytes (limits m) f after-it j)
-      pushing m f j z w b is eq = ap (λ (a : Outcome). andThen a (runBytes (limits m) f after-it j)) (push-is m z w b is eq)
+      pushing : (m : Mem) (f : Operator → State → Outcome) (s : State) → Holds here (readMem ops cmds m) s → (j : ℕ) (z : ℤ) (b : Bool) → leb (n + 1) 256 ≡ b → r .x ≡ double z
+          → consume (limits m) f (number j z) s (runBytes (limits m) f after-it) ≡ andThen (check b 15 (going (withOperands (take n ops ++ (r .x ∷ [])) s))) (runBytes (limits m) f after-it j)
+      pushing m f s H j z b is eq = ap (λ (a : Outcome). andThen a (runBytes (limits m) f after-it j)) (push-is m s H z b is eq)
 
       pub at-full : (u : St) (t : Tok) → r .cut ≡ false → n ≡ 256 → u ≡ here → t ≡ tokOf u (i + 1) k′ 15 0 → Reads code from start e st ops₀ cmds₀ t ops cmds
       at-full u t z full eu et =
@@ -346,16 +395,13 @@ module _ (code : List ℕ) (from start : ℕ) (e : Bool) (st : St) (ops₀ : Lis
           subst (λ (a : Tok). Reads code from start e st ops₀ cmds₀ a ops cmds) (sym (et ∙ ap (λ (a : St). tokOf a (i + 1) k′ 15 0) eu)) (record {
             fit = G .fit;
             sound = G .sound;
-            same = λ m f F W. G .same m f F W ∙ next m f ∙ ap (λ (a : Token). consume (limits m) f a (state m) (runBytes (limits m) f after-it)) tk ∙ pushing m f j w (G .fit m F .ops) false (lt-leb (n + 1) 256 (omega arith)) is;
+            same = λ m s H.
+                let (v, K, all) = G .same m s H in
+                (v, K, λ f W. all f W ∙ next m f v ∙ ap (λ (a : Token). consume (limits m) f a v (runBytes (limits m) f after-it)) tk ∙ pushing m f v K j w false (lt-leb (n + 1) 256 (omega arith)) is);
             on = (let b = G .on in omega arith);
             whole = G .whole;
             number = λ a b. lit≤ tt;
           })
-
-      -- the state with one operand more
-      more-state : (m : Mem) → n < length ops → withOperands (take n ops ++ (r .x ∷ [])) (state m) ≡ abs (placed (n + 1) x y k (withOpened o st)) (readMem (set ops n (r .x)) cmds m)
-      unfolding abs
-      more-state m less = ap (λ (d : List Float). withOperands d (state m)) (sym (ap (λ (j : ℕ). take j (set ops n (r .x))) (add-one n) ∙ take-suc-set ops n (r .x) less))
 
       more-fit : (m : Mem) → n + 1 ≤ 256 → Fit here (readMem ops cmds m) → Fit (placed (n + 1) x y k (withOpened o st)) (readMem (set ops n (r .x)) cmds m)
       more-fit m few F = record {
@@ -373,20 +419,37 @@ module _ (code : List ℕ) (from start : ℕ) (e : Bool) (st : St) (ops₀ : Lis
         last = F .last;
       }
 
-      pub pushed : r .cut ≡ false → (n ≡ 256 → ⊥) → r .key < 65536 → Going code from start e st ops₀ cmds₀ (set ops n (r .x)) cmds (r .next) (r .key) (n + 1) x y k o
+      -- the state with one operand more
+      more-held : (m : Mem) (s : State) → n + 1 ≤ 256 → Holds here (readMem ops cmds m) s → Holds (placed (n + 1) x y k (withOpened o st)) (readMem (set ops n (r .x)) cmds m) (withOperands (take n ops ++ (r .x ∷ [])) s)
       unfolding abs
+      more-held m s few H =
+          let F = H .fit in
+          let l = F .ops in
+          record {
+            is = ap₂ (λ (d : List Float) (u : State). withOperands d u) (ap (λ (j : ℕ). take j (set ops n (r .x))) (add-one n) ∙ take-suc-set ops n (r .x) (omega arith)) (H .is);
+            fit = more-fit m few F;
+          }
+
+      pub pushed : r .cut ≡ false → (n ≡ 256 → ⊥) → r .key < 65536 → Going code from start e st ops₀ cmds₀ (set ops n (r .x)) cmds (r .next) (r .key) (n + 1) x y k o
       pushed z full small =
           let (j, w, tk, is, dr) = N .number z in
           record {
             fit = λ m F. more-fit m below (G .fit m F);
             sound = λ m F b s.
-                subst Sound (more-state m (let a = G .fit m F .ops in let y = below in omega arith))
-                (subst SoundOut (push-is m w (G .fit m F .ops) true (le-leb (n + 1) 256 below) is) (sound-stable (limits m) .number w (subst SmallToken tk (token-small v after-it (byte-here b) (bytes-after b))) (state m) (G .sound m F b s)));
-            same = λ m f F W.
-                G .same m f F W ∙ next m f ∙ ap (λ (a : Token). consume (limits m) f a (state m) (runBytes (limits m) f after-it)) tk
-                ∙ pushing m f j w (G .fit m F .ops) true (le-leb (n + 1) 256 below) is
-                ∙ skip (limits m) f after-it j (withOperands (take n ops ++ (r .x ∷ [])) (state m))
-                ∙ ap₂ (λ (a : List ℕ) (d : State). runBytes (limits m) f a 0 d) dr (more-state m (let a = G .fit m F .ops in let b = below in omega arith));
+                let K = holds-itself here (readMem ops cmds m) (G .fit m F) in
+                held-sound (placed (n + 1) x y k (withOpened o st)) (readMem (set ops n (r .x)) cmds m) (withOperands (take n ops ++ (r .x ∷ [])) (state m)) (more-held m (state m) below K)
+                (subst SoundOut (push-is m (state m) K w true (le-leb (n + 1) 256 below) is) (sound-stable (limits m) .number w (subst SmallToken tk (token-small v after-it (byte-here b) (bytes-after b))) (state m) (G .sound m F b s)));
+            same = λ m s H.
+                let (a, K, all) = G .same m s H in
+                let more = withOperands (take n ops ++ (r .x ∷ [])) a in (
+                  more,
+                  more-held m a below K,
+                  λ f W.
+                      all f W ∙ next m f a ∙ ap (λ (q : Token). consume (limits m) f q a (runBytes (limits m) f after-it)) tk
+                      ∙ pushing m f a K j w true (le-leb (n + 1) 256 below) is
+                      ∙ skip (limits m) f after-it j more
+                      ∙ ap (λ (q : List ℕ). runBytes (limits m) f q 0 more) dr,
+                );
             short = small;
             few = below;
             space = G .space;
@@ -404,11 +467,11 @@ module _ (code : List ℕ) (from start : ℕ) (e : Bool) (st : St) (ops₀ : Lis
   at-end u t h h' eu et = subst (λ (a : Tok). Reads code from start e st ops₀ cmds₀ a ops cmds) (sym (et ∙ ap (λ (a : St). tokOf a i key 1 0) eu)) (record {
     fit = G .fit;
     sound = G .sound;
-    same = λ m f F w. G .same m f F w ∙ ap (λ (a : List ℕ). runBytes (limits m) f a 0 (state m)) (left-none code i key e h);
+    same = λ m s H. let (u, K, is) = G .same m s H in (u, K, λ f w. is f w ∙ ap (λ (a : List ℕ). runBytes (limits m) f a 0 u) (left-none code i key e h));
     on = omega arith;
     whole = G .whole;
     number = λ a b. absurd (b refl);
   })
 
 pub begins : (code : List ℕ) (from start : ℕ) (e : Bool) (st : St) (ops : List Float) (cmds : List ℕ) → start < 65536 → from < length code → st .operands ≤ 256 → 14 * st .entries ≤ length cmds → Going code from start e st ops cmds ops cmds from start (st .operands) (st .x) (st .y) (st .entries) (st .opened)
-begins code from start e st ops cmds q h n k = record { fit = λ m F. F; sound = λ m F b s. s; same = λ m f F w. refl; short = q; few = n; space = k; inside = omega arith; on = omega arith; whole = refl }
+begins code from start e st ops cmds q h n k = record { fit = λ m F. F; sound = λ m F b s. s; same = λ m s H. (s, H, λ f w. refl); short = q; few = n; space = k; inside = omega arith; on = omega arith; whole = refl }

@@ -31,10 +31,11 @@ use Rattle.type1.specs.Memory.{Mem, pointsAt, stemsAt, flexIn, abs, Fit,
 use Rattle.type1.specs.Small.{ranOf, Finite}
 use Rattle.type1.specs.Reading.{cursorOf, isRead, ReadsAs, readMem, goesOn, Reads, Calls}
 use Rattle.type1.specs.Sound.{All, OfFlex, GoodPoint, Sound, SoundOut}
-use Rattle.type1.specs.Cycle.{Ready, limitsOf, fontOf, opD, runD}
+use Rattle.type1.specs.Cycle.{Ready, limitsOf, fontOf, From, MeetsFrom, opD, runD}
 use Rattle.type1.specs.Outcomes.{all-getD}
 use Rattle.type1.specs.SoundLaws.{callSubr-sound, execute-sound, runBody-sound}
-use Rattle.type1.proofs.Bytes.{goes}
+use Rattle.type1.proofs.Stacks.{holds-itself, few-held}
+use Rattle.type1.proofs.Bytes.{goes, held-sound}
 
 -- ---- tests
 twice-not : (t : Bool) → T (not (not t)) → T t
@@ -96,7 +97,7 @@ finite-of t m r = record {
   x = r .sound .point .0 .fine;
   y = r .sound .point .1 .fine;
   operands = λ i h. subst (λ (x : Float). T (finite x)) (getD-take (t .operands) (m .ops) i nan h) (all-getD Good (take (t .operands) (m .ops)) i nan (r .sound .operands) (subst (λ (k : ℕ). i < k) (sym (length-take-le (t .operands) (m .ops) (subst (λ (k : ℕ). t .operands ≤ k) (sym (r .fit .ops)) (r .fit .bounds .operands)))) h) .fine);
-  points = λ f. points-good (t .points) (m .cells) (subst (λ (b : Bool). OfFlex Good (flexIn b (t .points) (m .cells))) f (r .sound .flexing));
+  points = λ f few. points-good (t .points) (m .cells) (subst (All GoodPoint) (few-held (t .points) (pointsAt (t .points) (m .cells)) few) (subst (λ (b : Bool). OfFlex Good (flexIn b (t .points) (m .cells))) f (r .sound .flexing)));
 }
 
 -- ---- the stem store after a step
@@ -282,91 +283,91 @@ module _ (bank : List ℕ) (reading : Reading) (levels : ℕ) where
   stepOf lim = execute lim font (deepOf lim)
 
   module _ (o : ℕ) (t : St) (m : Mem) where
-    abbrev All′ : Outcome
+    abbrev All′ : From
     All′ = opD bank reading levels o t m
 
-    opD-call : T (eqb o 10) → All′ ≡ callSubr font (deepOf (limitsOf m)) (abs t m)
-    unfolding opD execute operate
-    opD-call h = ap (λ (n : ℕ). stepOf (limitsOf m) (operatorOf n) (abs t m)) (eqb→eq o 10 h) ∙ ap (λ (n : Operator). stepOf (limitsOf m) n (abs t m)) call-op
+    opD-call : T (eqb o 10) → (s : State) → All′ .does s ≡ callSubr font (deepOf (limitsOf m)) s
+    unfolding execute operate
+    opD-call h s = ap (λ (n : ℕ). stepOf (limitsOf m) (operatorOf n) s) (eqb→eq o 10 h) ∙ ap (λ (n : Operator). stepOf (limitsOf m) n s) call-op
 
     -- what `plain` did
-    pub plained : T (not (eqb o 10)) → (room : ℕ) → room ≡ length (m .stems) → (r : Ran) (m′ : Mem) → Meets r m′ (operate (within room (length (m .cmds))) (refused 6) (operatorOf o) (abs t m)) → Meets r m′ All′
-    unfolding opD execute
-    plained h room er r m′ e =
-        subst (Meets r m′) (ap (λ (n : ℕ). operate (within n (length (m .cmds))) (refused 6) (operatorOf o) (abs t m)) er ∙ other-call (limitsOf m) (refused 6) (callSubr font (deepOf (limitsOf m)) (abs t m)) (operatorOf o) (abs t m) (either-op o h (ltb o 256) refl)) e
+    pub plained : T (not (eqb o 10)) → (room : ℕ) → room ≡ length (m .stems) → (r : Ran) (m′ : Mem) → ((s : State) → Holds t m s → Meets r m′ (operate (within room (length (m .cmds))) (refused 6) (operatorOf o) s)) → MeetsFrom r m′ All′
+    unfolding execute
+    plained h room er r m′ e s K =
+        subst (Meets r m′) (ap (λ (n : ℕ). operate (within n (length (m .cmds))) (refused 6) (operatorOf o) s) er ∙ other-call (limitsOf m) (refused 6) (callSubr font (deepOf (limitsOf m)) s) (operatorOf o) s (either-op o h (ltb o 256) refl)) (e s K)
 
-    module _ (c : Called) (calls : Calls bank reading m (abs t m) c) (h : T (eqb o 10)) where
+    module _ (c : Called) (calls : (s : State) → Holds t m s → Calls bank reading m s c) (h : T (eqb o 10)) where
       -- a call that is refused
-      pub call-refused : (r : Ran) → r ≡ ranOf (c .st) (c .flow) → T (not (eqb (c .flow) 0)) → Meets r m All′
-      call-refused r e n = let off : (3 ≤ c .flow) × ((deep : List ℕ → State → Outcome) → callSubr font deep (abs t m) ≡ refused (c .flow)) = calls .stopped (not-eq (c .flow) 0 n) in
-          subst (Meets r m) (sym (opD-call h ∙ off .1 (deepOf (limitsOf m)))) (ap (λ (q : Ran). q .flow) e, off .0)
+      pub call-refused : (r : Ran) → r ≡ ranOf (c .st) (c .flow) → T (not (eqb (c .flow) 0)) → MeetsFrom r m All′
+      call-refused r e n s K = let off : (3 ≤ c .flow) × ((deep : List ℕ → State → Outcome) → callSubr font deep s ≡ refused (c .flow)) = calls s K .stopped (not-eq (c .flow) 0 n) in
+          subst (Meets r m) (sym (opD-call h s ∙ off .1 (deepOf (limitsOf m)))) (ap (λ (q : Ran). q .flow) e, off .0)
 
       module _ (n : T (not (not (eqb (c .flow) 0)))) where
-        abbrev Made : Type 0
-        Made = (u : State) × Holds (c .st) m u × ((deep : List ℕ → State → Outcome) → callSubr font deep (abs t m) ≡ returned (deep (bytesAt (found (c .index) bank) bank) u))
+        abbrev Made : State → Type 0
+        Made s = (u : State) × Holds (c .st) m u × ((deep : List ℕ → State → Outcome) → callSubr font deep s ≡ returned (deep (bytesAt (found (c .index) bank) bank) u))
 
-        made : Made
-        made = calls .called (eqb→eq (c .flow) 0 (twice-not (eqb (c .flow) 0) n))
-
-        opD-made : All′ ≡ returned (deepOf (limitsOf m) (bytesAt (found (c .index) bank) bank) (abs (c .st) m))
-        opD-made = opD-call h ∙ made .2 (deepOf (limitsOf m)) ∙ ap (λ (u : State). returned (deepOf (limitsOf m) (bytesAt (found (c .index) bank) bank) u)) (sym (made .1 .is))
+        made : (s : State) → Holds t m s → Made s
+        made s K = calls s K .called (eqb→eq (c .flow) 0 (twice-not (eqb (c .flow) 0) n))
 
         -- one with no level left for it
-        pub too-deep : (r : Ran) → r ≡ ranOf (c .st) 4 → T (eqb levels 0) → Meets r m All′
-        too-deep r e l = subst (Meets r m) (sym (opD-made ∙ ap (λ (k : ℕ). returned (runBody (limitsOf m) font k (bytesAt (found (c .index) bank) bank) (abs (c .st) m))) (eqb→eq levels 0 l) ∙ ap returned (no-level (limitsOf m) font (bytesAt (found (c .index) bank) bank) (abs (c .st) m)))) (ap (λ (q : Ran). q .flow) e, lit≤ tt)
+        pub too-deep : (r : Ran) → r ≡ ranOf (c .st) 4 → T (eqb levels 0) → MeetsFrom r m All′
+        too-deep r e l s K =
+            let (u, J, is) = made s K in
+            subst (Meets r m) (sym (opD-call h s ∙ is (deepOf (limitsOf m)) ∙ ap (λ (k : ℕ). returned (runBody (limitsOf m) font k (bytesAt (found (c .index) bank) bank) u)) (eqb→eq levels 0 l) ∙ ap returned (no-level (limitsOf m) font (bytesAt (found (c .index) bank) bank) u))) (ap (λ (q : Ran). q .flow) e, lit≤ tt)
 
         -- the state in which the body starts
         pub ready-call : Bytes bank → Ready t m → Ready (c .st) m
-        ready-call b r = record {
-          fit = made .1 .fit;
-          sound = subst Sound (sym (made .1 .is)) (subst SoundOut (made .2 (λ l u. ending u)) (callSubr-sound (limitsOf m) font (λ l u. ending u) b (λ l u k q. q) (abs t m) (r .sound)));
-        }
+        ready-call b r =
+            let (u, J, is) = made (abs t m) (holds-itself t m (r .fit)) in
+            record {
+              fit = J .fit;
+              sound = held-sound (c .st) m u J (subst SoundOut (is (λ l u. ending u)) (callSubr-sound (limitsOf m) font (λ l u. ending u) b (λ l u k q. q) (abs t m) (r .sound)));
+            }
 
         -- what the body did
-        pub called : (body : List ℕ) → body ≡ bytesAt (found (c .index) bank) bank → T (not (eqb levels 0)) → (r : Ran) (m′ : Mem) → Meets r m′ (runD bank reading (levels - 1) body (c .st) m) → Meets r m′ All′
-        unfolding runD
-        called body eb l r m′ e =
-            subst (Meets r m′) (ap (λ (k : ℕ). returned (runBody (limitsOf m) font k body (abs (c .st) m))) (one-more levels l) ∙ ap (λ (b : List ℕ). returned (deepOf (limitsOf m) b (abs (c .st) m))) eb ∙ sym opD-made) e
+        pub called : (body : List ℕ) → body ≡ bytesAt (found (c .index) bank) bank → T (not (eqb levels 0)) → (r : Ran) (m′ : Mem) → MeetsFrom r m′ (runD bank reading (levels - 1) body (c .st) m) → MeetsFrom r m′ All′
+        called body eb l r m′ e s K =
+            let (u, J, is) = made s K in
+            subst (Meets r m′) (ap (λ (k : ℕ). returned (runBody (limitsOf m) font k body u)) (one-more levels l) ∙ ap (λ (b : List ℕ). returned (deepOf (limitsOf m) b u)) eb ∙ sym (opD-call h s ∙ is (deepOf (limitsOf m)))) (e u J)
 
   -- ---- the bytes
   module _ (code : List ℕ) (enc : Bool) (t₀ : St) (m₀ : Mem) where
     abbrev lim : Limits
     lim = limitsOf m₀
 
-    abbrev whole : Outcome
-    whole = runBytes lim (stepOf lim) (plain (reading .«len_iv») code) 0 (abs t₀ m₀)
+    abbrev whole : State → Outcome
+    whole = runBytes lim (stepOf lim) (plain (reading .«len_iv») code) 0
 
-    abbrev fin : Outcome
+    abbrev fin : From
     fin = runD bank reading levels code t₀ m₀
 
     -- what is left of the bytes is what the whole comes to
     pub record Onward (i key : ℕ) (h : St) (m : Mem) : Type 0 where
       pub ready : Ready h m
-      pub left : runBytes lim (stepOf lim) (rest (cursorOf i key enc) code) 0 (abs h m) ≡ whole
+      pub left : (s : State) → Holds t₀ m₀ s → (u : State) × Holds h m u × (runBytes lim (stepOf lim) (rest (cursorOf i key enc) code) 0 u ≡ whole s)
 
-    fin-is : fin ≡ returned whole
-    unfolding runD runBody
-    fin-is = refl
+    fin-is : (s : State) → fin .does s ≡ returned (whole s)
+    unfolding runBody
+    fin-is s = refl
 
     pub starts : (i key : ℕ) → cursorOf i key enc ≡ start (reading .«len_iv») code → Ready t₀ m₀ → Onward i key t₀ m₀
     starts i key e r = record {
       ready = r;
-      left = ap (λ (k : Cursor). runBytes lim (stepOf lim) (rest k code) 0 (abs t₀ m₀)) e ∙ ap (λ (l : List ℕ). runBytes lim (stepOf lim) l 0 (abs t₀ m₀)) (rest-start (reading .«len_iv») code);
+      left = λ s K. (s, K, ap (λ (k : Cursor). runBytes lim (stepOf lim) (rest k code) 0 s) e ∙ ap (λ (l : List ℕ). runBytes lim (stepOf lim) l 0 s) (rest-start (reading .«len_iv») code));
     }
 
     module _ (i key : ℕ) (h : St) (m : Mem) (on : Onward i key h m) where
       -- no byte is left
-      pub ended : ltb i (length code) ≡ false → (r : Ran) → r ≡ ranOf h 0 → Meets r m fin
+      pub ended : ltb i (length code) ≡ false → (r : Ran) → r ≡ ranOf h 0 → MeetsFrom r m fin
       unfolding runBytes
-      ended over r e =
-          subst (λ (q : Ran). Meets q m fin) (sym e) (subst (Meets (ranOf h 0) m) (sym (fin-is ∙ ap returned (sym (on .left) ∙ ap (λ (l : List ℕ). runBytes lim (stepOf lim) l 0 (abs h m)) (rest-none (cursorOf i key enc) code (nltb→le i (length code) (subst (λ (b : Bool). T (not b)) (sym over) tt)))))) (refl, record { is = refl; fit = on .ready .fit }))
+      ended over r e s K =
+          let (u, J, is) = on .left s K in
+          subst (λ (q : Ran). Meets q m (fin .does s)) (sym e)
+          (subst (Meets (ranOf h 0) m) (sym (fin-is s ∙ ap returned (sym is ∙ ap (λ (l : List ℕ). runBytes lim (stepOf lim) l 0 u) (rest-none (cursorOf i key enc) code (nltb→le i (length code) (subst (λ (b : Bool). T (not b)) (sym over) tt)))))) (refl, J))
 
       module _ (ls : length (m .stems) ≡ length (m₀ .stems)) (lc : length (m .cmds) ≡ length (m₀ .cmds)) (t : Tok) (os : List Float) (cs : List ℕ) (reads : Reads code i key enc h (m .ops) (m .cmds) t os cs) where
         abbrev m₁ : Mem
         m₁ = readMem os cs m
-
-        abbrev at : State
-        at = abs (t .st) m₁
 
         limits-are : limitsOf m ≡ lim
         limits-are = λ j. within (ls j) (lc j)
@@ -374,51 +375,62 @@ module _ (bank : List ℕ) (reading : Reading) (levels : ℕ) where
         fit-token : Fit (t .st) m₁
         fit-token = reads .fit m (on .ready .fit)
 
-        read-is : (f : Operator → State → Outcome) → ReadsAs lim f → runBytes lim f (rest (cursorOf i key enc) code) 0 (abs h m) ≡ goesOn t code enc lim f at
-        read-is f = subst (λ (l : Limits). ReadsAs l f → runBytes l f (rest (cursorOf i key enc) code) 0 (abs h m) ≡ goesOn t code enc l f at) limits-are (reads .same m f (on .ready .fit))
+        -- the state at the token
+        step-is : (s : State) → Holds h m s → (u : State) × Holds (t .st) m₁ u × (runBytes lim (stepOf lim) (rest (cursorOf i key enc) code) 0 s ≡ goesOn t code enc lim (stepOf lim) u)
+        step-is s H =
+            let (u, K, is) = reads .same m s H in
+            (u, K, subst (λ (l : Limits). ReadsAs l (stepOf lim) → runBytes l (stepOf lim) (rest (cursorOf i key enc) code) 0 s ≡ goesOn t code enc l (stepOf lim) u) limits-are (is (stepOf lim)) (step-read lim font (deepOf lim)))
 
-        going-on : T (not (not (eqb (t .flow) 0))) → (f : Operator → State → Outcome) → goesOn t code enc lim f at ≡ andThen (f (operatorOf (t .op)) at) (runBytes lim f (rest (cursorOf (t .next) (t .key) enc) code) 0)
-        going-on z f =
-            picked (eqb (t .flow) 0) (andThen (f (operatorOf (t .op)) at) (runBytes lim f (rest (cursorOf (t .next) (t .key) enc) code) 0)) (pick (eqb (t .flow) 1) (going at) (refused (t .flow))) (twice-not (eqb (t .flow) 0) z)
-
-        step-is : runBytes lim (stepOf lim) (rest (cursorOf i key enc) code) 0 (abs h m) ≡ goesOn t code enc lim (stepOf lim) at
-        step-is = read-is (stepOf lim) (step-read lim font (deepOf lim))
+        going-on : T (not (not (eqb (t .flow) 0))) → (f : Operator → State → Outcome) (u : State) → goesOn t code enc lim f u ≡ andThen (f (operatorOf (t .op)) u) (runBytes lim f (rest (cursorOf (t .next) (t .key) enc) code) 0)
+        going-on z f u =
+            picked (eqb (t .flow) 0) (andThen (f (operatorOf (t .op)) u) (runBytes lim f (rest (cursorOf (t .next) (t .key) enc) code) 0)) (pick (eqb (t .flow) 1) (going u) (refused (t .flow))) (twice-not (eqb (t .flow) 0) z)
 
         -- the state at an operator
         pub ready-token : Bytes code → Ready (t .st) m₁
         ready-token b = record { fit = fit-token; sound = reads .sound m (on .ready .fit) b (on .ready .sound) }
 
         -- the bytes end, or what stands there is refused
-        pub token-stopped : T (not (eqb (t .flow) 0)) → (r : Ran) → r ≡ ranOf (t .st) (pick (eqb (t .flow) 1) 0 (t .flow)) → Meets r m₁ fin
-        token-stopped z r e =
-            subst (λ (q : Ran). Meets q m₁ fin) (sym e)
-            (subst (Meets (ranOf (t .st) (pick (eqb (t .flow) 1) 0 (t .flow))) m₁) (sym (fin-is ∙ ap returned (sym (on .left) ∙ step-is ∙ not-picked (eqb (t .flow) 0) (andThen (stepOf lim (operatorOf (t .op)) at) (runBytes lim (stepOf lim) (rest (cursorOf (t .next) (t .key) enc) code) 0)) (pick (eqb (t .flow) 1) (going at) (refused (t .flow))) z)))
-            (halted (t .flow) (t .st) m₁ at (eqb (t .flow) 1) refl (record { is = refl; fit = fit-token }) (reads .number (not-eq (t .flow) 0 z))))
+        pub token-stopped : T (not (eqb (t .flow) 0)) → (r : Ran) → r ≡ ranOf (t .st) (pick (eqb (t .flow) 1) 0 (t .flow)) → MeetsFrom r m₁ fin
+        token-stopped z r e s K =
+            let (u, J, is) = on .left s K in
+            let (v, L, does) = step-is u J in
+            subst (λ (q : Ran). Meets q m₁ (fin .does s)) (sym e)
+            (subst (Meets (ranOf (t .st) (pick (eqb (t .flow) 1) 0 (t .flow))) m₁) (sym (fin-is s ∙ ap returned (sym is ∙ does ∙ not-picked (eqb (t .flow) 0) (andThen (stepOf lim (operatorOf (t .op)) v) (runBytes lim (stepOf lim) (rest (cursorOf (t .next) (t .key) enc) code) 0)) (pick (eqb (t .flow) 1) (going v) (refused (t .flow))) z)))
+            (halted (t .flow) (t .st) m₁ v (eqb (t .flow) 1) refl L (reads .number (not-eq (t .flow) 0 z))))
 
         module _ (z : T (not (not (eqb (t .flow) 0)))) where
-          abbrev did : Outcome
+          abbrev did : From
           did = opD bank reading levels (t .op) (t .st) m₁
 
           abbrev then : State → Outcome
           then = runBytes lim (stepOf lim) (rest (cursorOf (t .next) (t .key) enc) code) 0
 
-          did-is : did ≡ stepOf lim (operatorOf (t .op)) at
-          unfolding opD
-          did-is = λ j. stepOf (within (ls j) ((reads .whole ∙ lc) j)) (operatorOf (t .op)) at
+          did-is : (u : State) → did .does u ≡ stepOf lim (operatorOf (t .op)) u
+          did-is u = λ j. stepOf (within (ls j) ((reads .whole ∙ lc) j)) (operatorOf (t .op)) u
 
-          whole-is : whole ≡ andThen did then
-          whole-is = sym (on .left) ∙ step-is ∙ going-on z (stepOf lim) ∙ ap (λ (o : Outcome). andThen o then) (sym did-is)
+          whole-is : (s : State) → Holds t₀ m₀ s → (v : State) × Holds (t .st) m₁ v × (whole s ≡ andThen (did .does v) then)
+          whole-is s K =
+              let (u, J, is) = on .left s K in
+              let (v, L, does) = step-is u J in
+              (v, L, sym is ∙ does ∙ going-on z (stepOf lim) v ∙ ap (λ (o : Outcome). andThen o then) (sym (did-is v)))
 
           -- an operator after which the bytes do not go on
-          pub op-stopped : (r q : Ran) (m₂ : Mem) → Meets r m₂ did → T (not (eqb (r .flow) 0)) → q ≡ ranOf (r .st) (pick (eqb (r .flow) 1) 0 (r .flow)) → Meets q m₂ fin
-          op-stopped r q m₂ e y eq = subst (λ (p : Ran). Meets p m₂ fin) (sym eq) (subst (Meets (ranOf (r .st) (pick (eqb (r .flow) 1) 0 (r .flow))) m₂) (sym (fin-is ∙ ap returned whole-is)) (stops did then r m₂ e (not-eq (r .flow) 0 y)))
+          pub op-stopped : (r q : Ran) (m₂ : Mem) → MeetsFrom r m₂ did → T (not (eqb (r .flow) 0)) → q ≡ ranOf (r .st) (pick (eqb (r .flow) 1) 0 (r .flow)) → MeetsFrom q m₂ fin
+          op-stopped r q m₂ e y eq s K =
+              let (v, L, is) = whole-is s K in
+              subst (λ (p : Ran). Meets p m₂ (fin .does s)) (sym eq) (subst (Meets (ranOf (r .st) (pick (eqb (r .flow) 1) 0 (r .flow))) m₂) (sym (fin-is s ∙ ap returned is)) (stops (did .does v) then r m₂ (e v L) (not-eq (r .flow) 0 y)))
 
           -- one after which they do
-          pub op-went : Bytes bank → Ready (t .st) m₁ → (r : Ran) (m₂ : Mem) → Meets r m₂ did → T (not (not (eqb (r .flow) 0))) → Onward (t .next) (t .key) (r .st) m₂
+          pub op-went : Bytes bank → Ready (t .st) m₁ → (r : Ran) (m₂ : Mem) → MeetsFrom r m₂ did → T (not (not (eqb (r .flow) 0))) → Onward (t .next) (t .key) (r .st) m₂
           op-went b rd r m₂ e y =
               let zero′ : r .flow ≡ 0 = eqb→eq (r .flow) 0 (twice-not (eqb (r .flow) 0) y) in
-              let sounds : SoundOut did = subst SoundOut (sym did-is) (execute-sound lim font (deepOf lim) b (λ l s k q. runBody-sound lim font b levels l s k q) (operatorOf (t .op)) (abs (t .st) m₁) (rd .sound)) in
+              let at : State = abs (t .st) m₁ in
+              let sounds : SoundOut (did .does at) = subst SoundOut (sym (did-is at)) (execute-sound lim font (deepOf lim) b (λ l s k q. runBody-sound lim font b levels l s k q) (operatorOf (t .op)) at (rd .sound)) in
+              let (u, J, is) = goes (did .does at) r m₂ (e at (holds-itself (t .st) m₁ (rd .fit))) zero′ in
               record {
-                ready = record { fit = goes did then r m₂ e zero′ .1 .0; sound = goes did then r m₂ e zero′ .1 .1 sounds };
-                left = sym (goes did then r m₂ e zero′ .0) ∙ sym whole-is;
+                ready = record { fit = J .fit; sound = held-sound (r .st) m₂ u J (subst SoundOut is sounds) };
+                left = λ s K.
+                    let (v, L, all) = whole-is s K in
+                    let (w, N, goes-on) = goes (did .does v) r m₂ (e v L) zero′ in
+                    (w, N, sym (all ∙ ap (λ (o : Outcome). andThen o then) goes-on));
               }

@@ -128,7 +128,7 @@ module _ (same : Bool) (t : St) (r : Ran) (o ps x e : List Float) (a : List Bool
 
   -- stems, as D counts them from the side bearing
   pub stems-arm : (D : Limits → State → Outcome) (e' : List Float) (a' : List Bool) (v : Ran) → v ≡ r
-      → ((s : State) (lim : Limits) → s .bearing ≡ pointAt (getD x 16 nan) (getD x 17 nan) → operate lim (refused 6) w s ≡ D lim s)
+      → ((s : State) (lim : Limits) → s .bearing ≡ pointAt (getD x 14 nan) (getD x 15 nan) → operate lim (refused 6) w s ≡ D lim s)
       → (u : St) → u ≡ t → Hinted u r o e a e' a' D × (r .st .groups ≡ u .groups) → Answers same t o ps x e a c room n o ps x e' a' c v
   stems-arm D e' a' v k b u y h =
       let (f, g) = subst (λ (z : St). Hinted z r o e a e' a' D × (r .st .groups ≡ z .groups)) y h in

@@ -26,14 +26,14 @@ use Rattle.type1.specs.Small.{ranOf}
 use Rattle.type1.specs.Sound.{Ends, Outermost, Sound}
 use Rattle.type1.specs.SoundLaws.{start-sound, sound-stable}
 use Rattle.type1.specs.Invariants.{run-outermost, run-finite}
-use Rattle.type1.specs.Cycle.{memOf, Ready, limitsOf, fontOf, runD}
+use Rattle.type1.specs.Cycle.{memOf, Ready, limitsOf, fontOf, MeetsFrom, runD}
 use Rattle.type1.specs.Entry.{zeroSt, startFlow, numberOf, answerOf, Cleared}
 use Rattle.type1.specs.Interpret.{sourceOf, outcome, Left, refusedWith, Leaves}
 
 -- ---- the state before the first byte
-held-start : (n : ℕ) (m : Mem) → m .cells ≡ replicate 19 plusZero → abs (zeroSt n) m ≡ withRan n start
+held-start : (n : ℕ) (m : Mem) → m .cells ≡ replicate 17 plusZero → abs (zeroSt n) m ≡ withRan n start
 unfolding abs drawnIn groupsIn stemsAt
-held-start n m e = ap (λ (l : List Float). record { operands = []; postscript = []; point = start .point; bearing = record { x = getD l 16 nan; y = getD l 17 nan }; width = getD l 18 nan; opened = false; flexing = start .flexing; hints = []; changed = false; groups = []; drawn = []; divided = false; ran = n }) e
+held-start n m e = ap (λ (l : List Float). record { operands = []; postscript = []; point = start .point; bearing = record { x = getD l 14 nan; y = getD l 15 nan }; width = getD l 16 nan; opened = false; flexing = start .flexing; hints = []; changed = false; groups = []; drawn = []; divided = false; ran = n }) e
 
 -- ---- before the run
 starts : (b c : Bool) → _≡_ {A = ℕ} (cond b (cond c 0 3) 2) 0 → (b ≡ true) × (c ≡ true)
@@ -72,13 +72,12 @@ module _ (charstring bank : List ℕ) where
         stays-out (valid bank) (leb (length charstring) maxCharstringBytes) records words refl refl (λ z. not-zero (b .flow) h (is ∙ z)) ∙ ap refused (sym is)
 
     -- a run that begins is the byte runner's, ten levels deep
-    pub begun : (m : Mem) → m .cells ≡ replicate 19 plusZero → startFlow charstring bank ≡ 0 → outcome (sourceOf charstring bank) reading (length (m .stems)) (length (m .cmds)) ≡ runD bank reading 10 charstring (zeroSt (length charstring)) m
-    unfolding outcome run charge runD
-    begun m z e =
+    pub begun : (m : Mem) → startFlow charstring bank ≡ 0 → outcome (sourceOf charstring bank) reading (length (m .stems)) (length (m .cmds)) ≡ runD bank reading 10 charstring (zeroSt (length charstring)) m .does (withRan (length charstring) start)
+    unfolding outcome run charge
+    begun m e =
         ap (λ (b : Bool). check b 2 (run (limitsOf m) (fontOf bank reading) charstring start)) (begins e .0)
         ∙ ap (λ (b : Bool). andThen (check b 3 (going (withRan (0 + length charstring) start))) (λ t. returned (runBody (limitsOf m) (fontOf bank reading) 11 charstring t))) (ap (λ (n : ℕ). leb n maxCharstringBytes) (zero-add (length charstring)) ∙ begins e .1)
         ∙ ap (λ (n : ℕ). returned (runBody (limitsOf m) (fontOf bank reading) 11 charstring (withRan n start))) (zero-add (length charstring))
-        ∙ ap (λ (s : State). returned (runBody (limitsOf m) (fontOf bank reading) 11 charstring s)) (sym (held-start (length charstring) m z))
 
     -- what is so of every outcome
     outermost : (records words : ℕ) → Outermost (outcome (sourceOf charstring bank) reading records words)
@@ -100,19 +99,19 @@ module _ (charstring bank : List ℕ) where
 -- ---- after the run
 left : (t : St) (m : Mem) (s : State) → Holds t m s → Sound s → Left (answerOf t (m .cells)) (m .cmds) (m .stems) s
 unfolding abs
-left t m s h k = subst (λ (u : State). Sound u → Left (answerOf t (m .cells)) (m .cmds) (m .stems) u) (h .is) (λ q. record {
+left t m s h k = record {
   number = refl;
-  width = refl;
-  ran = refl;
-  drawn = refl;
-  groups = refl;
-  entries = sym (h .fit .entries) ∙ ap (λ (n : ℕ). length (drawnIn (t .entries) (m .cmds)) + n) (sym (h .fit .groups));
-  records = sym (h .fit .used);
+  width = ap (λ (u : State). u .width) (h .is);
+  ran = ap (λ (u : State). u .ran) (h .is);
+  drawn = ap (λ (u : State). u .drawn) (h .is);
+  groups = ap (λ (u : State). u .groups) (h .is);
+  entries = sym (h .fit .entries) ∙ ap (λ (n : ℕ). length (drawnIn (t .entries) (m .cmds)) + n) (sym (h .fit .groups)) ∙ ap (λ (u : State). length (u .drawn) + length (u .groups)) (h .is);
+  records = sym (h .fit .used) ∙ ap (λ (u : State). stemCount (u .groups)) (h .is);
   words-within = h .fit .bounds .entries;
   records-within = h .fit .stems;
   below = h .fit .below;
-  sound = q;
-}) k
+  sound = k;
+}
 
 -- a refusal's number is 3 or more
 its-own : (n : ℕ) → 3 ≤ n → numberOf n ≡ n
@@ -152,7 +151,7 @@ above (suc n) h = omega arith
 refused-leaves : (o : Outcome) (n : ℕ) (r : Interpreted) (commands′ : List ℕ) (stems′ : List Stem) (commands : List ℕ) (stems : List Stem) → T (not (eqb n 0)) → o ≡ refused n → r ≡ refusedWith n → commands′ ≡ replicate (length commands) 0 → stems′ ≡ replicate (length stems) zeroStem → Leaves r commands′ stems′ commands stems o
 refused-leaves o n r commands′ stems′ commands stems h e er ec ez = subst (Leaves r commands′ stems′ commands stems) (sym e) (above n h, (er, (ec, ez)))
 
-zero-fit : (n : ℕ) (m : Mem) → n ≤ maxCharstringBytes → length (m .ops) ≡ 256 → length (m .ps) ≡ 256 → length (m .cells) ≡ 19 → length (m .edges) ≡ 512 → length (m .across) ≡ 256 → Fit (zeroSt n) m
+zero-fit : (n : ℕ) (m : Mem) → n ≤ maxCharstringBytes → length (m .ops) ≡ 256 → length (m .ps) ≡ 256 → length (m .cells) ≡ 17 → length (m .edges) ≡ 512 → length (m .across) ≡ 256 → Fit (zeroSt n) m
 unfolding drawnIn groupsIn stemCount
 zero-fit n m h o p c e a = record {
   bounds = record { operands = omega arith; postscript = omega arith; points = omega arith; hints = omega arith; last = omega arith; groups = omega arith; entries = omega arith; ran = h };
@@ -193,13 +192,16 @@ module _ (charstring bank : List ℕ) (reading : Reading) (b : Ran) (e : b ≡ r
     pub ready-start : Ready (b .st) (memOf o p c d a commands stems)
     ready-start = subst (λ (t : St). Ready t (memOf o p c d a commands stems)) (sym state-is) (record {
       fit = zero-fit (length charstring) (memOf o p c d a commands stems) few
-          (ap length (zero .ops) ∙ length-replicate 256 plusZero) (ap length (zero .ps) ∙ length-replicate 256 plusZero) (ap length (zero .cells) ∙ length-replicate 19 plusZero) (ap length (zero .edges) ∙ length-replicate 512 plusZero) (ap length (zero .across) ∙ length-replicate 256 false);
+          (ap length (zero .ops) ∙ length-replicate 256 plusZero) (ap length (zero .ps) ∙ length-replicate 256 plusZero) (ap length (zero .cells) ∙ length-replicate 17 plusZero) (ap length (zero .edges) ∙ length-replicate 512 plusZero) (ap length (zero .across) ∙ length-replicate 256 false);
       sound = subst Sound (sym (held-start (length charstring) (memOf o p c d a commands stems) (zero .cells))) (sound-stable (within 0 0) .charged (length charstring) start few start-sound);
     })
 
-    module _ (r : Ran) (m : Mem) (h : Meets r m (runD bank reading 10 charstring (b .st) (memOf o p c d a commands stems))) (g : ℕ) (eg : g ≡ numberOf (r .flow)) where
+    starts-so : Holds (b .st) (memOf o p c d a commands stems) (withRan (length charstring) start)
+    starts-so = record { is = ap (λ (t : St). abs t (memOf o p c d a commands stems)) state-is ∙ held-start (length charstring) (memOf o p c d a commands stems) (zero .cells); fit = ready-start .fit }
+
+    module _ (r : Ran) (m : Mem) (h : MeetsFrom r m (runD bank reading 10 charstring (b .st) (memOf o p c d a commands stems))) (g : ℕ) (eg : g ≡ numberOf (r .flow)) where
       met : Meets r m all
-      met = subst (Meets r m) (ap (λ (t : St). runD bank reading 10 charstring t (memOf o p c d a commands stems)) state-is ∙ sym (begun charstring bank reading (memOf o p c d a commands stems) (zero .cells) flow-zero)) h
+      met = subst (Meets r m) (sym (begun charstring bank reading (memOf o p c d a commands stems) flow-zero)) (h (withRan (length charstring) start) starts-so)
 
       pub refused-later : T (not (eqb g 0)) → (q : Interpreted) (commands′ : List ℕ) (stems′ : List Stem) → q ≡ refusedWith g → commands′ ≡ replicate (length commands) 0 → stems′ ≡ replicate (length stems) zeroStem → Leaves q commands′ stems′ commands stems all
       refused-later k q commands′ stems′ er ec ez = refused-leaves all g q commands′ stems′ commands stems k (turned-away r m commands stems all (outermost charstring bank reading (length stems) (length commands)) met g eg k) er ec ez

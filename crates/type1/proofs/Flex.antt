@@ -20,7 +20,7 @@ use Rattle.type1.specs.State.{State, withPoint, withFlex}
 use Rattle.type1.specs.Run.{Limits, within, Outcome, refused, andThen, commit, enter, list, handBack, heightOf, endFlex, otherSubr0}
 use Rattle.type1.specs.Memory.{Mem, pointsAt, abs, Holds, Meets, kept, after, withPs, withCells, withCmds, withStems, Told, Path, Step}
 use Rattle.type1.specs.Small.{ranOf, withXY, cellPoint, flexOf, Space}
-use Rattle.type1.proofs.Stacks.{small, small-fit, flexing-is, points-length, withPostscripts, back-full, back-done}
+use Rattle.type1.proofs.Stacks.{small, small-fit, no-flex-held, flex-points, withPostscripts, back-full, back-done}
 use Rattle.type1.proofs.Paths.{stop-then, kept-same, moved}
 use Rattle.type1.proofs.Steps.{then-goes}
 
@@ -79,19 +79,21 @@ EntersFlex t r x c c' h = (m : Mem) (s : State) (room : ℕ) → Holds t (withCe
 
 module _ (same : Bool) (t : St) (ps x : List Float) (c : List ℕ) (room : ℕ) (h : Float) where
   ends-none : (r : Ran) (ps' : List Float) (c' : List ℕ) → r ≡ ranOf t 9 → t .flexing ≡ false → Ends same t r ps x c ps' c' room h
-  ends-none r ps' c' p f m s args g q w H = subst (Meets r (withPs ps' (withCells x (after t r c' m)))) (sym (no-flex (within room (length c)) args s (flexing-is t _ s H false f))) (ap (λ (z : Ran). z .flow) p, lit≤ tt)
+  ends-none r ps' c' p f m s args g q w H = subst (Meets r (withPs ps' (withCells x (after t r c' m)))) (sym (no-flex (within room (length c)) args s (no-flex-held t _ s H f))) (ap (λ (z : Ran). z .flow) p, lit≤ tt)
 
   module _ (f : t .flexing ≡ true) where
     ends-count : (r : Ran) (ps' : List Float) (c' : List ℕ) → r ≡ ranOf t 9 → (t .points ≡ 7 → ⊥) → Ends same t r ps x c ps' c' room h
     ends-count r ps' c' p n m s args g q w H =
-        subst (Meets r (withPs ps' (withCells x (after t r c' m)))) (sym (a-flex (within room (length c)) args s (pointsAt (t .points) x) (flexing-is t _ s H true f) ∙ end-not (within room (length c)) (heightOf args) (pointsAt (t .points) x) s (λ z. n (sym (points-length (t .points) x) ∙ z))))
+        let (l, fl, count, same) = flex-points t _ s H f in
+        subst (Meets r (withPs ps' (withCells x (after t r c' m)))) (sym (a-flex (within room (length c)) args s l fl ∙ end-not (within room (length c)) (heightOf args) l s (λ z. n (let y : t .points ≡ 7 = omega arith in y))))
         (ap (λ (z : Ran). z .flow) p, lit≤ tt)
 
     module _ (seven : t .points ≡ 7) where
       flex-is : (m : Mem) (s : State) (args : List Float) → h ≡ heightOf args → Holds t (withPs ps (withCells x (withCmds c m))) s → otherSubr0 (within room (length c)) args s ≡ ended (within room (length c)) x h s
       flex-is m s args g H =
-          a-flex (within room (length c)) args s (pointsAt (t .points) x) (flexing-is t _ s H true f)
-          ∙ ap₂ (λ (k : Float) (n : ℕ). endFlex (within room (length c)) k (pointsAt n x) s) (sym g) seven ∙ end-is (within room (length c)) h x s
+          let (l, fl, count, same) = flex-points t _ s H f in
+          a-flex (within room (length c)) args s l fl
+          ∙ ap₂ (λ (k : Float) (n : List Point). endFlex (within room (length c)) k n s) (sym g) (same (omega arith) ∙ ap (λ (n : ℕ). pointsAt n x) seven) ∙ end-is (within room (length c)) h x s
 
       -- the mem after `commit`, with a command store that may be longer
       abbrev held : Ran → List ℕ → Mem → Mem

@@ -279,9 +279,9 @@ last-is t m s H =
     split false q = none (groupsIn (t .entries) (m .cmds) (m .stems)) (let a = ltb-false 0 (t .groups) q in let b = H .fit .groups in omega arith) (stemsAt 0 (t .hints) (m .edges) (m .across))
 
 -- what `is_last` found
-pub found-told : (t : St) (m : Mem) (same : Bool) → Fit t m → same ≡ (t .changed && (ltb 0 (t .groups) && sameStems (take (t .last) (drop (t .stems - t .last) (m .stems))) (stemsAt 0 (t .hints) (m .edges) (m .across)))) → Told same (abs t m)
+pub found-told : (t : St) (m : Mem) (s : State) → Holds t m s → (same : Bool) → same ≡ (t .changed && (ltb 0 (t .groups) && sameStems (take (t .last) (drop (t .stems - t .last) (m .stems))) (stemsAt 0 (t .hints) (m .edges) (m .across)))) → Told same s
 unfolding abs
-found-told t m same F e h = e ∙ ap (λ (b : Bool). b && (ltb 0 (t .groups) && sameStems (take (t .last) (drop (t .stems - t .last) (m .stems))) (stemsAt 0 (t .hints) (m .edges) (m .across)))) h ∙ sym (last-is t m (abs t m) (record { is = refl; fit = F }))
+found-told t m s H same e h = e ∙ ap (λ (b : Bool). b && (ltb 0 (t .groups) && sameStems (take (t .last) (drop (t .stems - t .last) (m .stems))) (stemsAt 0 (t .hints) (m .edges) (m .across)))) (ap (λ (u : State). u .changed) (H .is) ∙ h) ∙ sym (last-is t m s H)
 
 abbrev pub unchanged : St → St
 unchanged t = record { operands = t .operands; postscript = t .postscript; x = t .x; y = t .y; opened = t .opened; flexing = t .flexing; points = t .points; hints = t .hints; changed = false; last = t .last; groups = t .groups; stems = t .stems; entries = t .entries; divided = t .divided; ran = t .ran }

@@ -3,6 +3,7 @@ use mathlib.Core.Path.{_≡_, refl, sym, ap, ap₂, _∙_, subst}
 use Prim.Native.Nat.{ℕ, suc, _+_, _-_, _*_, _≤_}
 use native.Mathlib.Omega.{arith}
 use mathlib.Core.Bool.{Bool, true, false, not, _&&_}
+use mathlib.Core.Option.{Option, none, some}
 use mathlib.Core.List.{List}
 use mathlib.Core.Logic.{_⊎_, inl, inr}
 use borrow.Author.Tests.{eq-eqb, ne-eqb, eqb-true, eqb-false}
@@ -19,7 +20,7 @@ use Rattle.type1.specs.declared.Ran.{Ran}
 use Rattle.outline.specs.Outline.{Command, move, line, curve, pick}
 use Rattle.type1.specs.State.{State, withPoint, withOpen}
 use Rattle.type1.specs.Run.{Limits, within, Outcome, going, returning, ending, refused, andThen, check, commit, enter, list, pointAt, isFinite, shifted, noFlex, moveBy, openSubpath, lineTo, lineBy, curveTo, curveBy, samePoint, setPoint}
-use Rattle.type1.specs.Memory.{Mem, stemsAt, flexIn, abs, Bounds, Fit, Holds, Meets, kept, after, withCmds, withStems, Plain, Path, Step}
+use Rattle.type1.specs.Memory.{Mem, stemsAt, flexIn, flexHeld, abs, Bounds, Fit, Holds, Meets, kept, after, withCmds, withStems, Plain, Path, Step}
 use Rattle.type1.specs.Small.{ranOf, withXY, withOpened, openedRan, Grown, Entered, Space}
 use Rattle.type1.proofs.Hints.{stems-length}
 use Rattle.type1.proofs.Groups.{kept-none, after-none, quiet-told}
@@ -110,8 +111,12 @@ opened-is t m s H = sym (ap (λ (u : State). u .opened) (H .is))
 
 pub flex-is : (t : St) (m : Mem) (s : State) → Holds t m s → noFlex (s .flexing) ≡ not (t .flexing)
 unfolding abs
-flex-is t m s H = sym (ap (λ (u : State). noFlex (u .flexing)) (H .is)) ∙ go (t .flexing)
+flex-is t m s H = same (s .flexing) ∙ sym (ap (λ (u : State). noFlex (u .flexing)) (H .is)) ∙ go (t .flexing)
   where
+    same : (o : Option (List Point)) → noFlex o ≡ noFlex (flexHeld o)
+    same none = refl
+    same (some l) = refl
+
     go : (b : Bool) → noFlex (flexIn b (t .points) (m .cells)) ≡ not b
     go true = refl
     go false = refl

@@ -1,16 +1,16 @@
 -- Laws: operands, the PostScript stack, the side bearing and the points of a flex, as the arrays hold them.
 use mathlib.Core.Path.{_≡_, refl, sym, ap, ap₂, _∙_, subst}
-use Prim.Native.Nat.{ℕ, zero, suc, _+_, _-_, _*_, _≤_, _<_}
+use Prim.Native.Nat.{ℕ, zero, suc, _+_, _-_, _*_, _≤_, _<_, min}
 use native.Mathlib.Nat.{pos-of-ne-zero}
 use native.Mathlib.Numerals.{add-one}
 use native.Mathlib.Omega.{arith}
 use mathlib.Core.Bool.{Bool, true, false, not, cond}
 use mathlib.Core.List.{List, [], _∷_, _++_, reverse, reverse-cons}
 use mathlib.Core.Option.{Option, none, some}
-use borrow.Author.Tests.{le-leb, lt-leb, leb-true, leb-false, lt-ltb, le-ltb}
-use lib.Dec.{leb, ltb, lit≤}
+use borrow.Author.Tests.{le-leb, lt-leb, leb-true, leb-false, lt-ltb, le-ltb, ltb-true, ltb-false}
+use lib.Dec.{T, leb, ltb, lit≤}
 use lib.Arith.{lt-of-le-ne}
-use lib.ListN.{length, getD, take, drop, set, length-set, length-append, length-drop, length-reverse}
+use lib.ListN.{length, getD, take, drop, set, replicate, length-set, length-append, length-drop, length-reverse, length-replicate}
 use lib.Seq.{getD-set-same, getD-set-other, getD-take, length-take-le, take-take, take-suc-set, take-all, paste, length-paste, take-paste}
 use lib.Ieee.{Float, nan, binary64, eq, div}
 use lib.Ieee.Scale.{finite}
@@ -20,11 +20,11 @@ use Rattle.othersubrs.specs.OtherSubrs.{handNumber, handedBack}
 use Rattle.othersubrs.specs.Laws.{handed-all}
 use Rattle.type1.specs.declared.St.{St}
 use Rattle.type1.specs.declared.Ran.{Ran}
-use Rattle.outline.specs.Outline.{plusZero, pick}
+use Rattle.outline.specs.Outline.{plusZero, pick, origin}
 use Rattle.type1.specs.State.{State, withOperands, withPostscript, withPoint, withBearing, withDivided, withFlex}
 use Rattle.type1.specs.Outcomes.{limit-check}
 use Rattle.type1.specs.Run.{within, atMost, Outcome, going, refused, check, allowed, top, cleared, without, needs, push, popD, divD, backwards, handBack, collected, otherSubr2, pointAt}
-use Rattle.type1.specs.Memory.{Mem, pointsAt, flexIn, abs, Bounds, Fit, Holds, Meets, withOps, withPs, withCells}
+use Rattle.type1.specs.Memory.{Mem, pointsAt, atMostSeven, flexIn, flexHeld, heldOf, abs, Bounds, Fit, Holds, Meets, withOps, withPs, withCells}
 use Rattle.type1.specs.Reading.{withCount}
 use Rattle.type1.specs.Small.{ranOf, withXY}
 
@@ -36,7 +36,7 @@ abbrev pub stacks : List Float → List Float → List Float → Mem → Mem
 stacks o p x m = record { ops = o; ps = p; cells = x; edges = m .edges; across = m .across; cmds = m .cmds; stems = m .stems }
 
 pub small-fit : (t : St) (m : Mem) → Fit t m → (n p : ℕ) (x y : Float) (o f : Bool) (k h : ℕ) (c d : Bool) (r : ℕ) (os ps cs : List Float)
-    → n ≤ 256 → p ≤ 256 → k ≤ 8 → h ≤ 256 → r ≤ maxCharstringBytes → length os ≡ 256 → length ps ≡ 256 → length cs ≡ 19 → Fit (small n p x y o f k h c d r t) (stacks os ps cs m)
+    → n ≤ 256 → p ≤ 256 → k ≤ 8 → h ≤ 256 → r ≤ maxCharstringBytes → length os ≡ 256 → length ps ≡ 256 → length cs ≡ 17 → Fit (small n p x y o f k h c d r t) (stacks os ps cs m)
 small-fit t m F n p x y o f k h c d r os ps cs ln lp lk lh lr eo ep ec = record {
   bounds = record { operands = ln; postscript = lp; points = lk; hints = lh; last = F .bounds .last; groups = F .bounds .groups; entries = F .bounds .entries; ran = lr };
   ops = eo;
@@ -104,8 +104,20 @@ points-same (suc k) l x h =
     ap₂ (λ (ps : List Point) (p : Point). ps ++ (p ∷ [])) (points-same k l x (λ i g. h i (omega arith)))
     (ap₂ pointAt (h (2 * k) (omega arith)) (h (2 * k + 1) (omega arith)))
 
-flex-same : (f : Bool) (k : ℕ) (l x : List Float) → ((i : ℕ) → i < 2 * k → getD l i nan ≡ getD x i nan) → flexIn f k l ≡ flexIn f k x
-flex-same true k l x h = ap some (points-same k l x h)
+-- seven points are held as they are, and of more only that there are more
+pub few-held : (n : ℕ) (l : List Point) → n < 8 → atMostSeven n l ≡ l
+few-held n l h = ap (λ (b : Bool). pick b l (replicate 8 origin)) (lt-ltb n 8 h)
+
+many-held : (n : ℕ) (l : List Point) → 8 ≤ n → atMostSeven n l ≡ replicate 8 origin
+many-held n l h = ap (λ (b : Bool). pick b l (replicate 8 origin)) (le-ltb n 8 h)
+
+-- of more than seven no place is held
+flex-same : (f : Bool) (k : ℕ) (l x : List Float) → (k < 8 → (i : ℕ) → i < 2 * k → getD l i nan ≡ getD x i nan) → flexIn f k l ≡ flexIn f k x
+flex-same true k l x h = ap some (go (ltb k 8) refl)
+  where
+    go : (b : Bool) → ltb k 8 ≡ b → atMostSeven k (pointsAt k l) ≡ atMostSeven k (pointsAt k x)
+    go true e = ap (atMostSeven k) (points-same k l x (h (ltb-true k 8 e)))
+    go false e = many-held k (pointsAt k l) (ltb-false k 8 e) ∙ sym (many-held k (pointsAt k x) (ltb-false k 8 e))
 flex-same false k l x h = refl
 
 points-suc : (k : ℕ) (l : List Float) → pointsAt (suc k) l ≡ pointsAt k l ++ (pointAt (getD l (2 * k) nan) (getD l (2 * k + 1) nan) ∷ [])
@@ -119,28 +131,27 @@ cellsAs b w f u = record { operands = u .operands; postscript = u .postscript; p
 -- ---- the side bearing
 module _ (t : St) (m : Mem) (s : State) (H : Holds t m s) (x y w : Float) where
   abbrev borne : List Float
-  borne = set (set (set (m .cells) 16 x) 17 y) 18 w
+  borne = set (set (set (m .cells) 14 x) 15 y) 16 w
 
-  borne-flex : (i : ℕ) → i < 2 * t .points → getD borne i nan ≡ getD (m .cells) i nan
-  borne-flex i h =
-      let b = H .fit .bounds .points in
-      let other : (j : ℕ) → 16 ≤ j → i ≡ j → ⊥ = (λ j g e. let z : ⊥ = omega arith in z) in
-      getD-set-other (set (set (m .cells) 16 x) 17 y) 18 i w nan (other 18 (lit≤ tt)) ∙ getD-set-other (set (m .cells) 16 x) 17 i y nan (other 17 (lit≤ tt)) ∙ getD-set-other (m .cells) 16 i x nan (other 16 (lit≤ tt))
+  borne-flex : t .points < 8 → (i : ℕ) → i < 2 * t .points → getD borne i nan ≡ getD (m .cells) i nan
+  borne-flex few i h =
+      let other : (j : ℕ) → 14 ≤ j → i ≡ j → ⊥ = (λ j g e. let z : ⊥ = omega arith in z) in
+      getD-set-other (set (set (m .cells) 14 x) 15 y) 16 i w nan (other 16 (lit≤ tt)) ∙ getD-set-other (set (m .cells) 14 x) 15 i y nan (other 15 (lit≤ tt)) ∙ getD-set-other (m .cells) 14 i x nan (other 14 (lit≤ tt))
 
-  pub bearing-holds : Holds (withXY x y t) (withCells (set (set (set (m .cells) 16 x) 17 y) 18 w) m) (withBearing (pointAt x y) w s)
+  pub bearing-holds : Holds (withXY x y t) (withCells (set (set (set (m .cells) 14 x) 15 y) 16 w) m) (withBearing (pointAt x y) w s)
   unfolding abs
   bearing-holds =
       let F = H .fit in
       let n = F .cells in
-      let c1 = length-set (m .cells) 16 x in
-      let c2 = length-set (set (m .cells) 16 x) 17 y in
-      let c3 = length-set (set (set (m .cells) 16 x) 17 y) 18 w in
-      let e16 : getD borne 16 nan ≡ x = getD-set-other (set (set (m .cells) 16 x) 17 y) 18 16 w nan (λ e. let z : ⊥ = omega arith in z) ∙ getD-set-other (set (m .cells) 16 x) 17 16 y nan (λ e. let z : ⊥ = omega arith in z) ∙ getD-set-same (m .cells) 16 x nan (omega arith) in
-      let e17 : getD borne 17 nan ≡ y = getD-set-other (set (set (m .cells) 16 x) 17 y) 18 17 w nan (λ e. let z : ⊥ = omega arith in z) ∙ getD-set-same (set (m .cells) 16 x) 17 y nan (omega arith) in
-      let e18 : getD borne 18 nan ≡ w = getD-set-same (set (set (m .cells) 16 x) 17 y) 18 w nan (omega arith) in
+      let c1 = length-set (m .cells) 14 x in
+      let c2 = length-set (set (m .cells) 14 x) 15 y in
+      let c3 = length-set (set (set (m .cells) 14 x) 15 y) 16 w in
+      let e14 : getD borne 14 nan ≡ x = getD-set-other (set (set (m .cells) 14 x) 15 y) 16 14 w nan (λ e. let z : ⊥ = omega arith in z) ∙ getD-set-other (set (m .cells) 14 x) 15 14 y nan (λ e. let z : ⊥ = omega arith in z) ∙ getD-set-same (m .cells) 14 x nan (omega arith) in
+      let e15 : getD borne 15 nan ≡ y = getD-set-other (set (set (m .cells) 14 x) 15 y) 16 15 w nan (λ e. let z : ⊥ = omega arith in z) ∙ getD-set-same (set (m .cells) 14 x) 15 y nan (omega arith) in
+      let e16 : getD borne 16 nan ≡ w = getD-set-same (set (set (m .cells) 14 x) 15 y) 16 w nan (omega arith) in
       let fl = flex-same (t .flexing) (t .points) borne (m .cells) borne-flex in
       record {
-        is = ap₂ (λ (b : Point) (v : Float). cellsAs b v (flexIn (t .flexing) (t .points) borne) (withPoint (pointAt x y) (abs t m))) (ap₂ pointAt e16 e17) e18 ∙ ap (λ (f : Option (List Point)). cellsAs (pointAt x y) w f (withPoint (pointAt x y) (abs t m))) fl ∙ ap (withBearing (pointAt x y) w) (H .is);
+        is = ap₂ (λ (b : Point) (v : Float). cellsAs b v (flexIn (t .flexing) (t .points) borne) (withPoint (pointAt x y) (abs t m))) (ap₂ pointAt e14 e15) e16 ∙ ap (λ (f : Option (List Point)). cellsAs (pointAt x y) w f (withPoint (pointAt x y) (abs t m))) fl ∙ ap (withBearing (pointAt x y) w) (H .is);
         fit = small-fit t m F _ _ _ _ _ _ _ _ _ _ _ _ _ _ (F .bounds .operands) (F .bounds .postscript) (F .bounds .points) (F .bounds .hints) (F .bounds .ran) (F .ops) (F .ps) (c3 ∙ c2 ∙ c1 ∙ F .cells);
       }
 
@@ -149,9 +160,9 @@ pub bearing-of-four : (t : St) (m : Mem) (s : State) → Holds t m s → 4 ≤ t
 bearing-of-four t m s H h =
     ap₂ (λ (p : Point) (w : Float). going (withBearing p w (cleared s))) (ap₂ pointAt (top-is t m s H 4 (omega arith) h) (top-is t m s H 3 (omega arith) (omega arith))) (top-is t m s H 2 (omega arith) (omega arith))
 
-pub bearing-set : (t : St) (m : Mem) (s : State) → Holds t m s → (x y w : Float) (u : St) (r : Ran) → r ≡ ranOf u 0 → u ≡ withXY x y t → Meets r (withCells (set (set (set (m .cells) 16 x) 17 y) 18 w) m) (going (withBearing (pointAt x y) w s))
+pub bearing-set : (t : St) (m : Mem) (s : State) → Holds t m s → (x y w : Float) (u : St) (r : Ran) → r ≡ ranOf u 0 → u ≡ withXY x y t → Meets r (withCells (set (set (set (m .cells) 14 x) 15 y) 16 w) m) (going (withBearing (pointAt x y) w s))
 bearing-set t m s H x y w u r e d =
-    (ap (λ (q : Ran). q .flow) e, subst (λ (v : St). Holds v (withCells (set (set (set (m .cells) 16 x) 17 y) 18 w) m) (withBearing (pointAt x y) w s)) (sym (ap (λ (q : Ran). q .st) e ∙ d)) (bearing-holds t m s H x y w))
+    (ap (λ (q : Ran). q .flow) e, subst (λ (v : St). Holds v (withCells (set (set (set (m .cells) 14 x) 15 y) 16 w) m) (withBearing (pointAt x y) w s)) (sym (ap (λ (q : Ran). q .st) e ∙ d)) (bearing-holds t m s H x y w))
 
 -- ---- `div`
 abbrev pub divided : St → St
@@ -283,54 +294,126 @@ points-length (suc k) l = length-append (pointsAt k l) (pointAt (getD l (2 * k) 
 abbrev pub withPoints : ℕ → St → St
 withPoints k t = small (t .operands) (t .postscript) (t .x) (t .y) (t .opened) (t .flexing) k (t .hints) (t .changed) (t .divided) (t .ran) t
 
+abbrev isNone : Option (List Point) → Bool
+isNone none = true
+isNone (some l) = false
+
+abbrev listOf : Option (List Point) → List Point
+listOf none = []
+listOf (some l) = l
+
+-- how many are held
+held-length : (n : ℕ) (l : List Point) → length l ≡ n → length (atMostSeven n l) ≡ min n 8
+held-length n l e = go (ltb n 8) refl
+  where
+    go : (b : Bool) → ltb n 8 ≡ b → length (atMostSeven n l) ≡ min n 8
+    go true h = let k = ltb-true n 8 h in ap length (few-held n l k) ∙ e ∙ (let z : n ≡ min n 8 = omega arith in z)
+    go false h = let k = ltb-false n 8 h in ap length (many-held n l k) ∙ length-replicate 8 origin ∙ (let z : 8 ≡ min n 8 = omega arith in z)
+
+-- what is held of what is held is all of it
+pub held-again : (t : St) (m : Mem) → abs t m ≡ heldOf (abs t m)
+unfolding abs
+held-again t m = ap (λ (f : Option (List Point)). withFlex f (abs t m)) (go (t .flexing))
+  where
+    n : ℕ
+    n = t .points
+
+    l : List Point
+    l = pointsAt n (m .cells)
+
+    twice : (b : Bool) → ltb n 8 ≡ b → atMostSeven n l ≡ atMostSeven (length (atMostSeven n l)) (atMostSeven n l)
+    twice true h = let k = ltb-true n 8 h in let c = held-length n l (points-length n (m .cells)) in sym (few-held (length (atMostSeven n l)) (atMostSeven n l) (omega arith))
+    twice false h = let k = ltb-false n 8 h in let c = held-length n l (points-length n (m .cells)) in many-held n l k ∙ sym (many-held (length (atMostSeven n l)) (atMostSeven n l) (omega arith))
+
+    go : (b : Bool) → flexIn b n (m .cells) ≡ flexHeld (flexIn b n (m .cells))
+    go true = ap some (twice (ltb n 8) refl)
+    go false = refl
+
+-- the state that the arrays hold is one
+pub holds-itself : (t : St) (m : Mem) → Fit t m → Holds t m (abs t m)
+holds-itself t m F = record { is = held-again t m; fit = F }
+
 module _ (t : St) (m : Mem) (s : State) (H : Holds t m s) where
-  pub flexing-is : (b : Bool) → t .flexing ≡ b → s .flexing ≡ flexIn b (t .points) (m .cells)
+  held-flex : (b : Bool) → t .flexing ≡ b → flexHeld (s .flexing) ≡ flexIn b (t .points) (m .cells)
   unfolding abs
-  flexing-is b e = sym (ap (λ (u : State). u .flexing) (H .is)) ∙ ap (λ (f : Bool). flexIn f (t .points) (m .cells)) e
+  held-flex b e = sym (ap (λ (u : State). u .flexing) (H .is)) ∙ ap (λ (f : Bool). flexIn f (t .points) (m .cells)) e
+
+  pub no-flex-held : t .flexing ≡ false → s .flexing ≡ none
+  no-flex-held e = go (s .flexing) (held-flex false e)
+    where
+      go : (o : Option (List Point)) → flexHeld o ≡ none → o ≡ none
+      go none h = refl
+      go (some l) h = absurd (subst T (ap isNone (sym h)) tt)
+
+  -- a flex's points: as many as are counted, eight standing for more; fewer than eight stand in the cells
+  pub flex-points : t .flexing ≡ true → (l : List Point) × (s .flexing ≡ some l) × (t .points ≡ min (length l) 8) × (t .points < 8 → l ≡ pointsAt (t .points) (m .cells))
+  flex-points e = go (s .flexing) refl (held-flex true e)
+    where
+      n : ℕ
+      n = t .points
+
+      p : List Point
+      p = pointsAt n (m .cells)
+
+      go : (o : Option (List Point)) → s .flexing ≡ o → flexHeld o ≡ some (atMostSeven n p) → (l : List Point) × (s .flexing ≡ some l) × (n ≡ min (length l) 8) × (n < 8 → l ≡ p)
+      go none f h = absurd (subst T (ap isNone h) tt)
+      go (some l) f h =
+          let q : atMostSeven (length l) l ≡ atMostSeven n p = ap (λ (o : Option (List Point)). listOf o) h in
+          let b = H .fit .bounds .points in
+          let c : length (atMostSeven n p) ≡ min n 8 = held-length n p (points-length n (m .cells)) in
+          let d : length (atMostSeven (length l) l) ≡ min (length l) 8 = held-length (length l) l refl in
+          let w = ap length q in
+          let k : n ≡ min (length l) 8 = omega arith in
+          (l, f, k, λ few. sym (few-held (length l) l (omega arith)) ∙ q ∙ few-held n p few)
 
   point-is : s .point ≡ pointAt (t .x) (t .y)
   unfolding abs
   point-is = sym (ap (λ (u : State). u .point) (H .is))
 
   pub collect-none : (r : Ran) → r ≡ ranOf t 9 → t .flexing ≡ false → Meets r m (otherSubr2 s)
-  collect-none r e f = subst (Meets r m) (sym (no-flex s (flexing-is false f))) (ap (λ (q : Ran). q .flow) e, lit≤ tt)
+  collect-none r e f = subst (Meets r m) (sym (no-flex s (no-flex-held f))) (ap (λ (q : Ran). q .flow) e, lit≤ tt)
 
   module _ (f : t .flexing ≡ true) where
-    abbrev l : List Point
-    l = pointsAt (t .points) (m .cells)
-
-    collect-is : (b : Bool) → ltb (t .points) 8 ≡ b → otherSubr2 s ≡ going (withFlex (some (pick b (l ++ (pointAt (t .x) (t .y) ∷ [])) l)) s)
-    collect-is b e =
-        one-more s l (flexing-is true f)
-        ∙ ap₂ (λ (p : Point) (k : Bool). going (withFlex (some (pick k (l ++ (p ∷ [])) l)) s)) point-is (ap (λ (n : ℕ). ltb n 8) (points-length (t .points) (m .cells)) ∙ e)
-
-    pub collect-full : (r : Ran) → r ≡ ranOf t 0 → t .points ≡ 8 → Meets r m (otherSubr2 s)
-    collect-full r e n =
-        subst (Meets r m) (sym (collect-is false (le-ltb (t .points) 8 (omega arith))))
-        (ap (λ (q : Ran). q .flow) e, subst (λ (q : Ran). Holds (q .st) m (withFlex (some l) s)) (sym e) (subst (λ (g : Option (List Point)). Holds t m (withFlex g s)) (flexing-is true f) H))
-
-    pub collect-more : (r : Ran) → r ≡ ranOf (withPoints (t .points + 1) t) 0 → (t .points ≡ 8 → ⊥) → Meets r (withCells (set (set (m .cells) (2 * t .points) (t .x)) (2 * t .points + 1) (t .y)) m) (otherSubr2 s)
+    -- an eighth point is counted, not kept
+    pub collect-more : (r : Ran) → r ≡ ranOf (withPoints 8 t) 0 → 7 ≤ t .points → Meets r m (otherSubr2 s)
     unfolding abs
-    collect-more r e ne =
+    collect-more r e h =
+        let F = H .fit in
+        let (l, fl, n, same) = flex-points f in
+        let c = length-append l (s .point ∷ []) in
+        subst (Meets r m) (sym (one-more s l fl)) (
+          ap (λ (q : Ran). q .flow) e,
+          subst (λ (q : Ran). Holds (q .st) m (withFlex (some (l ++ (s .point ∷ []))) s)) (sym e) (record {
+            is = ap (λ (b : Bool). withFlex (flexIn b 8 (m .cells)) (abs t m)) f ∙ ap₂ (λ (g : List Point) (u : State). withFlex (some g) u) (sym (many-held (length (l ++ (s .point ∷ []))) (l ++ (s .point ∷ [])) (omega arith))) (H .is);
+            fit = small-fit t m F _ _ _ _ _ _ _ _ _ _ _ _ _ _ (F .bounds .operands) (F .bounds .postscript) (omega arith) (F .bounds .hints) (F .bounds .ran) (F .ops) (F .ps) (F .cells);
+          }),
+        )
+
+    pub collect-kept : (r : Ran) → r ≡ ranOf (withPoints (t .points + 1) t) 0 → t .points < 7 → Meets r (withCells (set (set (m .cells) (2 * t .points) (t .x)) (2 * t .points + 1) (t .y)) m) (otherSubr2 s)
+    unfolding abs
+    collect-kept r e lt =
         let F = H .fit in
         let k = t .points in
-        let lt : k < 8 = lt-of-le-ne (F .bounds .points) ne in
         let n = F .cells in
         let d = set (m .cells) (2 * k) (t .x) in
         let c = set d (2 * k + 1) (t .y) in
         let n1 = length-set (m .cells) (2 * k) (t .x) in
         let n2 = length-set d (2 * k + 1) (t .y) in
         let other : (i : ℕ) → (i ≡ 2 * k → ⊥) → (i ≡ 2 * k + 1 → ⊥) → getD c i nan ≡ getD (m .cells) i nan = (λ i a b. getD-set-other d (2 * k + 1) i (t .y) nan b ∙ getD-set-other (m .cells) (2 * k) i (t .x) nan a) in
-        let far : (i : ℕ) → 16 ≤ i → getD c i nan ≡ getD (m .cells) i nan = (λ i h. other i (λ q. let z : ⊥ = omega arith in z) (λ q. let z : ⊥ = omega arith in z)) in
+        let far : (i : ℕ) → 14 ≤ i → getD c i nan ≡ getD (m .cells) i nan = (λ i h. other i (λ q. let z : ⊥ = omega arith in z) (λ q. let z : ⊥ = omega arith in z)) in
         let near : (i : ℕ) → i < 2 * k → getD c i nan ≡ getD (m .cells) i nan = (λ i h. other i (λ q. let z : ⊥ = omega arith in z) (λ q. let z : ⊥ = omega arith in z)) in
         let ex : getD c (2 * k) nan ≡ t .x = getD-set-other d (2 * k + 1) (2 * k) (t .y) nan (λ q. let z : ⊥ = omega arith in z) ∙ getD-set-same (m .cells) (2 * k) (t .x) nan (omega arith) in
         let ey : getD c (2 * k + 1) nan ≡ t .y = getD-set-same d (2 * k + 1) (t .y) nan (omega arith) in
-        let more : pointsAt (k + 1) c ≡ l ++ (pointAt (t .x) (t .y) ∷ []) = ap (λ (j : ℕ). pointsAt j c) (add-one k) ∙ points-suc k c ∙ ap₂ (λ (ps : List Point) (p : Point). ps ++ (p ∷ [])) (points-same k c (m .cells) near) (ap₂ pointAt ex ey) in
-        let fl : flexIn (t .flexing) (k + 1) c ≡ some (l ++ (pointAt (t .x) (t .y) ∷ [])) = ap (λ (b : Bool). flexIn b (k + 1) c) f ∙ ap some more in
-        subst (Meets r (withCells c m)) (sym (collect-is true (lt-ltb k 8 lt))) (
+        let (l, fl, count, same) = flex-points f in
+        let p = pointAt (t .x) (t .y) in
+        let is-l : l ≡ pointsAt k (m .cells) = same (omega arith) in
+        let more : pointsAt (k + 1) c ≡ l ++ (s .point ∷ []) = ap (λ (j : ℕ). pointsAt j c) (add-one k) ∙ points-suc k c ∙ ap₂ (λ (ps : List Point) (p : Point). ps ++ (p ∷ [])) (points-same k c (m .cells) near ∙ sym is-l) (ap₂ pointAt ex ey ∙ sym point-is) in
+        let a = length-append l (s .point ∷ []) in
+        let held : flexIn (t .flexing) (k + 1) c ≡ flexHeld (some (l ++ (s .point ∷ []))) = ap (λ (b : Bool). flexIn b (k + 1) c) f ∙ ap some (few-held (k + 1) (pointsAt (k + 1) c) (omega arith) ∙ more ∙ sym (few-held (length (l ++ (s .point ∷ []))) (l ++ (s .point ∷ [])) (omega arith))) in
+        subst (Meets r (withCells c m)) (sym (one-more s l fl)) (
           ap (λ (q : Ran). q .flow) e,
-          subst (λ (q : Ran). Holds (q .st) (withCells c m) (withFlex (some (l ++ (pointAt (t .x) (t .y) ∷ []))) s)) (sym e) (record {
-            is = ap₂ (λ (b : Point) (w : Float). cellsAs b w (flexIn (t .flexing) (k + 1) c) (abs t m)) (ap₂ pointAt (far 16 (lit≤ tt)) (far 17 (lit≤ tt))) (far 18 (lit≤ tt)) ∙ ap₂ withFlex fl (H .is);
+          subst (λ (q : Ran). Holds (q .st) (withCells c m) (withFlex (some (l ++ (s .point ∷ []))) s)) (sym e) (record {
+            is = ap₂ (λ (b : Point) (w : Float). cellsAs b w (flexIn (t .flexing) (k + 1) c) (abs t m)) (ap₂ pointAt (far 14 (lit≤ tt)) (far 15 (lit≤ tt))) (far 16 (lit≤ tt)) ∙ ap₂ withFlex held (H .is);
             fit = small-fit t m F _ _ _ _ _ _ _ _ _ _ _ _ _ _ (F .bounds .operands) (F .bounds .postscript) (omega arith) (F .bounds .hints) (F .bounds .ran) (F .ops) (F .ps) (n2 ∙ n1 ∙ n);
           }),
         )

@@ -20,7 +20,7 @@ then-goes o r n k q n' m z f = let (u, h, e) = go-then r n o k m z in subst (Mee
 
 -- ---- a stem's edge is counted from the side bearing
 module _ (t : St) (m : Mem) (s : State) (H : Holds t m s) where
-  pub bearing-is : s .bearing ≡ pointAt (getD (m .cells) 16 nan) (getD (m .cells) 17 nan)
+  pub bearing-is : s .bearing ≡ pointAt (getD (m .cells) 14 nan) (getD (m .cells) 15 nan)
   unfolding abs
   bearing-is = sym (ap (λ (u : State). u .bearing) (H .is))
 

@@ -6,9 +6,11 @@ use lib.ListN.{length}
 use lib.Ieee.{Float}
 use Rattle.outline.specs.declared.Stem.{Stem}
 use Rattle.type1.specs.declared.St.{St}
+use Rattle.type1.specs.declared.Ran.{Ran}
 use Rattle.type1.specs.declared.Reading.{Reading}
+use Rattle.type1.specs.State.{State}
 use Rattle.type1.specs.Run.{Limits, within, Outcome, Font, returned, execute, runBody}
-use Rattle.type1.specs.Memory.{Mem, abs, Fit, operatorOf}
+use Rattle.type1.specs.Memory.{Mem, abs, Fit, Holds, Meets, operatorOf}
 use Rattle.type1.specs.Sound.{Sound}
 
 abbrev pub memOf : List Float → List Float → List Float → List Float → List Bool → List ℕ → List Stem → Mem
@@ -26,10 +28,19 @@ limitsOf m = within (length (m .stems)) (length (m .cmds))
 abbrev pub fontOf : List ℕ → Reading → Font
 fontOf bank reading = record { bank = bank; reading = reading }
 
+-- what the run does, from each state that is held so
+pub record From : Type 0 where
+  pub state : St
+  pub mem : Mem
+  pub does : State → Outcome
+
+abbrev pub MeetsFrom : Ran → Mem → From → Type 0
+MeetsFrom r m x = (s : State) → Holds (x .state) (x .mem) s → Meets r m (x .does s)
+
 -- one operator, with so many levels left for bodies
-unfoldable pub opD : List ℕ → Reading → ℕ → ℕ → St → Mem → Outcome
-opD bank reading levels op t m = execute (limitsOf m) (fontOf bank reading) (runBody (limitsOf m) (fontOf bank reading) levels) (operatorOf op) (abs t m)
+abbrev pub opD : List ℕ → Reading → ℕ → ℕ → St → Mem → From
+opD bank reading levels op t m = record { state = t; mem = m; does = execute (limitsOf m) (fontOf bank reading) (runBody (limitsOf m) (fontOf bank reading) levels) (operatorOf op) }
 
 -- a body's bytes, with so many levels left below it; one that returns goes on after the call
-unfoldable pub runD : List ℕ → Reading → ℕ → List ℕ → St → Mem → Outcome
-runD bank reading levels code t m = returned (runBody (limitsOf m) (fontOf bank reading) (suc levels) code (abs t m))
+abbrev pub runD : List ℕ → Reading → ℕ → List ℕ → St → Mem → From
+runD bank reading levels code t m = record { state = t; mem = m; does = λ s. returned (runBody (limitsOf m) (fontOf bank reading) (suc levels) code s) }

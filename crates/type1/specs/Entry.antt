@@ -25,12 +25,12 @@ numberOf f = pick (eqb f 2) 0 f
 
 -- a run that is not refused
 abbrev pub answerOf : St → List Float → Interpreted
-answerOf t cells = record { number = 0; width = getD cells 18 nan; ran = t .ran; entries = t .entries; stems = t .stems }
+answerOf t cells = record { number = 0; width = getD cells 16 nan; ran = t .ran; entries = t .entries; stems = t .stems }
 
 -- the arrays before the run
 pub record Cleared (o p c e : List Float) (a : List Bool) : Type 0 where
   pub ops : o ≡ replicate 256 plusZero
   pub ps : p ≡ replicate 256 plusZero
-  pub cells : c ≡ replicate 19 plusZero
+  pub cells : c ≡ replicate 17 plusZero
   pub edges : e ≡ replicate 512 plusZero
   pub across : a ≡ replicate 256 false

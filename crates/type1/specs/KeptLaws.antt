@@ -243,13 +243,6 @@ module _ (d : Bool) (P : Float → Type 0) (K : Sums P) where
   height-kept [] h = K .fifty
   height-kept (a ∷ l) h = h .0
 
-  collected-kept : (l : List Point) (p : Point) → All (OfPoint P) l → OfPoint P p → All (OfPoint P) (collected l p)
-  collected-kept l p h g = go (ltb (length l) 8)
-    where
-      go : (b : Bool) → All (OfPoint P) (pick b (l ++ (p ∷ [])) l)
-      go true = all-snoc (OfPoint P) l p h g
-      go false = h
-
   -- with a flex or none
   pub otherSubr0-kept : (lim : Limits) (args : List Float) (s : State) → All P args → Held d P s → Ends (Held d P) (otherSubr0 lim args s)
   unfolding otherSubr0
@@ -265,7 +258,7 @@ module _ (d : Bool) (P : Float → Type 0) (K : Sums P) where
     where
       go : (o : Option (List Point)) → OfFlex P o → Ends (Held d P) (elim o as (λ x. Outcome) [ none ↦ refused 9 | some l ↦ going (withFlex (some (collected l (s .point))) s) ])
       go none f = tt
-      go (some l) f = (q .0, flexing-kept P s (q .1) (some (collected l (s .point))) (collected-kept l (s .point) f (q .1 .point)))
+      go (some l) f = (q .0, flexing-kept P s (q .1) (some (collected l (s .point))) (all-snoc (OfPoint P) l (s .point) f (q .1 .point)))
 
   pub otherSubr-kept : (lim : Limits) (z : ℤ) (args : List Float) (s : State) → All P args → Held d P s → Ends (Held d P) (otherSubr lim z args s)
   unfolding otherSubr All

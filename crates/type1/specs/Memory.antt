@@ -6,7 +6,7 @@ use mathlib.Core.Bool.{Bool, true, false}
 use mathlib.Core.List.{List, [], _∷_, _++_}
 use mathlib.Core.Option.{Option, none, some}
 use lib.Dec.{T, eqb, ltb}
-use lib.ListN.{length, take, drop, getD}
+use lib.ListN.{length, take, drop, getD, replicate}
 use lib.Seq.{paste}
 use lib.Ieee.{Float, nan, binary64, ofBits, fits}
 use lib.Ieee.Scale.{finite}
@@ -18,8 +18,8 @@ use Rattle.type1.specs.declared.St.{St}
 use Rattle.type1.specs.declared.Ran.{Ran}
 use Rattle.type1.specs.Operator.{Operator, ofByte, ofEscape}
 use Rattle.outline.specs.Store.{word, drawnIn, groupsIn}
-use Rattle.outline.specs.Outline.{Command, move, line, curve, flex, Group, sameStems, lastIs, stemCount, pick}
-use Rattle.type1.specs.State.{State}
+use Rattle.outline.specs.Outline.{Command, move, line, curve, flex, Group, sameStems, lastIs, stemCount, pick, origin}
+use Rattle.type1.specs.State.{State, withFlex}
 use Rattle.type1.specs.Run.{Limits, within, Outcome, going, returning, ending, refused}
 
 -- ---- the arrays
@@ -44,18 +44,29 @@ unfoldable pub stemsAt : ℕ → ℕ → List Float → List Bool → List Stem
 stemsAt from zero e a = []
 stemsAt from (suc n) e a = stemsAt from n e a ++ (stemAt e a (from + n) ∷ [])
 
--- ---- the state that is held
+-- ---- the state that is held: of a flex seven points, or that there were more ("Flex list: a count and seven points")
+abbrev pub atMostSeven : ℕ → List Point → List Point
+atMostSeven n l = pick (ltb n 8) l (replicate 8 origin)
+
 abbrev pub flexIn : Bool → ℕ → List Float → Option (List Point)
-flexIn true n l = some (pointsAt n l)
+flexIn true n l = some (atMostSeven n (pointsAt n l))
 flexIn false n l = none
+
+abbrev pub flexHeld : Option (List Point) → Option (List Point)
+flexHeld none = none
+flexHeld (some l) = some (atMostSeven (length l) l)
+
+-- what is held of a state
+abbrev pub heldOf : State → State
+heldOf s = withFlex (flexHeld (s .flexing)) s
 
 unfoldable pub abs : St → Mem → State
 abs t m = record {
   operands = take (t .operands) (m .ops);
   postscript = take (t .postscript) (m .ps);
   point = record { x = t .x; y = t .y };
-  bearing = record { x = getD (m .cells) 16 nan; y = getD (m .cells) 17 nan };
-  width = getD (m .cells) 18 nan;
+  bearing = record { x = getD (m .cells) 14 nan; y = getD (m .cells) 15 nan };
+  width = getD (m .cells) 16 nan;
   opened = t .opened;
   flexing = flexIn (t .flexing) (t .points) (m .cells);
   hints = stemsAt 0 (t .hints) (m .edges) (m .across);
@@ -82,7 +93,7 @@ pub record Fit (t : St) (m : Mem) : Type 0 where
   pub bounds : Bounds t (length (m .cmds))
   pub ops : length (m .ops) ≡ 256
   pub ps : length (m .ps) ≡ 256
-  pub cells : length (m .cells) ≡ 19
+  pub cells : length (m .cells) ≡ 17
   pub edges : length (m .edges) ≡ 512
   pub across : length (m .across) ≡ 256
   pub stems : t .stems ≤ length (m .stems)
@@ -95,7 +106,7 @@ pub record Fit (t : St) (m : Mem) : Type 0 where
   pub last : 0 < t .groups → (l : List Stem) → lastIs (groupsIn (t .entries) (m .cmds) (m .stems)) l ≡ sameStems (take (t .last) (drop (t .stems - t .last) (m .stems))) l
 
 pub record Holds (t : St) (m : Mem) (s : State) : Type 0 where
-  pub is : abs t m ≡ s
+  pub is : abs t m ≡ heldOf s
   pub fit : Fit t m
 
 -- ---- every number of the state is a finite double

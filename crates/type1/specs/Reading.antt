@@ -137,8 +137,8 @@ readMem o c m = withOps o (withCmds c m)
 -- the bytes from a place on were read up to the token t
 pub record Reads (code : List ℕ) (from key : ℕ) (encrypted : Bool) (st : St) (ops : List Float) (cmds : List ℕ) (t : Tok) (exit : List Float) (cexit : List ℕ) : Type 0 where
   pub fit : (m : Mem) → Fit st (readMem ops cmds m) → Fit (t .st) (readMem exit cexit m)
-  pub same : (m : Mem) (f : Operator → State → Outcome) → Fit st (readMem ops cmds m) → ReadsAs (within (length (m .stems)) (length cmds)) f
-      → runBytes (within (length (m .stems)) (length cmds)) f (rest (cursorOf from key encrypted) code) 0 (abs st (readMem ops cmds m)) ≡ goesOn t code encrypted (within (length (m .stems)) (length cmds)) f (abs (t .st) (readMem exit cexit m))
+  pub same : (m : Mem) (s : State) → Holds st (readMem ops cmds m) s → (u : State) × Holds (t .st) (readMem exit cexit m) u × ((f : Operator → State → Outcome) → ReadsAs (within (length (m .stems)) (length cmds)) f
+      → runBytes (within (length (m .stems)) (length cmds)) f (rest (cursorOf from key encrypted) code) 0 s ≡ goesOn t code encrypted (within (length (m .stems)) (length cmds)) f u)
   pub sound : (m : Mem) → Fit st (readMem ops cmds m) → Bytes code → Sound (abs st (readMem ops cmds m)) → Sound (abs (t .st) (readMem exit cexit m))
   pub on : from < t .next
   pub whole : length cexit ≡ length cmds

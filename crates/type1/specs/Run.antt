@@ -199,9 +199,9 @@ otherSubr0 lim args s = go (s .flexing)
     go none = refused 9
     go (some l) = endFlex lim (heightOf args) l s
 
--- 2 collects the current point. With eight points a flex is refused whatever comes, so no ninth is kept.
+-- 2 collects the current point
 abbrev pub collected : List Point → Point → List Point
-collected l p = pick (ltb (length l) 8) (l ++ (p ∷ [])) l
+collected l p = l ++ (p ∷ [])
 
 unfoldable pub otherSubr2 : State → Outcome
 otherSubr2 s = go (s .flexing)

@@ -65,7 +65,7 @@ pub record Finite (t : St) (ops cells : List Float) : Type 0 where
   pub x : T (finite (t .x))
   pub y : T (finite (t .y))
   pub operands : (i : ℕ) → i < t .operands → T (finite (getD ops i nan))
-  pub points : t .flexing ≡ true → (i : ℕ) → i < 2 * t .points → Good (getD cells i nan)
+  pub points : t .flexing ≡ true → t .points < 8 → (i : ℕ) → i < 2 * t .points → Good (getD cells i nan)
 
 -- a group that was made has room in a stem store of so many records
 abbrev pub Space : St → St → ℕ → Type 0

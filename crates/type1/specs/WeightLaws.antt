@@ -209,15 +209,11 @@ module _ (lim : Limits) (n : ℕ) where
   unfolding otherSubr2
   otherSubr2-weighs s w = go (s .flexing) refl
     where
-      more : (b : Bool) (l : List Point) (p : Point) → length (pick b (l ++ (p ∷ [])) l) ≤ 1 + length l
-      more true l p = let e = length-append l (p ∷ []) in omega arith
-      more false l p = omega arith
-
       go : (o : Option (List Point)) → s .flexing ≡ o → Ends (Weighs n) (elim o as (λ x. Outcome) [ none ↦ refused 9 | some l ↦ going (withFlex (some (collected l (s .point))) s) ])
       go none e = tt
       go (some l) e =
           let g : gathered (s .flexing) ≡ length l = ap gathered e in
-          let h = more (ltb (length l) 8) l (s .point) in
+          let h = length-append l (s .point ∷ []) in
           weighs-more (1 + n) n s (withFlex (some (collected l (s .point))) s) refl (w .placed) (omega arith) w
 
   backwards-length : (l : List Float) → length (backwards l) ≡ length l

@@ -27,7 +27,7 @@ ghost use Rattle.type1.specs.Memory.{Mem, stemsAt, Bounds, Good, Holds, 
 ghost use Rattle.type1.specs.Deltas.{axesOf, tangentsOf, noDelta, noDeltas, pointDelta, curveDeltas, byPoint, byCurve, stemFrom};
 ghost use Rattle.type1.specs.Reading.{cursorOf, withCount, placed, tokOf, Numbered, Operated, Stores, Adds, Draws, isQuick, Reads, Calls};
 ghost use Rattle.type1.specs.Small as Small;
-ghost use Rattle.type1.specs.Cycle.{memOf, Ready, opD, runD};
+ghost use Rattle.type1.specs.Cycle.{memOf, Ready, opD, runD, MeetsFrom};
 ghost use Rattle.type1.specs.Entry.{zeroSt, startFlow, numberOf, answerOf, Cleared};
 ghost use Rattle.type1.specs.Interpret.{sourceOf, outcome, refusedWith, Leaves};
 use geometry::Point;
@@ -64,7 +64,7 @@ struct St {
     // the current point
     x: f64,
     y: f64,
-    // how many points a flex has collected: 8 at the most
+    // how many points a flex has collected, of which seven are kept: 8 stands for more
     points: usize,
     // stems in force, and stems of the last group
     hints: usize,
@@ -143,12 +143,12 @@ const POP: u16 = 256 + 17;
 
 const SETCURRENTPOINT: u16 = 256 + 33;
 
-// places in `cells`, after the eight points of a flex
-const BEARING_X: usize = 16;
+// places in `cells`, after the seven points of a flex
+const BEARING_X: usize = 14;
 
-const BEARING_Y: usize = 17;
+const BEARING_Y: usize = 15;
 
-const WIDTH: usize = 18;
+const WIDTH: usize = 16;
 
 // ---- tokens
 
@@ -838,8 +838,8 @@ fn enter_flex(
 }
 
 // A point that a flex collected.
-fn collected(cells: &[f64; 19], i: usize) -> Point
-    requires { ⌜ i < 8 ⌝ }
+fn collected(cells: &[f64; 17], i: usize) -> Point
+    requires { ⌜ i < 7 ⌝ }
     ensures { λ r. ⌜ r ≡ Small.cellPoint (now (cells .entry)) i ⌝ }
 {
     Point {
@@ -849,7 +849,7 @@ fn collected(cells: &[f64; 19], i: usize) -> Point
 }
 
 // The flex of the seven points collected, of which the first is not used.
-fn list_flex(height: f64, st: St, cells: &[f64; 19], cmds: &mut [u64]) -> Ran
+fn list_flex(height: f64, st: St, cells: &[f64; 17], cmds: &mut [u64]) -> Ran
     requires { ⌜ 14 * st .entries ≤ length (now cmds) ⌝ }
     requires { ⌜ T (finite height) × ((i : ℕ) → i < 14 → Good (getD (now cells) i nan)) ⌝ }
     ensures { λ r. ⌜ ((m : Mem) (s : State.State) (room : ℕ) → Holds st (withCells (now (cells .entry)) (withCmds (now (cmds .entry)) m)) s →
@@ -1378,12 +1378,12 @@ fn end_flex(
     room: usize,
     st: St,
     ps: &mut [f64; 256],
-    cells: &[f64; 19],
+    cells: &[f64; 17],
     cmds: &mut [u64],
 ) -> Ran
     requires { ⌜ Bounds st (length (now cmds)) ⌝ }
     requires { ⌜ st .stems ≤ room ⌝ }
-    requires { ⌜ T (finite height) × (st .flexing ≡ true → (i : ℕ) → i < 2 * st .points → Good (getD (now cells) i nan)) ⌝ }
+    requires { ⌜ T (finite height) × (st .flexing ≡ true → st .points < 8 → (i : ℕ) → i < 2 * st .points → Good (getD (now cells) i nan)) ⌝ }
     ensures { λ r. ⌜ ((m : Mem) (s : State.State) (args : List Float) → height ≡ Run.heightOf args → length (m .stems) ≡ room → Told same s → Holds st (withPs (now (ps .entry)) (withCells (now (cells .entry)) (withCmds (now (cmds .entry)) m))) s →
         Meets r (withPs (now (ps .exit)) (withCells (now (cells .entry)) (after st r (now (cmds .exit)) m))) (Run.otherSubr0 (within room (length (now (cmds .entry)))) args s)) ⌝ }
     ensures { λ r. ⌜ Small.Space st (r .st) room ⌝ }
@@ -1414,9 +1414,8 @@ fn end_flex(
     made(t, 0)
 }
 
-// 2: the current point is collected.
-fn collect(st: St, cells: &mut [f64; 19]) -> Ran
-    requires { ⌜ st .points ≤ 8 ⌝ }
+// 2: the current point is collected. An eighth is counted, not kept.
+fn collect(st: St, cells: &mut [f64; 17]) -> Ran
     ensures { λ r. ⌜ ((m : Mem) (s : State.State) → Holds st (withCells (now (cells .entry)) m) s →
         Meets r (withCells (now (cells .exit)) m) (Run.otherSubr2 s)) ⌝ }
     ensures { λ r. ⌜ r .st .groups ≡ st .groups ⌝ }
@@ -1425,13 +1424,14 @@ fn collect(st: St, cells: &mut [f64; 19]) -> Ran
         return made(st, 9);
     }
     let n = st.points;
-    if n == 8 {
-        return made(st, 0);
-    }
-    cells[2 * n] = st.x;
-    cells[2 * n + 1] = st.y;
     let mut s = st;
-    s.points = n + 1;
+    if n < 7 {
+        cells[2 * n] = st.x;
+        cells[2 * n + 1] = st.y;
+        s.points = n + 1;
+        return made(s, 0);
+    }
+    s.points = 8;
     made(s, 0)
 }
 
@@ -1442,7 +1442,7 @@ fn callothersubr(
     st: St,
     ops: &[f64; 256],
     ps: &mut [f64; 256],
-    cells: &mut [f64; 19],
+    cells: &mut [f64; 17],
     cmds: &mut [u64],
 ) -> Ran
     requires { ⌜ Bounds st (length (now cmds)) ⌝ }
@@ -1493,7 +1493,7 @@ fn callothersubr(
 // ---- other operators
 
 // 13
-fn hsbw(st: St, ops: &[f64; 256], cells: &mut [f64; 19]) -> Ran
+fn hsbw(st: St, ops: &[f64; 256], cells: &mut [f64; 17]) -> Ran
     requires { ⌜ st .operands ≤ 256 ⌝ }
     ensures { λ r. ⌜ ((m : Mem) (s : State.State) (c : Run.Outcome) (room words : ℕ) → Holds st (withOps (now (ops .entry)) (withCells (now (cells .entry)) m)) s →
         Meets r (withOps (now (ops .entry)) (withCells (now (cells .exit)) m)) (operate (within room words) c Op.hsbw s)) ⌝ }
@@ -1507,7 +1507,7 @@ fn hsbw(st: St, ops: &[f64; 256], cells: &mut [f64; 19]) -> Ran
 }
 
 // 12 7
-fn sbw(st: St, ops: &[f64; 256], cells: &mut [f64; 19]) -> Ran
+fn sbw(st: St, ops: &[f64; 256], cells: &mut [f64; 17]) -> Ran
     requires { ⌜ st .operands ≤ 256 ⌝ }
     ensures { λ r. ⌜ ((m : Mem) (s : State.State) (c : Run.Outcome) (room words : ℕ) → Holds st (withOps (now (ops .entry)) (withCells (now (cells .entry)) m)) s →
         Meets r (withOps (now (ops .entry)) (withCells (now (cells .exit)) m)) (operate (within room words) c Op.sbw s)) ⌝ }
@@ -1520,7 +1520,7 @@ fn sbw(st: St, ops: &[f64; 256], cells: &mut [f64; 19]) -> Ran
     side_bearing(ops[n - 4], ops[n - 3], ops[n - 2], cleared(st), cells)
 }
 
-fn side_bearing(x: f64, y: f64, width: f64, st: St, cells: &mut [f64; 19]) -> Ran
+fn side_bearing(x: f64, y: f64, width: f64, st: St, cells: &mut [f64; 17]) -> Ran
     ensures { λ r. ⌜ ((m : Mem) (s : State.State) → Holds st (withCells (now (cells .entry)) m) s →
         Meets r (withCells (now (cells .exit)) m) (Run.going (State.withBearing (pointAt x y) width s))) ⌝ }
     ensures { λ r. ⌜ r .st .groups ≡ st .groups ⌝ }
@@ -1596,7 +1596,7 @@ fn plain(
     st: St,
     ops: &mut [f64; 256],
     ps: &mut [f64; 256],
-    cells: &mut [f64; 19],
+    cells: &mut [f64; 17],
     edges: &mut [f64; 512],
     across: &mut [bool; 256],
     cmds: &mut [u64],
@@ -1861,14 +1861,14 @@ fn call_body(
     st: St,
     ops: &mut [f64; 256],
     ps: &mut [f64; 256],
-    cells: &mut [f64; 19],
+    cells: &mut [f64; 17],
     edges: &mut [f64; 512],
     across: &mut [bool; 256],
     cmds: &mut [u64],
     stems: &mut [Stem],
 ) -> Ran
     requires { ⌜ (levels < 100) × (Valid (now bank) × Ready st (memOf (now ops) (now ps) (now cells) (now edges) (now across) (now cmds) (now stems))) ⌝ }
-    ensures { λ r. ⌜ Meets r (memOf (now (ops .exit)) (now (ps .exit)) (now (cells .exit)) (now (edges .exit)) (now (across .exit)) (now (cmds .exit)) (now (stems .exit)))
+    ensures { λ r. ⌜ MeetsFrom r (memOf (now (ops .exit)) (now (ps .exit)) (now (cells .exit)) (now (edges .exit)) (now (across .exit)) (now (cmds .exit)) (now (stems .exit)))
         (opD (now (bank .entry)) reading levels 10 st
         (memOf (now (ops .entry)) (now (ps .entry)) (now (cells .entry)) (now (edges .entry)) (now (across .entry)) (now (cmds .entry)) (now (stems .entry)))) ⌝ }
 {
@@ -1905,14 +1905,14 @@ fn op(
     st: St,
     ops: &mut [f64; 256],
     ps: &mut [f64; 256],
-    cells: &mut [f64; 19],
+    cells: &mut [f64; 17],
     edges: &mut [f64; 512],
     across: &mut [bool; 256],
     cmds: &mut [u64],
     stems: &mut [Stem],
 ) -> Ran
     requires { ⌜ (levels < 100) × (Valid (now bank) × Ready st (memOf (now ops) (now ps) (now cells) (now edges) (now across) (now cmds) (now stems))) ⌝ }
-    ensures { λ r. ⌜ Meets r (memOf (now (ops .exit)) (now (ps .exit)) (now (cells .exit)) (now (edges .exit)) (now (across .exit)) (now (cmds .exit)) (now (stems .exit)))
+    ensures { λ r. ⌜ MeetsFrom r (memOf (now (ops .exit)) (now (ps .exit)) (now (cells .exit)) (now (edges .exit)) (now (across .exit)) (now (cmds .exit)) (now (stems .exit)))
         (opD (now (bank .entry)) reading levels op st
         (memOf (now (ops .entry)) (now (ps .entry)) (now (cells .entry)) (now (edges .entry)) (now (across .entry)) (now (cmds .entry)) (now (stems .entry)))) ⌝ }
 {
@@ -1953,14 +1953,14 @@ fn run(
     st: St,
     ops: &mut [f64; 256],
     ps: &mut [f64; 256],
-    cells: &mut [f64; 19],
+    cells: &mut [f64; 17],
     edges: &mut [f64; 512],
     across: &mut [bool; 256],
     cmds: &mut [u64],
     stems: &mut [Stem],
 ) -> Ran
     requires { ⌜ (levels < 100) × (Valid (now bank) × Ready st (memOf (now ops) (now ps) (now cells) (now edges) (now across) (now cmds) (now stems))) ⌝ }
-    ensures { λ r. ⌜ Meets r (memOf (now (ops .exit)) (now (ps .exit)) (now (cells .exit)) (now (edges .exit)) (now (across .exit)) (now (cmds .exit)) (now (stems .exit)))
+    ensures { λ r. ⌜ MeetsFrom r (memOf (now (ops .exit)) (now (ps .exit)) (now (cells .exit)) (now (edges .exit)) (now (across .exit)) (now (cmds .exit)) (now (stems .exit)))
         (runD (now (bank .entry)) reading levels (now (code .entry)) st
         (memOf (now (ops .entry)) (now (ps .entry)) (now (cells .entry)) (now (edges .entry)) (now (across .entry)) (now (cmds .entry)) (now (stems .entry)))) ⌝ }
 {
@@ -2068,12 +2068,12 @@ fn refused(number: u8) -> Interpreted
     }
 }
 
-fn answer(st: St, cells: &[f64; 19]) -> Interpreted
+fn answer(st: St, cells: &[f64; 17]) -> Interpreted
     ensures { λ r. ⌜ r ≡ answerOf st (now (cells .entry)) ⌝ }
 {
     Interpreted {
         number: 0,
-        width: cells[18],
+        width: cells[WIDTH],
         ran: st.ran,
         entries: st.entries,
         stems: st.stems,
@@ -2094,7 +2094,7 @@ fn interpret(
     reading: Reading,
     ops: &mut [f64; 256],
     ps: &mut [f64; 256],
-    cells: &mut [f64; 19],
+    cells: &mut [f64; 17],
     edges: &mut [f64; 512],
     across: &mut [bool; 256],
     commands: &mut [u64],
@@ -2147,7 +2147,7 @@ pub fn run_charstring(
 {
     let mut ops = [0.0; 256];
     let mut ps = [0.0; 256];
-    let mut cells = [0.0; 19];
+    let mut cells = [0.0; 17];
     let mut edges = [0.0; 512];
     let mut across = [false; 256];
     interpret(

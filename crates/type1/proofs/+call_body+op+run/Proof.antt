@@ -110,9 +110,9 @@ module _ {M : Type 1} (𝓤 : URA M) (H : Heap 𝓤) (𝓜 : Model 𝓤 H) (𝓖
   unfolding tablesOf
   call-body-method t below =
       at-on 𝓤 H A call-body.signature (call-body.spec 𝓤 H A (𝓜 .mem) (𝓡 .run)) (WpFn 𝓤 H (𝓣 .C) (𝓣 .Λ) code.call-body-function) (𝓣 .C #type1·call-body) (code.call-body-unfolded 𝓤 H 𝓜 𝓡) (λ y. (y .0 .3 .1 .1 .0) + (y .0 .3 .1 .1 .0) + (y .0 .3 .1 .1 .0)) t (λ y e.
-      walk-meets-at 𝓤 H A call-body.ended in-call-body.stayed W (goes-none-slice 𝓤 H A W 8 (0 ∷ []) tt (plain (λ _. u8)) yes, (goes-none 𝓤 H A W 8 (λ _. Y.the-row) yes (λ κs x f. refl), (goes-none 𝓤 H A W 8 (λ _. usize) yes (λ κs x f. refl), (goes-none 𝓤 H A W 8 (λ _. S.the-row) yes (λ κs x f. refl), (goes-ref 𝓤 H A W 8 1 tt (ArrayOf (plain (λ _. f64)) (λ _. tt) 256), (goes-ref 𝓤 H A W 8 2 tt (ArrayOf (plain (λ _. f64)) (λ _. tt) 256), (goes-ref 𝓤 H A W 8 3 tt (ArrayOf (plain (λ _. f64)) (λ _. tt) 19), (goes-ref 𝓤 H A W 8 4 tt (ArrayOf (plain (λ _. f64)) (λ _. tt) 512), (goes-ref 𝓤 H A W 8 5 tt (ArrayOf (plain (λ _. bool)) (λ _. tt) 256), (goes-slice 𝓤 H A W 8 6 tt (plain (λ _. u64)), (goes-slice 𝓤 H A W 8 7 tt (plain (λ _. T.the-row)), tt))))))))))) (call-body.clauses 𝓤 H A (𝓜 .mem) (𝓡 .run))
+      walk-meets-at 𝓤 H A call-body.ended in-call-body.stayed W (goes-none-slice 𝓤 H A W 8 (0 ∷ []) tt (plain (λ _. u8)) yes, (goes-none 𝓤 H A W 8 (λ _. Y.the-row) yes (λ κs x f. refl), (goes-none 𝓤 H A W 8 (λ _. usize) yes (λ κs x f. refl), (goes-none 𝓤 H A W 8 (λ _. S.the-row) yes (λ κs x f. refl), (goes-ref 𝓤 H A W 8 1 tt (ArrayOf (plain (λ _. f64)) (λ _. tt) 256), (goes-ref 𝓤 H A W 8 2 tt (ArrayOf (plain (λ _. f64)) (λ _. tt) 256), (goes-ref 𝓤 H A W 8 3 tt (ArrayOf (plain (λ _. f64)) (λ _. tt) 17), (goes-ref 𝓤 H A W 8 4 tt (ArrayOf (plain (λ _. f64)) (λ _. tt) 512), (goes-ref 𝓤 H A W 8 5 tt (ArrayOf (plain (λ _. bool)) (λ _. tt) 256), (goes-slice 𝓤 H A W 8 6 tt (plain (λ _. u64)), (goes-slice 𝓤 H A W 8 7 tt (plain (λ _. T.the-row)), tt))))))))))) (call-body.clauses 𝓤 H A (𝓜 .mem) (𝓡 .run))
       (WpFn 𝓤 H (𝓣 .C) (𝓣 .Λ) code.call-body-function) (WpFn-mono 𝓤 H (W .laws) 𝓣 code.call-body-function) y
-      (walked-at 𝓤 H A call-body.ended in-call-body.stayed (call-body.clauses 𝓤 H A (𝓜 .mem) (𝓡 .run)) (WpFn 𝓤 H (𝓣 .C) (𝓣 .Λ) code.call-body-function) y (slice-vals, (LL.vals Y.the-type Y′.the-laws, (uint-vals w64, (LL.vals S.the-type S′.the-laws, (ptr-vals, (ptr-vals, (ptr-vals, (ptr-vals, (ptr-vals, (slice-vals, (slice-vals, tt))))))))))) (shr-slice-tells (named 0) (y .0 .0 .0) u8, (LL.tells Y.the-type Y′.the-laws, (uint-tells w64, (LL.tells S.the-type S′.the-laws, (mut-tells (named 1) (y .0 .0 .1 .0) (Array f64 256), (mut-tells (named 2) (y .0 .0 .1 .1 .0) (Array f64 256), (mut-tells (named 3) (y .0 .0 .1 .1 .1 .0) (Array f64 19), (mut-tells (named 4) (y .0 .0 .1 .1 .1 .1 .0) (Array f64 512), (mut-tells (named 5) (y .0 .0 .1 .1 .1 .1 .1 .0) (Array bool 256), (mut-slice-tells (named 6) (y .0 .0 .1 .1 .1 .1 .1 .1 .0) u64, (mut-slice-tells (named 7) (y .0 .0 .1 .1 .1 .1 .1 .1 .1 .0) T.the-row, tt)))))))))))
+      (walked-at 𝓤 H A call-body.ended in-call-body.stayed (call-body.clauses 𝓤 H A (𝓜 .mem) (𝓡 .run)) (WpFn 𝓤 H (𝓣 .C) (𝓣 .Λ) code.call-body-function) y (slice-vals, (LL.vals Y.the-type Y′.the-laws, (uint-vals w64, (LL.vals S.the-type S′.the-laws, (ptr-vals, (ptr-vals, (ptr-vals, (ptr-vals, (ptr-vals, (slice-vals, (slice-vals, tt))))))))))) (shr-slice-tells (named 0) (y .0 .0 .0) u8, (LL.tells Y.the-type Y′.the-laws, (uint-tells w64, (LL.tells S.the-type S′.the-laws, (mut-tells (named 1) (y .0 .0 .1 .0) (Array f64 256), (mut-tells (named 2) (y .0 .0 .1 .1 .0) (Array f64 256), (mut-tells (named 3) (y .0 .0 .1 .1 .1 .0) (Array f64 17), (mut-tells (named 4) (y .0 .0 .1 .1 .1 .1 .0) (Array f64 512), (mut-tells (named 5) (y .0 .0 .1 .1 .1 .1 .1 .0) (Array bool 256), (mut-slice-tells (named 6) (y .0 .0 .1 .1 .1 .1 .1 .1 .0) u64, (mut-slice-tells (named 7) (y .0 .0 .1 .1 .1 .1 .1 .1 .1 .0) T.the-row, tt)))))))))))
       (λ are. needs 𝓤 (((y .0 .3 .1 .1 .0) < 100) × (Valid ((y .0 .3 .0) .now) × Ready (y .0 .3 .1 .1 .1 .0) (memOf (y .0 .3 .1 .1 .1 .1 .0 .now) (y .0 .3 .1 .1 .1 .1 .1 .0 .now) (y .0 .3 .1 .1 .1 .1 .1 .1 .0 .now) (y .0 .3 .1 .1 .1 .1 .1 .1 .1 .0 .now) (y .0 .3 .1 .1 .1 .1 .1 .1 .1 .1 .0 .now) (y .0 .3 .1 .1 .1 .1 .1 .1 .1 .1 .1 .0 .now) (y .0 .3 .1 .1 .1 .1 .1 .1 .1 .1 .1 .1 .0 .now)))) (onEntry 𝓤 H A call-body.signature (y .0 .0) (y .0 .1) (y .0 .3) _) (λ need. in-call-body.walk 𝓤 H A W (𝓜 .mem) (𝓡 .run) 𝓣 (y .0 .0 .0) (y .0 .1 .0) (y .0 .3 .0) (y .0 .0 .1 .0) (y .0 .1 .1 .0) ((y .0 .3 .1 .1 .1 .1 .0) .ptr .0) ((y .0 .3 .1 .1 .1 .1 .0) .ptr .1) ((y .0 .3 .1 .1 .1 .1 .0) .name) ((y .0 .3 .1 .1 .1 .1 .0) .now) (y .0 .0 .1 .1 .0) (y .0 .1 .1 .1 .0) ((y .0 .3 .1 .1 .1 .1 .1 .0) .ptr .0) ((y .0 .3 .1 .1 .1 .1 .1 .0) .ptr .1) ((y .0 .3 .1 .1 .1 .1 .1 .0) .name) ((y .0 .3 .1 .1 .1 .1 .1 .0) .now) (y .0 .0 .1 .1 .1 .0) (y .0 .1 .1 .1 .1 .0) ((y .0 .3 .1 .1 .1 .1 .1 .1 .0) .ptr .0) ((y .0 .3 .1 .1 .1 .1 .1 .1 .0) .ptr .1) ((y .0 .3 .1 .1 .1 .1 .1 .1 .0) .name) ((y .0 .3 .1 .1 .1 .1 .1 .1 .0) .now) (y .0 .0 .1 .1 .1 .1 .0) (y .0 .1 .1 .1 .1 .1 .0) ((y .0 .3 .1 .1 .1 .1 .1 .1 .1 .0) .ptr .0) ((y .0 .3 .1 .1 .1 .1 .1 .1 .1 .0) .ptr .1) ((y .0 .3 .1 .1 .1 .1 .1 .1 .1 .0) .name) ((y .0 .3 .1 .1 .1 .1 .1 .1 .1 .0) .now) (y .0 .0 .1 .1 .1 .1 .1 .0) (y .0 .1 .1 .1 .1 .1 .1 .0) ((y .0 .3 .1 .1 .1 .1 .1 .1 .1 .1 .0) .ptr .0) ((y .0 .3 .1 .1 .1 .1 .1 .1 .1 .1 .0) .ptr .1) ((y .0 .3 .1 .1 .1 .1 .1 .1 .1 .1 .0) .name) ((y .0 .3 .1 .1 .1 .1 .1 .1 .1 .1 .0) .now) (y .0 .0 .1 .1 .1 .1 .1 .1 .0) (y .0 .1 .1 .1 .1 .1 .1 .1 .0) ((y .0 .3 .1 .1 .1 .1 .1 .1 .1 .1 .1 .0) .ptr .0) ((y .0 .3 .1 .1 .1 .1 .1 .1 .1 .1 .1 .0) .ptr .1) ((y .0 .3 .1 .1 .1 .1 .1 .1 .1 .1 .1 .0) .name) ((y .0 .3 .1 .1 .1 .1 .1 .1 .1 .1 .1 .0) .now) (y .0 .0 .1 .1 .1 .1 .1 .1 .1 .0) (y .0 .1 .1 .1 .1 .1 .1 .1 .1 .0) ((y .0 .3 .1 .1 .1 .1 .1 .1 .1 .1 .1 .1 .0) .ptr .0) ((y .0 .3 .1 .1 .1 .1 .1 .1 .1 .1 .1 .1 .0) .ptr .1) ((y .0 .3 .1 .1 .1 .1 .1 .1 .1 .1 .1 .1 .0) .name) ((y .0 .3 .1 .1 .1 .1 .1 .1 .1 .1 .1 .1 .0) .now) (y .0 .3 .1 .0) (y .0 .3 .1 .1 .0) (y .0 .3 .1 .1 .1 .0) (are .0 .0 .1) (are .1 .1 .1 .1 .1 .1 .1 .1 .1 .0 .0 .1) (are .1 .1 .1 .1 .1 .1 .1 .1 .1 .1 .0 .0 .1) (are .1 .0) (are .1 .1 .0 .1) (are .1 .1 .1 .0)
       (cited 𝓤 H (CallsubrC 𝓤 H A (𝓜 .mem) (𝓡 .run)) 𝓜 𝓡 code.env #type1·callsubr callsubr-def.routine code.calls-type1·callsubr (callsubr-thm.met 𝓤 H 𝓜 𝓖 𝓡))
       (cited 𝓤 H (MadeC 𝓤 H A (𝓜 .mem) (𝓡 .run)) 𝓜 𝓡 code.env #type1·made made-def.routine code.calls-type1·made (made-thm.met 𝓤 H 𝓜 𝓖 𝓡))
@@ -123,9 +123,9 @@ module _ {M : Type 1} (𝓤 : URA M) (H : Heap 𝓤) (𝓜 : Model 𝓤 H) (𝓖
   unfolding tablesOf
   op-method t below =
       at-on 𝓤 H A op.signature (op.spec 𝓤 H A (𝓜 .mem) (𝓡 .run)) (WpFn 𝓤 H (𝓣 .C) (𝓣 .Λ) code.op-function) (𝓣 .C #type1·op) (code.op-unfolded 𝓤 H 𝓜 𝓡) (λ y. (y .0 .3 .1 .1 .1 .0) + (y .0 .3 .1 .1 .1 .0) + (y .0 .3 .1 .1 .1 .0) + 1) t (λ y e.
-      walk-meets-at 𝓤 H A op.ended in-op.stayed W (goes-none 𝓤 H A W 8 (λ _. u16) yes (λ κs x f. refl), (goes-none-slice 𝓤 H A W 8 (0 ∷ []) tt (plain (λ _. u8)) yes, (goes-none 𝓤 H A W 8 (λ _. Y.the-row) yes (λ κs x f. refl), (goes-none 𝓤 H A W 8 (λ _. usize) yes (λ κs x f. refl), (goes-none 𝓤 H A W 8 (λ _. S.the-row) yes (λ κs x f. refl), (goes-ref 𝓤 H A W 8 1 tt (ArrayOf (plain (λ _. f64)) (λ _. tt) 256), (goes-ref 𝓤 H A W 8 2 tt (ArrayOf (plain (λ _. f64)) (λ _. tt) 256), (goes-ref 𝓤 H A W 8 3 tt (ArrayOf (plain (λ _. f64)) (λ _. tt) 19), (goes-ref 𝓤 H A W 8 4 tt (ArrayOf (plain (λ _. f64)) (λ _. tt) 512), (goes-ref 𝓤 H A W 8 5 tt (ArrayOf (plain (λ _. bool)) (λ _. tt) 256), (goes-slice 𝓤 H A W 8 6 tt (plain (λ _. u64)), (goes-slice 𝓤 H A W 8 7 tt (plain (λ _. T.the-row)), tt)))))))))))) (op.clauses 𝓤 H A (𝓜 .mem) (𝓡 .run))
+      walk-meets-at 𝓤 H A op.ended in-op.stayed W (goes-none 𝓤 H A W 8 (λ _. u16) yes (λ κs x f. refl), (goes-none-slice 𝓤 H A W 8 (0 ∷ []) tt (plain (λ _. u8)) yes, (goes-none 𝓤 H A W 8 (λ _. Y.the-row) yes (λ κs x f. refl), (goes-none 𝓤 H A W 8 (λ _. usize) yes (λ κs x f. refl), (goes-none 𝓤 H A W 8 (λ _. S.the-row) yes (λ κs x f. refl), (goes-ref 𝓤 H A W 8 1 tt (ArrayOf (plain (λ _. f64)) (λ _. tt) 256), (goes-ref 𝓤 H A W 8 2 tt (ArrayOf (plain (λ _. f64)) (λ _. tt) 256), (goes-ref 𝓤 H A W 8 3 tt (ArrayOf (plain (λ _. f64)) (λ _. tt) 17), (goes-ref 𝓤 H A W 8 4 tt (ArrayOf (plain (λ _. f64)) (λ _. tt) 512), (goes-ref 𝓤 H A W 8 5 tt (ArrayOf (plain (λ _. bool)) (λ _. tt) 256), (goes-slice 𝓤 H A W 8 6 tt (plain (λ _. u64)), (goes-slice 𝓤 H A W 8 7 tt (plain (λ _. T.the-row)), tt)))))))))))) (op.clauses 𝓤 H A (𝓜 .mem) (𝓡 .run))
       (WpFn 𝓤 H (𝓣 .C) (𝓣 .Λ) code.op-function) (WpFn-mono 𝓤 H (W .laws) 𝓣 code.op-function) y
-      (walked-at 𝓤 H A op.ended in-op.stayed (op.clauses 𝓤 H A (𝓜 .mem) (𝓡 .run)) (WpFn 𝓤 H (𝓣 .C) (𝓣 .Λ) code.op-function) y (uint-vals w16, (slice-vals, (LL.vals Y.the-type Y′.the-laws, (uint-vals w64, (LL.vals S.the-type S′.the-laws, (ptr-vals, (ptr-vals, (ptr-vals, (ptr-vals, (ptr-vals, (slice-vals, (slice-vals, tt)))))))))))) (uint-tells w16, (shr-slice-tells (named 0) (y .0 .0 .0) u8, (LL.tells Y.the-type Y′.the-laws, (uint-tells w64, (LL.tells S.the-type S′.the-laws, (mut-tells (named 1) (y .0 .0 .1 .0) (Array f64 256), (mut-tells (named 2) (y .0 .0 .1 .1 .0) (Array f64 256), (mut-tells (named 3) (y .0 .0 .1 .1 .1 .0) (Array f64 19), (mut-tells (named 4) (y .0 .0 .1 .1 .1 .1 .0) (Array f64 512), (mut-tells (named 5) (y .0 .0 .1 .1 .1 .1 .1 .0) (Array bool 256), (mut-slice-tells (named 6) (y .0 .0 .1 .1 .1 .1 .1 .1 .0) u64, (mut-slice-tells (named 7) (y .0 .0 .1 .1 .1 .1 .1 .1 .1 .0) T.the-row, tt))))))))))))
+      (walked-at 𝓤 H A op.ended in-op.stayed (op.clauses 𝓤 H A (𝓜 .mem) (𝓡 .run)) (WpFn 𝓤 H (𝓣 .C) (𝓣 .Λ) code.op-function) y (uint-vals w16, (slice-vals, (LL.vals Y.the-type Y′.the-laws, (uint-vals w64, (LL.vals S.the-type S′.the-laws, (ptr-vals, (ptr-vals, (ptr-vals, (ptr-vals, (ptr-vals, (slice-vals, (slice-vals, tt)))))))))))) (uint-tells w16, (shr-slice-tells (named 0) (y .0 .0 .0) u8, (LL.tells Y.the-type Y′.the-laws, (uint-tells w64, (LL.tells S.the-type S′.the-laws, (mut-tells (named 1) (y .0 .0 .1 .0) (Array f64 256), (mut-tells (named 2) (y .0 .0 .1 .1 .0) (Array f64 256), (mut-tells (named 3) (y .0 .0 .1 .1 .1 .0) (Array f64 17), (mut-tells (named 4) (y .0 .0 .1 .1 .1 .1 .0) (Array f64 512), (mut-tells (named 5) (y .0 .0 .1 .1 .1 .1 .1 .0) (Array bool 256), (mut-slice-tells (named 6) (y .0 .0 .1 .1 .1 .1 .1 .1 .0) u64, (mut-slice-tells (named 7) (y .0 .0 .1 .1 .1 .1 .1 .1 .1 .0) T.the-row, tt))))))))))))
       (λ are. needs 𝓤 (((y .0 .3 .1 .1 .1 .0) < 100) × (Valid ((y .0 .3 .1 .0) .now) × Ready (y .0 .3 .1 .1 .1 .1 .0) (memOf (y .0 .3 .1 .1 .1 .1 .1 .0 .now) (y .0 .3 .1 .1 .1 .1 .1 .1 .0 .now) (y .0 .3 .1 .1 .1 .1 .1 .1 .1 .0 .now) (y .0 .3 .1 .1 .1 .1 .1 .1 .1 .1 .0 .now) (y .0 .3 .1 .1 .1 .1 .1 .1 .1 .1 .1 .0 .now) (y .0 .3 .1 .1 .1 .1 .1 .1 .1 .1 .1 .1 .0 .now) (y .0 .3 .1 .1 .1 .1 .1 .1 .1 .1 .1 .1 .1 .0 .now)))) (onEntry 𝓤 H A op.signature (y .0 .0) (y .0 .1) (y .0 .3) _) (λ need. in-op.walk 𝓤 H A W (𝓜 .mem) (𝓡 .run) 𝓣 (y .0 .0 .0) (y .0 .1 .0) (y .0 .3 .1 .0) (y .0 .0 .1 .0) (y .0 .1 .1 .0) ((y .0 .3 .1 .1 .1 .1 .1 .0) .ptr .0) ((y .0 .3 .1 .1 .1 .1 .1 .0) .ptr .1) ((y .0 .3 .1 .1 .1 .1 .1 .0) .name) ((y .0 .3 .1 .1 .1 .1 .1 .0) .now) (y .0 .0 .1 .1 .0) (y .0 .1 .1 .1 .0) ((y .0 .3 .1 .1 .1 .1 .1 .1 .0) .ptr .0) ((y .0 .3 .1 .1 .1 .1 .1 .1 .0) .ptr .1) ((y .0 .3 .1 .1 .1 .1 .1 .1 .0) .name) ((y .0 .3 .1 .1 .1 .1 .1 .1 .0) .now) (y .0 .0 .1 .1 .1 .0) (y .0 .1 .1 .1 .1 .0) ((y .0 .3 .1 .1 .1 .1 .1 .1 .1 .0) .ptr .0) ((y .0 .3 .1 .1 .1 .1 .1 .1 .1 .0) .ptr .1) ((y .0 .3 .1 .1 .1 .1 .1 .1 .1 .0) .name) ((y .0 .3 .1 .1 .1 .1 .1 .1 .1 .0) .now) (y .0 .0 .1 .1 .1 .1 .0) (y .0 .1 .1 .1 .1 .1 .0) ((y .0 .3 .1 .1 .1 .1 .1 .1 .1 .1 .0) .ptr .0) ((y .0 .3 .1 .1 .1 .1 .1 .1 .1 .1 .0) .ptr .1) ((y .0 .3 .1 .1 .1 .1 .1 .1 .1 .1 .0) .name) ((y .0 .3 .1 .1 .1 .1 .1 .1 .1 .1 .0) .now) (y .0 .0 .1 .1 .1 .1 .1 .0) (y .0 .1 .1 .1 .1 .1 .1 .0) ((y .0 .3 .1 .1 .1 .1 .1 .1 .1 .1 .1 .0) .ptr .0) ((y .0 .3 .1 .1 .1 .1 .1 .1 .1 .1 .1 .0) .ptr .1) ((y .0 .3 .1 .1 .1 .1 .1 .1 .1 .1 .1 .0) .name) ((y .0 .3 .1 .1 .1 .1 .1 .1 .1 .1 .1 .0) .now) (y .0 .0 .1 .1 .1 .1 .1 .1 .0) (y .0 .1 .1 .1 .1 .1 .1 .1 .0) ((y .0 .3 .1 .1 .1 .1 .1 .1 .1 .1 .1 .1 .0) .ptr .0) ((y .0 .3 .1 .1 .1 .1 .1 .1 .1 .1 .1 .1 .0) .ptr .1) ((y .0 .3 .1 .1 .1 .1 .1 .1 .1 .1 .1 .1 .0) .name) ((y .0 .3 .1 .1 .1 .1 .1 .1 .1 .1 .1 .1 .0) .now) (y .0 .0 .1 .1 .1 .1 .1 .1 .1 .0) (y .0 .1 .1 .1 .1 .1 .1 .1 .1 .0) ((y .0 .3 .1 .1 .1 .1 .1 .1 .1 .1 .1 .1 .1 .0) .ptr .0) ((y .0 .3 .1 .1 .1 .1 .1 .1 .1 .1 .1 .1 .1 .0) .ptr .1) ((y .0 .3 .1 .1 .1 .1 .1 .1 .1 .1 .1 .1 .1 .0) .name) ((y .0 .3 .1 .1 .1 .1 .1 .1 .1 .1 .1 .1 .1 .0) .now) (y .0 .3 .0) (y .0 .3 .1 .1 .0) (y .0 .3 .1 .1 .1 .0) (y .0 .3 .1 .1 .1 .1 .0) (are .1 .0 .0 .1) (are .1 .1 .1 .1 .1 .1 .1 .1 .1 .1 .0 .0 .1) (are .1 .1 .1 .1 .1 .1 .1 .1 .1 .1 .1 .0 .0 .1) (are .0 .1) (are .1 .1 .0) (are .1 .1 .1 .0 .1) (are .1 .1 .1 .1 .0)
       (cited 𝓤 H (RoomC 𝓤 H A (𝓜 .mem) (𝓡 .run)) 𝓜 𝓡 code.env #type1·room room-def.routine code.calls-type1·room (room-thm.met 𝓤 H 𝓜 𝓖 𝓡))
       (cited 𝓤 H (IsLastC 𝓤 H A (𝓜 .mem) (𝓡 .run)) 𝓜 𝓡 code.env #type1·is-last is-last-def.routine code.calls-type1·is-last (is-last-thm.met 𝓤 H 𝓜 𝓖 𝓡))
@@ -137,9 +137,9 @@ module _ {M : Type 1} (𝓤 : URA M) (H : Heap 𝓤) (𝓜 : Model 𝓤 H) (𝓖
   unfolding tablesOf
   run-method t below =
       at-on 𝓤 H A run.signature (run.spec 𝓤 H A (𝓜 .mem) (𝓡 .run)) (WpFn 𝓤 H (𝓣 .C) (𝓣 .Λ) code.run-function) (𝓣 .C #type1·run) (code.run-unfolded 𝓤 H 𝓜 𝓡) (λ y. (y .0 .3 .1 .1 .1 .0) + (y .0 .3 .1 .1 .1 .0) + (y .0 .3 .1 .1 .1 .0) + 2) t (λ y e.
-      walk-meets-at 𝓤 H A run.ended in-run.stayed W (goes-none-slice 𝓤 H A W 9 (0 ∷ []) tt (plain (λ _. u8)) yes, (goes-none-slice 𝓤 H A W 9 (1 ∷ []) tt (plain (λ _. u8)) yes, (goes-none 𝓤 H A W 9 (λ _. Y.the-row) yes (λ κs x f. refl), (goes-none 𝓤 H A W 9 (λ _. usize) yes (λ κs x f. refl), (goes-none 𝓤 H A W 9 (λ _. S.the-row) yes (λ κs x f. refl), (goes-ref 𝓤 H A W 9 2 tt (ArrayOf (plain (λ _. f64)) (λ _. tt) 256), (goes-ref 𝓤 H A W 9 3 tt (ArrayOf (plain (λ _. f64)) (λ _. tt) 256), (goes-ref 𝓤 H A W 9 4 tt (ArrayOf (plain (λ _. f64)) (λ _. tt) 19), (goes-ref 𝓤 H A W 9 5 tt (ArrayOf (plain (λ _. f64)) (λ _. tt) 512), (goes-ref 𝓤 H A W 9 6 tt (ArrayOf (plain (λ _. bool)) (λ _. tt) 256), (goes-slice 𝓤 H A W 9 7 tt (plain (λ _. u64)), (goes-slice 𝓤 H A W 9 8 tt (plain (λ _. T.the-row)), tt)))))))))))) (run.clauses 𝓤 H A (𝓜 .mem) (𝓡 .run))
+      walk-meets-at 𝓤 H A run.ended in-run.stayed W (goes-none-slice 𝓤 H A W 9 (0 ∷ []) tt (plain (λ _. u8)) yes, (goes-none-slice 𝓤 H A W 9 (1 ∷ []) tt (plain (λ _. u8)) yes, (goes-none 𝓤 H A W 9 (λ _. Y.the-row) yes (λ κs x f. refl), (goes-none 𝓤 H A W 9 (λ _. usize) yes (λ κs x f. refl), (goes-none 𝓤 H A W 9 (λ _. S.the-row) yes (λ κs x f. refl), (goes-ref 𝓤 H A W 9 2 tt (ArrayOf (plain (λ _. f64)) (λ _. tt) 256), (goes-ref 𝓤 H A W 9 3 tt (ArrayOf (plain (λ _. f64)) (λ _. tt) 256), (goes-ref 𝓤 H A W 9 4 tt (ArrayOf (plain (λ _. f64)) (λ _. tt) 17), (goes-ref 𝓤 H A W 9 5 tt (ArrayOf (plain (λ _. f64)) (λ _. tt) 512), (goes-ref 𝓤 H A W 9 6 tt (ArrayOf (plain (λ _. bool)) (λ _. tt) 256), (goes-slice 𝓤 H A W 9 7 tt (plain (λ _. u64)), (goes-slice 𝓤 H A W 9 8 tt (plain (λ _. T.the-row)), tt)))))))))))) (run.clauses 𝓤 H A (𝓜 .mem) (𝓡 .run))
       (WpFn 𝓤 H (𝓣 .C) (𝓣 .Λ) code.run-function) (WpFn-mono 𝓤 H (W .laws) 𝓣 code.run-function) y
-      (walked-at 𝓤 H A run.ended in-run.stayed (run.clauses 𝓤 H A (𝓜 .mem) (𝓡 .run)) (WpFn 𝓤 H (𝓣 .C) (𝓣 .Λ) code.run-function) y (slice-vals, (slice-vals, (LL.vals Y.the-type Y′.the-laws, (uint-vals w64, (LL.vals S.the-type S′.the-laws, (ptr-vals, (ptr-vals, (ptr-vals, (ptr-vals, (ptr-vals, (slice-vals, (slice-vals, tt)))))))))))) (shr-slice-tells (named 0) (y .0 .0 .0) u8, (shr-slice-tells (named 1) (y .0 .0 .1 .0) u8, (LL.tells Y.the-type Y′.the-laws, (uint-tells w64, (LL.tells S.the-type S′.the-laws, (mut-tells (named 2) (y .0 .0 .1 .1 .0) (Array f64 256), (mut-tells (named 3) (y .0 .0 .1 .1 .1 .0) (Array f64 256), (mut-tells (named 4) (y .0 .0 .1 .1 .1 .1 .0) (Array f64 19), (mut-tells (named 5) (y .0 .0 .1 .1 .1 .1 .1 .0) (Array f64 512), (mut-tells (named 6) (y .0 .0 .1 .1 .1 .1 .1 .1 .0) (Array bool 256), (mut-slice-tells (named 7) (y .0 .0 .1 .1 .1 .1 .1 .1 .1 .0) u64, (mut-slice-tells (named 8) (y .0 .0 .1 .1 .1 .1 .1 .1 .1 .1 .0) T.the-row, tt))))))))))))
+      (walked-at 𝓤 H A run.ended in-run.stayed (run.clauses 𝓤 H A (𝓜 .mem) (𝓡 .run)) (WpFn 𝓤 H (𝓣 .C) (𝓣 .Λ) code.run-function) y (slice-vals, (slice-vals, (LL.vals Y.the-type Y′.the-laws, (uint-vals w64, (LL.vals S.the-type S′.the-laws, (ptr-vals, (ptr-vals, (ptr-vals, (ptr-vals, (ptr-vals, (slice-vals, (slice-vals, tt)))))))))))) (shr-slice-tells (named 0) (y .0 .0 .0) u8, (shr-slice-tells (named 1) (y .0 .0 .1 .0) u8, (LL.tells Y.the-type Y′.the-laws, (uint-tells w64, (LL.tells S.the-type S′.the-laws, (mut-tells (named 2) (y .0 .0 .1 .1 .0) (Array f64 256), (mut-tells (named 3) (y .0 .0 .1 .1 .1 .0) (Array f64 256), (mut-tells (named 4) (y .0 .0 .1 .1 .1 .1 .0) (Array f64 17), (mut-tells (named 5) (y .0 .0 .1 .1 .1 .1 .1 .0) (Array f64 512), (mut-tells (named 6) (y .0 .0 .1 .1 .1 .1 .1 .1 .0) (Array bool 256), (mut-slice-tells (named 7) (y .0 .0 .1 .1 .1 .1 .1 .1 .1 .0) u64, (mut-slice-tells (named 8) (y .0 .0 .1 .1 .1 .1 .1 .1 .1 .1 .0) T.the-row, tt))))))))))))
       (λ are. needs 𝓤 (((y .0 .3 .1 .1 .1 .0) < 100) × (Valid ((y .0 .3 .1 .0) .now) × Ready (y .0 .3 .1 .1 .1 .1 .0) (memOf (y .0 .3 .1 .1 .1 .1 .1 .0 .now) (y .0 .3 .1 .1 .1 .1 .1 .1 .0 .now) (y .0 .3 .1 .1 .1 .1 .1 .1 .1 .0 .now) (y .0 .3 .1 .1 .1 .1 .1 .1 .1 .1 .0 .now) (y .0 .3 .1 .1 .1 .1 .1 .1 .1 .1 .1 .0 .now) (y .0 .3 .1 .1 .1 .1 .1 .1 .1 .1 .1 .1 .0 .now) (y .0 .3 .1 .1 .1 .1 .1 .1 .1 .1 .1 .1 .1 .0 .now)))) (onEntry 𝓤 H A run.signature (y .0 .0) (y .0 .1) (y .0 .3) _) (λ need. in-run.walk 𝓤 H A W (𝓜 .mem) (𝓡 .run) 𝓣 (y .0 .0 .0) (y .0 .1 .0) (y .0 .3 .0) (y .0 .0 .1 .0) (y .0 .1 .1 .0) (y .0 .3 .1 .0) (y .0 .0 .1 .1 .0) (y .0 .1 .1 .1 .0) ((y .0 .3 .1 .1 .1 .1 .1 .0) .ptr .0) ((y .0 .3 .1 .1 .1 .1 .1 .0) .ptr .1) ((y .0 .3 .1 .1 .1 .1 .1 .0) .name) ((y .0 .3 .1 .1 .1 .1 .1 .0) .now) (y .0 .0 .1 .1 .1 .0) (y .0 .1 .1 .1 .1 .0) ((y .0 .3 .1 .1 .1 .1 .1 .1 .0) .ptr .0) ((y .0 .3 .1 .1 .1 .1 .1 .1 .0) .ptr .1) ((y .0 .3 .1 .1 .1 .1 .1 .1 .0) .name) ((y .0 .3 .1 .1 .1 .1 .1 .1 .0) .now) (y .0 .0 .1 .1 .1 .1 .0) (y .0 .1 .1 .1 .1 .1 .0) ((y .0 .3 .1 .1 .1 .1 .1 .1 .1 .0) .ptr .0) ((y .0 .3 .1 .1 .1 .1 .1 .1 .1 .0) .ptr .1) ((y .0 .3 .1 .1 .1 .1 .1 .1 .1 .0) .name) ((y .0 .3 .1 .1 .1 .1 .1 .1 .1 .0) .now) (y .0 .0 .1 .1 .1 .1 .1 .0) (y .0 .1 .1 .1 .1 .1 .1 .0) ((y .0 .3 .1 .1 .1 .1 .1 .1 .1 .1 .0) .ptr .0) ((y .0 .3 .1 .1 .1 .1 .1 .1 .1 .1 .0) .ptr .1) ((y .0 .3 .1 .1 .1 .1 .1 .1 .1 .1 .0) .name) ((y .0 .3 .1 .1 .1 .1 .1 .1 .1 .1 .0) .now) (y .0 .0 .1 .1 .1 .1 .1 .1 .0) (y .0 .1 .1 .1 .1 .1 .1 .1 .0) ((y .0 .3 .1 .1 .1 .1 .1 .1 .1 .1 .1 .0) .ptr .0) ((y .0 .3 .1 .1 .1 .1 .1 .1 .1 .1 .1 .0) .ptr .1) ((y .0 .3 .1 .1 .1 .1 .1 .1 .1 .1 .1 .0) .name) ((y .0 .3 .1 .1 .1 .1 .1 .1 .1 .1 .1 .0) .now) (y .0 .0 .1 .1 .1 .1 .1 .1 .1 .0) (y .0 .1 .1 .1 .1 .1 .1 .1 .1 .0) ((y .0 .3 .1 .1 .1 .1 .1 .1 .1 .1 .1 .1 .0) .ptr .0) ((y .0 .3 .1 .1 .1 .1 .1 .1 .1 .1 .1 .1 .0) .ptr .1) ((y .0 .3 .1 .1 .1 .1 .1 .1 .1 .1 .1 .1 .0) .name) ((y .0 .3 .1 .1 .1 .1 .1 .1 .1 .1 .1 .1 .0) .now) (y .0 .0 .1 .1 .1 .1 .1 .1 .1 .1 .0) (y .0 .1 .1 .1 .1 .1 .1 .1 .1 .1 .0) ((y .0 .3 .1 .1 .1 .1 .1 .1 .1 .1 .1 .1 .1 .0) .ptr .0) ((y .0 .3 .1 .1 .1 .1 .1 .1 .1 .1 .1 .1 .1 .0) .ptr .1) ((y .0 .3 .1 .1 .1 .1 .1 .1 .1 .1 .1 .1 .1 .0) .name) ((y .0 .3 .1 .1 .1 .1 .1 .1 .1 .1 .1 .1 .1 .0) .now) (y .0 .3 .1 .1 .0) (y .0 .3 .1 .1 .1 .0) (y .0 .3 .1 .1 .1 .1 .0) (are .0 .0 .1) (are .1 .0 .0 .1) (are .1 .1 .1 .1 .1 .1 .1 .1 .1 .1 .0 .0 .1) (are .1 .1 .1 .1 .1 .1 .1 .1 .1 .1 .1 .0 .0 .1) (are .1 .1 .0) (are .1 .1 .1 .0 .1) (are .1 .1 .1 .1 .0)
       (cited 𝓤 H (BeginC 𝓤 H A (𝓜 .mem) (𝓡 .run)) 𝓜 𝓡 code.env #type1·begin begin-def.routine code.calls-type1·begin (begin-thm.met 𝓤 H 𝓜 𝓖 𝓡))
       (cited 𝓤 H (TokenC 𝓤 H A (𝓜 .mem) (𝓡 .run)) 𝓜 𝓡 code.env #type1·token token-def.routine code.calls-type1·token (token-thm.met 𝓤 H 𝓜 𝓖 𝓡))

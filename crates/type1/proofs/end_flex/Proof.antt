@@ -18,7 +18,7 @@ returns-2 c =
 
 list-flex-requires : tie.Need-list-flex-requires
 list-flex-requires c κs =
-    (omega (arith, c .before .before .before .before .before .commit .ensures .1 .1 .bounds .entries, c .before .before .before .before .cmds .given), (c .before .before .before .before .before .before .before .before .before .before .pre .1 .1 .0, λ i h. c .before .before .before .before .before .before .before .before .before .before .pre .1 .1 .1 ((whole-told (c .before .before .before .before .before .before .before .before .before .before .args .st .flexing) (c .before .before .before .before .before .before .before .before .before .before .args .st .points) (sym (c .before .before .before .before .before .before .before .before .is-whole-flex .ensures) ∙ not-false _ (c .before .before .before .before .before .before .before .if1 .left))) .0) i (omega (arith, (whole-told (c .before .before .before .before .before .before .before .before .before .before .args .st .flexing) (c .before .before .before .before .before .before .before .before .before .before .args .st .points) (sym (c .before .before .before .before .before .before .before .before .is-whole-flex .ensures) ∙ not-false _ (c .before .before .before .before .before .before .before .if1 .left))) .1))))
+    (omega (arith, c .before .before .before .before .before .commit .ensures .1 .1 .bounds .entries, c .before .before .before .before .cmds .given), (c .before .before .before .before .before .before .before .before .before .before .pre .1 .1 .0, λ i h. c .before .before .before .before .before .before .before .before .before .before .pre .1 .1 .1 ((whole-told (c .before .before .before .before .before .before .before .before .before .before .args .st .flexing) (c .before .before .before .before .before .before .before .before .before .before .args .st .points) (sym (c .before .before .before .before .before .before .before .before .is-whole-flex .ensures) ∙ not-false _ (c .before .before .before .before .before .before .before .if1 .left))) .0) (omega (arith, (whole-told (c .before .before .before .before .before .before .before .before .before .before .args .st .flexing) (c .before .before .before .before .before .before .before .before .before .before .args .st .points) (sym (c .before .before .before .before .before .before .before .before .is-whole-flex .ensures) ∙ not-false _ (c .before .before .before .before .before .before .before .if1 .left))) .1)) i (omega (arith, (whole-told (c .before .before .before .before .before .before .before .before .before .before .args .st .flexing) (c .before .before .before .before .before .before .before .before .before .before .args .st .points) (sym (c .before .before .before .before .before .before .before .before .is-whole-flex .ensures) ∙ not-false _ (c .before .before .before .before .before .before .before .if1 .left))) .1))))
 
 returns-3 : tie.Need-returns-3
 returns-3 c =
