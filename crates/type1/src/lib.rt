@@ -872,52 +872,33 @@ fn list_flex(height: f64, st: St, cells: &[f64; 17], cmds: &mut [u64]) -> Ran
 // ---- hints
 
 // Whether the stem is among the first count in force.
-fn in_force(
-    horizontal: bool,
-    pos: f64,
-    width: f64,
-    count: usize,
-    edges: &[f64; 512],
-    across: &[bool; 256],
-) -> bool
+fn in_force(v: Stem, count: usize, edges: &[f64; 512], across: &[bool; 256]) -> bool
     requires { ⌜ count ≤ 256 ⌝ }
-    ensures { λ r. ⌜ r ≡ Outline.isIn (stemsAt 0 count (now (edges .entry)) (now (across .entry))) (stemOf horizontal pos width) ⌝ }
+    ensures { λ r. ⌜ r ≡ Outline.isIn (stemsAt 0 count (now (edges .entry)) (now (across .entry))) v ⌝ }
 {
-    let s = Stem {
-        horizontal,
-        pos,
-        width,
-    };
-    hints::in_force(s, count, edges, across)
+    hints::in_force(v, count, edges, across)
 }
 
 // A stem comes in force, unless an equal one is.
-fn add_stem(
-    horizontal: bool,
-    pos: f64,
-    width: f64,
-    st: St,
-    edges: &mut [f64; 512],
-    across: &mut [bool; 256],
-) -> Ran
+fn add_stem(v: Stem, st: St, edges: &mut [f64; 512], across: &mut [bool; 256]) -> Ran
     requires { ⌜ st .hints ≤ 256 ⌝ }
     ensures { λ r. ⌜ ((m : Mem) (s : State.State) (room words : ℕ) → Holds st (withHints (now (edges .entry)) (now (across .entry)) m) s →
-        Meets r (withHints (now (edges .exit)) (now (across .exit)) m) (Run.stem (within room words) horizontal pos width s)) ⌝ }
+        Meets r (withHints (now (edges .exit)) (now (across .exit)) m) (Run.stem (within room words) (v .horizontal) (v .pos) (v .width) s)) ⌝ }
     ensures { λ r. ⌜ (r .st .hints ≤ 256) × (r .st .groups ≡ st .groups) ⌝ }
 {
-    if !binary64::is_finite(pos) {
+    if !binary64::is_finite(v.pos) {
         return made(st, 14);
     }
     let n = st.hints;
-    if in_force(horizontal, pos, width, n, edges, across) {
+    if in_force(v, n, edges, across) {
         return made(st, 0);
     }
     if n == 256 {
         return made(st, 16);
     }
-    edges[2 * n] = pos;
-    edges[2 * n + 1] = width;
-    across[n] = horizontal;
+    edges[2 * n] = v.pos;
+    edges[2 * n + 1] = v.width;
+    across[n] = v.horizontal;
     let mut s = st;
     s.hints = n + 1;
     s.changed = true;
@@ -1292,14 +1273,12 @@ fn one_stem(
     if n < 2 {
         return made(st, 7);
     }
-    add_stem(
+    let v = Stem {
         horizontal,
-        from + ops[n - 2],
-        ops[n - 1],
-        cleared(st),
-        edges,
-        across,
-    )
+        pos: from + ops[n - 2],
+        width: ops[n - 1],
+    };
+    add_stem(v, cleared(st), edges, across)
 }
 
 // 12 1 and 12 2: three stems in turn, counted from a side bearing.
@@ -1319,36 +1298,30 @@ fn stems3(
     if n < 6 {
         return made(st, 7);
     }
-    let a = add_stem(
+    let u = Stem {
         horizontal,
-        from + ops[n - 6],
-        ops[n - 5],
-        cleared(st),
-        edges,
-        across,
-    );
+        pos: from + ops[n - 6],
+        width: ops[n - 5],
+    };
+    let a = add_stem(u, cleared(st), edges, across);
     if a.flow != 0 {
         return a;
     }
-    let b = add_stem(
+    let v = Stem {
         horizontal,
-        from + ops[n - 4],
-        ops[n - 3],
-        a.st,
-        edges,
-        across,
-    );
+        pos: from + ops[n - 4],
+        width: ops[n - 3],
+    };
+    let b = add_stem(v, a.st, edges, across);
     if b.flow != 0 {
         return b;
     }
-    add_stem(
+    let w = Stem {
         horizontal,
-        from + ops[n - 2],
-        ops[n - 1],
-        b.st,
-        edges,
-        across,
-    )
+        pos: from + ops[n - 2],
+        width: ops[n - 1],
+    };
+    add_stem(w, b.st, edges, across)
 }
 
 // ---- OtherSubrs

@@ -46,33 +46,33 @@ returns-3 c =
     (λ m s room words H. second-stops _ _ s H _ _ _ (c .before .before .before .before .before .before .before .before .before .before .before .before .before .before .before .if1 .left) _ _ _ _ (c .before .before .before .before .before .before .before .before .before .add-stem .ensures .0 (withOps (c .before .before .before .before .before .before .before .before .before .before .before .before .before .before .before .before .args .ops .now) m) _ room words (from-cleared _ _ _ s H (c .before .before .before .before .before .before .before .before .before .before .before .before .cleared .ensures))) (c .before .before .before .before .before .before .before .if2 .left) (λ v K. c .before .before .add-stem2 .ensures .0 (withOps (c .before .before .before .before .before .before .before .before .before .before .before .before .before .before .before .before .args .ops .now) m) v room words K) (c .if3 .taken), c .before .before .add-stem2 .ensures .1 .1 ∙ c .before .before .before .before .before .before .before .before .before .add-stem .ensures .1 .1 ∙ ap (λ (u : St). u .groups) (c .before .before .before .before .before .before .before .before .before .before .before .before .cleared .ensures))
 
 -- src/lib.rt:310:20
-sub-add-stem-4 : tie.Need-sub-add-stem-4
-sub-add-stem-4 c =
+sub-t14-2 : tie.Need-sub-t14-2
+sub-t14-2 c =
     omega (arith, c .before .before .before .before .before .before .before .before .before .before .before .before .before .before .before .if1 .left, c .before .before .before .before .before .before .before .before .before .before .before .before .before .before .before .before .pre .0)
 
 -- src/lib.rt:310:16
-mul-add-stem-5 : tie.Need-mul-add-stem-5
-mul-add-stem-5 c =
+mul-t15-3 : tie.Need-mul-t15-3
+mul-t15-3 c =
     omega (arith, c .before .before .before .before .before .before .before .before .before .before .before .before .before .before .before .if1 .left, c .before .before .before .before .before .before .before .before .before .before .before .before .before .before .before .before .pre .0)
 
 -- src/lib.rt:310:16
-element-copy-out-add-stem-5 : tie.Need-element-copy-out-add-stem-5
-element-copy-out-add-stem-5 c =
+element-copy-out-t19-2 : tie.Need-element-copy-out-t19-2
+element-copy-out-t19-2 c =
     omega (arith, c .before .before .before .before .before .before .before .before .before .before .before .before .before .before .before .if1 .left, c .before .before .before .before .before .before .before .before .before .before .before .before .before .before .before .before .pre .0)
 
 -- src/lib.rt:311:13
-sub-add-stem-5 : tie.Need-sub-add-stem-5
-sub-add-stem-5 c =
+sub-t21-2 : tie.Need-sub-t21-2
+sub-t21-2 c =
     omega (arith, c .before .before .before .before .before .before .before .before .before .before .before .before .before .before .before .before .if1 .left, c .before .before .before .before .before .before .before .before .before .before .before .before .before .before .before .before .before .pre .0)
 
 -- src/lib.rt:311:9
-mul-add-stem-6 : tie.Need-mul-add-stem-6
-mul-add-stem-6 c =
+mul-t20-2 : tie.Need-mul-t20-2
+mul-t20-2 c =
     omega (arith, c .before .before .before .before .before .before .before .before .before .before .before .before .before .before .before .before .if1 .left, c .before .before .before .before .before .before .before .before .before .before .before .before .before .before .before .before .before .pre .0)
 
 -- src/lib.rt:311:9
-element-copy-out-add-stem-6 : tie.Need-element-copy-out-add-stem-6
-element-copy-out-add-stem-6 c =
+element-copy-out-t18-2 : tie.Need-element-copy-out-t18-2
+element-copy-out-t18-2 c =
     omega (arith, c .before .before .before .before .before .before .before .before .before .before .before .before .before .before .before .before .if1 .left, c .before .before .before .before .before .before .before .before .before .before .before .before .before .before .before .before .before .pre .0)
 
 -- src/lib.rt:308:5
@@ -86,5 +86,5 @@ stems3-spec =
     tie.close
     (tie.spec (λ c κs. search needs) returns (λ c. search needs) (λ c. search needs) (λ c. search needs) (λ c. search needs) (λ c. search needs)
     (λ c κs. search needs) add-stem-requires returns-2 (λ c. search needs) (λ c. search needs) (λ c. search needs) (λ c. search needs) (λ c. search needs)
-    (λ c. search needs) (λ c κs. search needs) returns-3 sub-add-stem-4 mul-add-stem-5 element-copy-out-add-stem-5 sub-add-stem-5 mul-add-stem-6
-    element-copy-out-add-stem-6 (λ c κs. search needs) returns-4)
+    (λ c. search needs) (λ c κs. search needs) returns-3 sub-t14-2 mul-t15-3 element-copy-out-t19-2 sub-t21-2 mul-t20-2
+    element-copy-out-t18-2 (λ c κs. search needs) returns-4)
