@@ -30,7 +30,7 @@ use Rattle.type1.specs.Run.{Limits, within, Outcome, going, returning, e
 use Rattle.type1.specs.Memory.{Mem, pointsAt, stemsAt, flexIn, abs, Fit, Holds, Good, Meets, operatorOf, kept}
 use Rattle.type1.specs.Small.{ranOf, Finite}
 use Rattle.type1.specs.Reading.{cursorOf, isRead, ReadsAs, readMem, goesOn, Reads, Calls}
-use Rattle.type1.specs.Sound.{All, OfFlex, GoodPoint, Sound, SoundOut}
+use Rattle.type1.specs.Sound.{All, OfFlex, GoodPoint, SoundOut}
 use Rattle.type1.specs.Cycle.{Ready, limitsOf, fontOf, From, MeetsFrom, opD, runD}
 use Rattle.type1.specs.Outcomes.{all-getD}
 use Rattle.type1.specs.SoundLaws.{callSubr-sound, execute-sound, runBody-sound}

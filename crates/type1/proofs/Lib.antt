@@ -17,6 +17,7 @@ pub mod LentArray
 pub mod LentLocal
 pub mod LentWith
 pub mod Locals
+pub mod Looping
 pub mod Many
 pub mod Numbers
 pub mod Octets

@@ -16,7 +16,7 @@ use Rattle.outline.specs.declared.Stem.{Stem}
 use Rattle.type1.specs.Operator as op
 use Rattle.type1.specs.Operator.{Operator}
 use Rattle.type1.specs.Number.{number, operator, double}
-use Rattle.outline.specs.Outline.{Command, move, line, curve, flex, Group, plusZero, origin, isIn, lastIs, stemCount, pick, stemOf}
+use Rattle.outline.specs.Outline.{Command, move, line, curve, flex, Group, plusZero, origin, isIn, lastIs, stemCount, stemOf}
 use Rattle.type1.specs.State.{State, withOperands, withPostscript, withPoint, withBearing, withOpen, withFlex, withHints, settled, withDrawn, withDivided, withRan}
 use Rattle.type1.specs.Run.{Limits, Outcome, going, refused, andThen, top, cleared, without, needs, push, stem, entries, newGroup, commit, enter, list, shifted, isFinite, noFlex, moveBy, openSubpath, lineTo, lineBy, curveTo, curveBy, samePoint, setPoint, backwards, handBack, endFlex, heightOf, otherSubr0, collected, otherSubr2, is, otherSubr, callOtherSubr, popD, divD, stems3, pointAt, operate}
 use Rattle.type1.specs.Sound.{All, OfPoint, OfStem, OfCommand, OfFlex, OfGroup, Numbers, Ends, Sums, Kept, Holding, Held, Stable}

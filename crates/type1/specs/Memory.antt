@@ -8,7 +8,7 @@ use mathlib.Core.Option.{Option, none, some}
 use lib.Dec.{T, eqb, ltb}
 use lib.ListN.{length, take, drop, getD, replicate}
 use lib.Seq.{paste}
-use lib.Ieee.{Float, nan, binary64, ofBits, fits}
+use lib.Ieee.{Float, nan, binary64, fits}
 use lib.Ieee.Scale.{finite}
 use Rattle.charstring.specs.Cipher.{maxCharstringBytes}
 use Rattle.geometry.specs.declared.Point.{Point}
@@ -18,7 +18,7 @@ use Rattle.type1.specs.declared.St.{St}
 use Rattle.type1.specs.declared.Ran.{Ran}
 use Rattle.type1.specs.Operator.{Operator, ofByte, ofEscape}
 use Rattle.outline.specs.Store.{word, drawnIn, groupsIn}
-use Rattle.outline.specs.Outline.{Command, move, line, curve, flex, Group, sameStems, lastIs, stemCount, pick, origin}
+use Rattle.outline.specs.Outline.{sameStems, lastIs, stemCount, pick, origin}
 use Rattle.type1.specs.State.{State, withFlex}
 use Rattle.type1.specs.Run.{Limits, within, Outcome, going, returning, ending, refused}
 

@@ -1,7 +1,7 @@
 -- Definitions: what the functions that read bytes and call bodies say of the run (document 01, "Reading", "Bytes run"; T1, 6.2 and 6.4).
 use Prim.Native.Nat.{ℕ, _+_, _-_, _*_, _≤_, _<_}
 use mathlib.Core.Path.{_≡_}
-use mathlib.Core.Bool.{Bool, true, false, cond}
+use mathlib.Core.Bool.{Bool, true, false}
 use mathlib.Core.List.{List}
 use lib.Dec.{T, eqb}
 use lib.ListN.{length, drop}

@@ -1,7 +1,7 @@
 -- Definitions: the Type 1 run. Document 01, "Type 1 run", "Reading", "OtherSubrs", "Hints", "Bytes run"; Adobe Type 1 Font Format, chapters 6 and 8.
 -- Refusals stand in the order of the Rust's steps.
 use Prim.Native.Nat.{ℕ, zero, suc, _+_, _-_, _*_}
-use mathlib.Core.Bool.{Bool, true, false, not, _&&_, _||_}
+use mathlib.Core.Bool.{Bool, true, false, not, _&&_}
 use mathlib.Core.List.{List, [], _∷_, _++_}
 use mathlib.Core.Option.{Option, none, some}
 use lib.Dec.{leb, ltb, eqb}
@@ -12,13 +12,12 @@ use lib.Ieee.Scale.{finite}
 use Rattle.charstring.specs.Cipher.{plain, maxCharstringBytes}
 use Rattle.bank.specs.Bank.{body}
 use Rattle.geometry.specs.declared.Point.{Point}
-use Rattle.outline.specs.declared.Stem.{Stem}
 use Rattle.type1.specs.declared.Reading.{Reading}
 use Rattle.type1.specs.Operator as op
 use Rattle.type1.specs.Operator.{Operator}
 use Rattle.type1.specs.Number.{Token, cut, number, operator, token, double}
 use Rattle.outline.specs.Store.{entryWords}
-use Rattle.outline.specs.Outline.{Command, move, line, curve, flex, Group, plusZero, origin, isIn, lastIs, stemCount, pick, stemOf}
+use Rattle.outline.specs.Outline.{Command, move, line, curve, flex, plusZero, origin, isIn, lastIs, stemCount, pick, stemOf}
 use Rattle.type1.specs.State.{State, withOperands, withPostscript, withPoint, withBearing, withOpen, withFlex, withHints, settled, withDrawn, withDivided, withRan}
 
 -- ---- limits: 0 where so many have room, else the number that is refused with

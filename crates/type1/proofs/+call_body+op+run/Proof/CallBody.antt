@@ -62,7 +62,7 @@ use Rattle.outline.proofs.Steps.{guards}
 use Rattle.type1.proofs.Locals.{tB, machS, machN, machD, machY}
 use Rattle.bank.specs.Bank.{Valid, bytesAt, found}
 use Rattle.type1.specs.State.{State}
-use Rattle.type1.specs.Memory.{abs, Mem, Holds, Meets, withOps}
+use Rattle.type1.specs.Memory.{Mem, Holds, withOps}
 use Rattle.type1.specs.Small.{ranOf}
 use Rattle.type1.specs.Reading.{Calls}
 use Rattle.type1.specs.Cycle.{memOf, Ready, opD, runD, MeetsFrom}

@@ -61,7 +61,7 @@ use Rattle.bank.specs.Bank.{Valid}
 use Rattle.outline.specs.Outline.{sameStems}
 use Rattle.type1.specs.State.{State}
 use Rattle.type1.specs.Run.{within, refused, operate}
-use Rattle.type1.specs.Memory.{abs, Mem, stemsAt, Holds, Meets, operatorOf, withOps, withPs, withCells, withHints, withPath, after, Told, kept}
+use Rattle.type1.specs.Memory.{Mem, stemsAt, Holds, Meets, operatorOf, withOps, withPs, withCells, withHints, withPath, after, Told, kept}
 use Rattle.type1.specs.Small.{Space}
 use Rattle.type1.specs.Cycle.{memOf, Ready, opD, MeetsFrom}
 use Rattle.type1.proofs.room.Symbol.{name as #type1·room}
