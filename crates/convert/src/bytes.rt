@@ -67,10 +67,10 @@ pub(crate) fn four_times(n: usize) -> usize {
     }
 }
 
-// 14 times a number, which is at most 2^32.
-pub(crate) fn fourteen_times(n: usize) -> usize {
+// The words of so many entries of a command store; the largest number where there are too many.
+pub(crate) fn entry_words(n: usize) -> usize {
     if n < 0x1_0000_0000 {
-        14 * n
+        outline::ENTRY * n
     } else {
         usize::MAX
     }

@@ -15,7 +15,7 @@ mod options;
 mod print;
 mod say;
 
-use bytes::fourteen_times;
+use bytes::entry_words;
 use bytes::front;
 use bytes::larger;
 use bytes::part;
@@ -175,7 +175,7 @@ fn convert_lent(
     program: &mut [u8],
 ) -> Type2Glyph {
     let records = smaller(s.stems, STEMS);
-    let w = smaller(fourteen_times(s.commands), words.len());
+    let w = smaller(entry_words(s.commands), words.len());
     let p = smaller(s.output, program.len());
     convert(
         charstring,

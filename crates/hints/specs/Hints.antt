@@ -7,7 +7,7 @@ use lib.Dec.{eqb, leb, ltb}
 use lib.ListN.{getD}
 use lib.Ieee.{Float, nan}
 use Rattle.outline.specs.declared.Stem.{Stem}
-use Rattle.outline.specs.Outline.{sameStem}
+use Rattle.outline.specs.Outline.{sameStem, pick}
 use Rattle.outline.specs.Store.{entryWords}
 
 -- the stem in force at a place
@@ -34,10 +34,17 @@ inForce count e a s = isAmong (cut count) e a s
 unfoldable pub mayBeLast : Bool → ℕ → ℕ → ℕ → Bool
 mayBeLast changed groups last count = changed && (ltb 0 groups && eqb last count)
 
--- the number with which a new group of n stems is refused, or 0: 16 for a 257th group, or where a stem store of so many records has no room beyond those used; then 17 where a command store of so many words has no room for an entry, of 14 words, more
-unfoldable pub newGroup : ℕ → ℕ → ℕ → ℕ → ℕ → ℕ → ℕ
-newGroup groups records used n words entries =
-    cond (leb (groups + 1) 256 && leb (used + n) records) (cond (leb (entryWords * (entries + 1)) words) 0 17) 16
+-- so many at the most; more are refused with the number
+abbrev pub atMost : ℕ → ℕ → ℕ → ℕ
+atMost most k n = pick (leb n most) 0 k
+
+-- what a new group is refused with, or 0: what the limits of groups, of stem records and of entries answer, in this order ("16 before 17")
+abbrev pub groupRefusal : ℕ → ℕ → ℕ → ℕ
+groupRefusal groups stems commands = pick (eqb groups 0) (pick (eqb stems 0) commands stems) groups
+
+-- of a new group of n stems: a 257th group; a stem store of so many records, of which so many are used; a command store of so many words, with so many entries
+unfoldable pub refusedGroup : ℕ → ℕ → ℕ → ℕ → ℕ → ℕ → ℕ
+refusedGroup groups records used n words entries = groupRefusal (atMost 256 16 (groups + 1)) (atMost records 16 (used + n)) (atMost words 17 (entryWords * (entries + 1)))
 
 -- ---- Document 01, "Stems and masks", of so many distinct stems of each direction
 

@@ -9,14 +9,16 @@ use native.Mathlib.Nat.{pos-of-ne-zero}
 use native.Mathlib.Numerals.{add-one}
 use native.Mathlib.Omega.{arith}
 use mathlib.Core.Path.{_≡_, refl, sym, ap, ap₂, _∙_}
-use mathlib.Core.Bool.{Bool, true, false, not, cond, _&&_, _||_, Bool·beq, true≢false}
+use mathlib.Core.Bool.{Bool, true, false, cond, _&&_, _||_}
 use mathlib.Core.List.{List}
 use borrow.Author.Tests.{eqb-true, eqb-false, lt-ltb, le-ltb, ltb-false}
 use lib.Dec.{eqb, leb, ltb}
 use lib.Arith.{lt-of-le-ne}
 use lib.Ieee.{Float}
 use Rattle.outline.specs.declared.Stem.{Stem}
-use Rattle.hints.specs.Hints.{sameAt, isAmong, cut, inForce, mayBeLast, newGroup}
+use Rattle.outline.specs.Outline.{pick}
+use Rattle.outline.specs.Store.{entryWords}
+use Rattle.hints.specs.Hints.{sameAt, isAmong, cut, inForce, mayBeLast, groupRefusal, refusedGroup}
 
 or-true : (b : Bool) → (b || true) ≡ true
 or-true true = refl
@@ -73,6 +75,12 @@ unfolding mayBeLast
 may-count c g l n h k = sym (ap₂ (λ (a b : Bool). a && (b && eqb l n)) h (lt-ltb 0 g (pos-of-ne-zero k)))
 
 -- ---- a new group
-pub group-number : (groups records used n words entries : ℕ) (b d : Bool) → (leb (groups + 1) 256 && leb (used + n) records) ≡ b → leb (14 * (entries + 1)) words ≡ d → newGroup groups records used n words entries ≡ cond b (cond d 0 17) 16
-unfolding newGroup
-group-number groups records used n words entries b d p q = rw (p, q)
+pub group-number : (groups records used n words entries : ℕ) (b d : Bool) → (leb (groups + 1) 256 && leb (used + n) records) ≡ b → leb (entryWords * (entries + 1)) words ≡ d → refusedGroup groups records used n words entries ≡ cond b (cond d 0 17) 16
+unfolding refusedGroup
+group-number groups records used n words entries b d p q = by-tests (leb (groups + 1) 256) (leb (used + n) records) (leb (entryWords * (entries + 1)) words) ∙ ap₂ (λ (x y : Bool). cond x (cond y 0 17) 16) p q
+  where
+    by-tests : (x y z : Bool) → groupRefusal (pick x 0 16) (pick y 0 16) (pick z 0 17) ≡ cond (x && y) (cond z 0 17) 16
+    by-tests true true true = refl
+    by-tests true true false = refl
+    by-tests true false z = refl
+    by-tests false y z = refl

@@ -2,7 +2,7 @@
 // declared.
 ghost use mathlib.Core.Path.{_≡_};
 ghost use Prim.Native.Nat.{_≤_};
-ghost use Rattle.hints.specs.Hints.{cut, inForce, mayBeLast, newGroup, areFew, needMasks};
+ghost use Rattle.hints.specs.Hints.{cut, inForce, mayBeLast, refusedGroup, areFew, needMasks};
 use outline::ENTRY;
 use outline::Stem;
 
@@ -58,7 +58,7 @@ pub fn new_group(
     words: usize,
     entries: usize,
 ) -> u8
-    ensures { λ r. ⌜ r ≡ newGroup groups records used n words entries ⌝ }
+    ensures { λ r. ⌜ r ≡ refusedGroup groups records used n words entries ⌝ }
 {
     if MOST <= groups {
         return 16;

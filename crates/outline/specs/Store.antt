@@ -14,7 +14,7 @@ entryWords = 14
 
 -- the kind of an entry: 1 a move, 2 a line, 3 a curve, 4 a flex, 5 a group's start
 abbrev pub word : List ℕ → ℕ → ℕ → ℕ
-word c k i = getD c (14 * k + i) 0
+word c k i = getD c (entryWords * k + i) 0
 
 abbrev pub coordinate : List ℕ → ℕ → ℕ → Float
 coordinate c k i = ofBits binary64 (word c k i)

@@ -9,6 +9,7 @@ use crate::vector::size;
 use crate::vector::sum;
 use compare::from_pattern;
 use compare::same;
+use outline::GROUP;
 
 // The record at a place; a zero record beyond the end.
 fn stem_at(stems: [outline::Stem; RECORDS], at: usize) -> outline::Stem {
@@ -61,12 +62,9 @@ fn word(words: &[u64], entry: usize, k: usize) -> u64 {
     if entry >= ENTRIES {
         return 0;
     }
-    let at = place(14 * entry, k);
+    let at = place(outline::ENTRY * entry, k);
     if at < words.len() { words[at] } else { 0 }
 }
-
-// The kind of an entry that starts a group.
-const GROUP: u64 = 5;
 
 // The place after the vector's group at a place, which is that of an entry whose records begin at `used`; 0 where it is not.
 fn after_group(

@@ -27,7 +27,8 @@ use Rattle.geometry.specs.declared.Point.{Point}
 use Rattle.outline.specs.Outline.{pick, origin}
 use Rattle.type1.specs.State.{State, withOperands, withOpen}
 use Rattle.type1.specs.Outcomes.{limit-check}
-use Rattle.type1.specs.Run.{Limits, within, atMost, Outcome, going, returning, ending, refused, andThen, check, push, consume, operate, runBytes}
+use Rattle.hints.specs.Hints.{atMost}
+use Rattle.type1.specs.Run.{Limits, within, Outcome, going, returning, ending, refused, andThen, check, push, consume, operate, runBytes}
 use Rattle.type1.specs.Memory.{Mem, flexHeld, abs, Fit, Holds, Good, Meets, operatorOf}
 use Rattle.type1.specs.Small.{ranOf, withOpened}
 use Rattle.type1.specs.Sound.{All, OfFlex, GoodPoint, Sound, SoundOut, SmallToken}

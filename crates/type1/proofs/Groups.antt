@@ -178,7 +178,7 @@ module _ (t : St) (m : Mem) (s : State) (H : Holds t m s) where
   abbrev next : State
   next = settled (s .groups ++ (record { stems = s .hints; before = length (s .drawn) } ∷ [])) s
 
-  limits-check : (a b d : Bool) (o : Outcome) → allowed (pick a 0 16) (allowed (pick b 0 16) (allowed (pick d 0 17) o)) ≡ check (a && b) 16 (check d 17 o)
+  limits-check : (a b d : Bool) (o : Outcome) → allowed (Hints.groupRefusal (pick a 0 16) (pick b 0 16) (pick d 0 17)) o ≡ check (a && b) 16 (check d 17 o)
   limits-check true true true o = refl
   limits-check true true false o = refl
   limits-check true false d o = refl
@@ -196,7 +196,7 @@ module _ (t : St) (m : Mem) (s : State) (H : Holds t m s) where
 
   -- what `hints::new_group` answers
   abbrev number : ℕ → ℕ → ℕ
-  number room words = Hints.newGroup (t .groups) room (t .stems) (t .hints) words (t .entries)
+  number room words = Hints.refusedGroup (t .groups) room (t .stems) (t .hints) words (t .entries)
 
   pub no-group : (r : Ran) (M : Mem) (room words n : ℕ) → n ≡ number room words → (n ≡ 0 → ⊥) → r ≡ ranOf t n → Meets r M (newGroup (within room words) s)
   no-group r M room words n p q e =
@@ -236,10 +236,10 @@ grown-group t r words room e b g u w = subst (λ (q : Ran). Grown t (q .st) word
 })
 
 -- where `hints::new_group` answers 0 there is room
-pub group-room : (groups room used n words entries f : ℕ) → f ≡ Hints.newGroup groups room used n words entries → f ≡ 0 → (groups < 256) × (used + n ≤ room) × (14 * (entries + 1) ≤ words)
+pub group-room : (groups room used n words entries f : ℕ) → f ≡ Hints.refusedGroup groups room used n words entries → f ≡ 0 → (groups < 256) × (used + n ≤ room) × (14 * (entries + 1) ≤ words)
 group-room groups room used n words entries f p q = by-tests (leb (groups + 1) 256) (leb (used + n) room) (leb (14 * (entries + 1)) words) refl refl refl (sym q ∙ p)
   where
-    by-tests : (a b d : Bool) → leb (groups + 1) 256 ≡ a → leb (used + n) room ≡ b → leb (14 * (entries + 1)) words ≡ d → 0 ≡ Hints.newGroup groups room used n words entries → (groups < 256) × (used + n ≤ room) × (14 * (entries + 1) ≤ words)
+    by-tests : (a b d : Bool) → leb (groups + 1) 256 ≡ a → leb (used + n) room ≡ b → leb (14 * (entries + 1)) words ≡ d → 0 ≡ Hints.refusedGroup groups room used n words entries → (groups < 256) × (used + n ≤ room) × (14 * (entries + 1) ≤ words)
     by-tests true true true x y z e = (let g = leb-true (groups + 1) 256 x in omega arith, leb-true (used + n) room y, leb-true (14 * (entries + 1)) words z)
     by-tests true true false x y z e = absurd (let g = group-number groups room used n words entries true false (ap₂ (λ (k l : Bool). k && l) x y) z in let h : ⊥ = omega arith in h)
     by-tests true false d x y z e = absurd (let g = group-number groups room used n words entries false d (ap₂ (λ (k l : Bool). k && l) x y) z in let h : ⊥ = omega arith in h)

@@ -13,7 +13,7 @@ use lib.ListN.{length, getD, set, take, drop, length-set, length-append, length-
 use lib.Seq.{getD-set-same, getD-set-other, getD-drop, take-suc, length-take-le}
 use lib.Ieee.{Float, nan}
 use lib.Ieee.Scale.{finite}
-use Rattle.hints.specs.Hints.{isAmong, inForce, mayBeLast}
+use Rattle.hints.specs.Hints.{atMost, isAmong, inForce, mayBeLast}
 use Rattle.hints.specs.Laws.{cut-below}
 use Rattle.outline.specs.declared.Stem.{Stem}
 use Rattle.type1.specs.declared.St.{St}
@@ -21,7 +21,7 @@ use Rattle.type1.specs.declared.Ran.{Ran}
 use Rattle.outline.specs.Outline.{sameStem, isIn, sameStems, pick, stemOf, zeroStem}
 use Rattle.type1.specs.State.{State, withHints}
 use Rattle.type1.specs.Outcomes.{limit-check}
-use Rattle.type1.specs.Run.{within, atMost, going, check, allowed, stem}
+use Rattle.type1.specs.Run.{within, going, check, allowed, stem}
 use Rattle.hints.specs.Hints.{stemAt}
 use Rattle.type1.specs.Memory.{Mem, stemsAt, abs, Holds, Meets}
 use Rattle.type1.specs.Memory as Memory

@@ -23,7 +23,8 @@ use Rattle.type1.specs.declared.Ran.{Ran}
 use Rattle.outline.specs.Outline.{plusZero, pick, origin}
 use Rattle.type1.specs.State.{State, withOperands, withPostscript, withPoint, withBearing, withDivided, withFlex}
 use Rattle.type1.specs.Outcomes.{limit-check}
-use Rattle.type1.specs.Run.{within, atMost, Outcome, going, refused, check, allowed, top, cleared, without, needs, push, popD, divD, backwards, handBack, collected, otherSubr2, pointAt}
+use Rattle.hints.specs.Hints.{atMost}
+use Rattle.type1.specs.Run.{within, Outcome, going, refused, check, allowed, top, cleared, without, needs, push, popD, divD, backwards, handBack, collected, otherSubr2, pointAt}
 use Rattle.type1.specs.Memory.{Mem, pointsAt, atMostSeven, flexIn, flexHeld, heldOf, abs, Bounds, Fit, Holds, Meets, withOps, withPs, withCells}
 use Rattle.type1.specs.Reading.{withCount}
 use Rattle.type1.specs.Small.{ranOf, withXY}

@@ -9,7 +9,7 @@ use Rattle.outline.specs.declared.Stem.{Stem}
 use Rattle.type1.specs.declared.Reading.{Reading}
 use Rattle.type1.specs.declared.Interpreted.{Interpreted}
 use Rattle.outline.specs.Outline.{plusZero, stemCount, zeroStem}
-use Rattle.outline.specs.Store.{word, drawnIn, groupsIn}
+use Rattle.outline.specs.Store.{entryWords, word, drawnIn, groupsIn}
 use Rattle.type1.specs.State.{State, start}
 use Rattle.type1.specs.Run.{Limits, Outcome, going, returning, ending, refused, check, within, run}
 use Rattle.type1.specs.Sound.{Sound}
@@ -40,7 +40,7 @@ pub record Left (r : Interpreted) (commands : List ℕ) (stems : List Stem) (s :
   -- how many entries and records are used: they are within the stores
   pub entries : r .entries ≡ length (s .drawn) + length (s .groups)
   pub records : r .stems ≡ stemCount (s .groups)
-  pub words-within : 14 * r .entries ≤ length commands
+  pub words-within : entryWords * r .entries ≤ length commands
   pub records-within : r .stems ≤ length stems
   -- each group's records lie below those used
   pub below : (k : ℕ) → k < r .entries → word commands k 0 ≡ 5 → word commands k 1 + word commands k 2 ≤ r .stems

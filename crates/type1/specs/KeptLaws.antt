@@ -16,9 +16,9 @@ use Rattle.outline.specs.declared.Stem.{Stem}
 use Rattle.type1.specs.Operator as op
 use Rattle.type1.specs.Operator.{Operator}
 use Rattle.type1.specs.Number.{number, operator, double}
-use Rattle.outline.specs.Outline.{Command, move, line, curve, flex, Group, plusZero, origin, isIn, lastIs, stemCount, stemOf}
+use Rattle.outline.specs.Outline.{Command, move, line, curve, flex, Group, plusZero, origin, isIn, lastIs, stemOf}
 use Rattle.type1.specs.State.{State, withOperands, withPostscript, withPoint, withBearing, withOpen, withFlex, withHints, settled, withDrawn, withDivided, withRan}
-use Rattle.type1.specs.Run.{Limits, Outcome, going, refused, andThen, top, cleared, without, needs, push, stem, entries, newGroup, commit, enter, list, shifted, isFinite, noFlex, moveBy, openSubpath, lineTo, lineBy, curveTo, curveBy, samePoint, setPoint, backwards, handBack, endFlex, heightOf, otherSubr0, collected, otherSubr2, is, otherSubr, callOtherSubr, popD, divD, stems3, pointAt, operate}
+use Rattle.type1.specs.Run.{Limits, Outcome, going, refused, andThen, top, cleared, without, needs, push, stem, entries, groupNumber, newGroup, commit, enter, list, shifted, isFinite, noFlex, moveBy, openSubpath, lineTo, lineBy, curveTo, curveBy, samePoint, setPoint, backwards, handBack, endFlex, heightOf, otherSubr0, collected, otherSubr2, is, otherSubr, callOtherSubr, popD, divD, stems3, pointAt, operate}
 use Rattle.type1.specs.Sound.{All, OfPoint, OfStem, OfCommand, OfFlex, OfGroup, Numbers, Ends, Sums, Kept, Holding, Held, Stable}
 use Rattle.type1.specs.Outcomes.{check-ends, allowed-ends, pick-ends, needs-ends, then-ends, weaken-ends, all-append, all-snoc, all-take, all-drop, all-getD, all-getD-default, all-map}
 
@@ -139,9 +139,7 @@ module _ (d : Bool) (P : Float → Type 0) (K : Sums P) where
   newGroup-kept lim s q =
       let g : Group = record { stems = s .hints; before = length (s .drawn) } in
       let l = s .groups ++ (g ∷ []) in
-      allowed-ends (Held d P) (lim .groups (length (s .groups) + 1)) _ (
-      allowed-ends (Held d P) (lim .stems (stemCount (s .groups) + length (s .hints))) _ (
-      allowed-ends (Held d P) (lim .commands (entries s + 1)) (going (settled l s)) ((q .0, settled-kept P s (q .1) l (all-snoc (OfGroup P) (s .groups) g (q .1 .groups) (q .1 .hints))))))
+      allowed-ends (Held d P) (groupNumber lim s) (going (settled l s)) (q .0, settled-kept P s (q .1) l (all-snoc (OfGroup P) (s .groups) g (q .1 .groups) (q .1 .hints)))
 
   pub commit-kept : (lim : Limits) (s : State) → Held d P s → Ends (Held d P) (commit lim s)
   unfolding commit

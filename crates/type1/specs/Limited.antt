@@ -12,12 +12,14 @@ use lib.Ieee.{Float, nan, binary64, add, le, toUnsigned, toSigned}
 use lib.Ieee.Scale.{finite}
 use Rattle.charstring.specs.Cipher.{plain}
 use Rattle.geometry.specs.declared.Point.{Point}
+use Rattle.outline.specs.Store.{entryWords}
 use Rattle.type1.specs.Operator as op
 use Rattle.type1.specs.Operator.{Operator}
 use Rattle.type1.specs.Number.{Token, cut, number, operator, token, double}
 use Rattle.outline.specs.Outline.{Command, move, line, curve, flex, plusZero, origin, isIn, lastIs, stemCount, pick, stemOf}
 use Rattle.type1.specs.State.{State, withPoint, withPostscript, withFlex, withHints, withOpen}
-use Rattle.type1.specs.Run.{Limits, within, unlimited, Outcome, going, returning, ending, refused, andThen, check, allowed, top, cleared, without, needs, push, stem, entries, newGroup, commit, enter, list, shifted, isFinite, noFlex, moveBy, openSubpath, lineTo, lineBy, curveTo, curveBy, samePoint, setPoint, backwards, handBack, endFlex, heightOf, otherSubr0, is, otherSubr, callOtherSubr, popD, stems3, pointAt, operate, Font, charge, named, returned, callBody, callSubr, execute, consume, runBytes, runBody, run}
+use Rattle.type1.specs.Run.{Limits, within, unlimited, Outcome, going, returning, ending, refused, andThen, check, allowed, top, cleared, without, needs, push, stem, entries, groupNumber, newGroup, commit, enter, list, shifted, isFinite, noFlex, moveBy, openSubpath, lineTo, lineBy, curveTo, curveBy, samePoint, setPoint, backwards, handBack, endFlex, heightOf, otherSubr0, is, otherSubr, callOtherSubr, popD, stems3, pointAt, operate, Font, charge, named, returned, callBody, callSubr, execute, consume, runBytes, runBody, run}
+use Rattle.hints.specs.Hints.{groupRefusal}
 use Rattle.type1.specs.Sound.{isLimit, Limiting, LimitOr}
 
 -- ---- through the ways steps are put together
@@ -54,6 +56,15 @@ pub returned-limited : (o p : Outcome) → LimitOr o p → LimitOr (returned o) 
 returned-limited o p (inl r) = inl (r .0, ap returned (r .1), r .2)
 returned-limited o p (inr e) = inr (ap returned e)
 
+-- the first of three
+first-limit : (a b c : ℕ) → T (eqb a 0 || isLimit a) → T (eqb b 0 || isLimit b) → T (eqb c 0 || isLimit c) → T (eqb (groupRefusal a b c) 0 || isLimit (groupRefusal a b c))
+first-limit a b c p q r = go (eqb a 0) (eqb b 0)
+  where
+    go : (x y : Bool) → (let n = pick x (pick y c b) a in T (eqb n 0 || isLimit n))
+    go true true = r
+    go true false = q
+    go false y = p
+
 -- the stores' limits
 at-most : (b : Bool) (n : ℕ) → T (isLimit n) → T (eqb (pick b 0 n) 0 || isLimit (pick b 0 n))
 at-most true n t = tt
@@ -70,7 +81,7 @@ within-limiting records words = record {
   hints = λ n. at-most (leb n 256) 16 tt;
   groups = λ n. at-most (leb n 256) 16 tt;
   stems = λ n. at-most (leb n records) 16 tt;
-  commands = λ n. at-most (leb (14 * n) words) 17 tt;
+  commands = λ n. at-most (leb (entryWords * n) words) 17 tt;
 }
 
 -- ---- steps
@@ -86,7 +97,9 @@ module _ (lim : Limits) (L : Limiting lim) where
 
   newGroup-limited : (s : State) → LimitOr (newGroup lim s) (newGroup unlimited s)
   unfolding newGroup
-  newGroup-limited s = limit (lim .groups (length (s .groups) + 1)) _ _ (L .groups (length (s .groups) + 1)) (limit (lim .stems (stemCount (s .groups) + length (s .hints))) _ _ (L .stems (stemCount (s .groups) + length (s .hints))) (limit (lim .commands (entries s + 1)) _ _ (L .commands (entries s + 1)) (inr refl)))
+  newGroup-limited s =
+      limit (groupNumber lim s) _ _
+      (first-limit (lim .groups (length (s .groups) + 1)) (lim .stems (stemCount (s .groups) + length (s .hints))) (lim .commands (entries s + 1)) (L .groups _) (L .stems _) (L .commands _)) (inr refl)
 
   commit-limited : (s : State) → LimitOr (commit lim s) (commit unlimited s)
   unfolding commit

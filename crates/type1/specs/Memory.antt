@@ -17,7 +17,7 @@ use Rattle.hints.specs.Hints.{stemAt}
 use Rattle.type1.specs.declared.St.{St}
 use Rattle.type1.specs.declared.Ran.{Ran}
 use Rattle.type1.specs.Operator.{Operator, ofByte, ofEscape}
-use Rattle.outline.specs.Store.{word, drawnIn, groupsIn}
+use Rattle.outline.specs.Store.{entryWords, word, drawnIn, groupsIn}
 use Rattle.outline.specs.Outline.{sameStems, lastIs, stemCount, pick, origin}
 use Rattle.type1.specs.State.{State, withFlex}
 use Rattle.type1.specs.Run.{Limits, within, Outcome, going, returning, ending, refused}
@@ -85,7 +85,7 @@ pub record Bounds (t : St) (words : ℕ) : Type 0 where
   pub hints : t .hints ≤ 256
   pub last : t .last ≤ t .stems
   pub groups : t .groups ≤ 256
-  pub entries : 14 * t .entries ≤ words
+  pub entries : entryWords * t .entries ≤ words
   pub ran : t .ran ≤ maxCharstringBytes
 
 -- the arrays have their lengths, and what the counts say of the stores is so

@@ -11,6 +11,7 @@ use Rattle.charstring.specs.declared.Cursor.{Cursor}
 use Rattle.charstring.specs.Cipher.{Bytes}
 use Rattle.charstring.specs.Cursor.{rest}
 use Rattle.bank.specs.Bank.{bytesAt, found}
+use Rattle.outline.specs.Store.{entryWords}
 use Rattle.type1.specs.declared.St.{St}
 use Rattle.type1.specs.declared.Reading.{Reading}
 use Rattle.type1.specs.declared.Tok.{Tok}
@@ -94,8 +95,8 @@ isQuick changed opened = pick changed false opened
 -- entry k was listed, or has no room
 pub record Stores (x : Command) (k : ℕ) (c : List ℕ) (r : Bool) (d : List ℕ) : Type 0 where
   pub done : r ≡ true → (t : St) (m : Mem) (s : State) (room : ℕ) → t .entries ≡ k → Holds t (withCmds c m) s → Meets (ranOf (placed (t .operands) (t .x) (t .y) (k + 1) t) 0) (withCmds d m) (enter (within room (length c)) x s)
-  pub space : r ≡ true → 14 * (k + 1) ≤ length c
-  pub full : r ≡ false → (d ≡ c) × (length c - 14 * k < 14)
+  pub space : r ≡ true → entryWords * (k + 1) ≤ length c
+  pub full : r ≡ false → (d ≡ c) × (length c - entryWords * k < 14)
   pub same : length d ≡ length c
 
 -- the state after a line or a curve from t
@@ -106,7 +107,7 @@ drawnTo r k t = placed 0 (r .x) (r .y) (k + 1) t
 pub record Adds (D : Limits → State → Outcome) (x y : Float) (k : ℕ) (c : List ℕ) (r : Drawn) (d : List ℕ) : Type 0 where
   pub done : r .done ≡ true → (t : St) (room : ℕ) → t .opened ≡ true → t .changed ≡ false
       → (m : Mem) (s : State) → length (m .stems) ≡ room → Holds (placed 0 x y k t) (withCmds c m) s → Meets (ranOf (drawnTo r k t) 0) (after (placed 0 x y k t) (ranOf (drawnTo r k t) 0) d m) (D (within room (length c)) s)
-  pub space : r .done ≡ true → 14 * (k + 1) ≤ length c
+  pub space : r .done ≡ true → entryWords * (k + 1) ≤ length c
   pub none : r .done ≡ false → d ≡ c
   pub same : length d ≡ length c
 
@@ -115,7 +116,7 @@ pub record Draws (v n : ℕ) (x y : Float) (k : ℕ) (ops : List Float) (c : Lis
   pub done : r .done ≡ true → (t : St) (m : Mem) (s : State) → t .opened ≡ true → t .changed ≡ false
       → Holds (placed n x y k t) (withOps ops (withCmds c m)) s → Meets (ranOf (drawnTo r k t) 0) (withOps ops (withCmds d m)) (operate (within (length (m .stems)) (length c)) (refused 6) (operatorOf v) s)
   pub drawn : r .done ≡ true → T (isRead (operatorOf v)) × (v ≡ 12 → ⊥)
-  pub space : r .done ≡ true → 14 * (k + 1) ≤ length c
+  pub space : r .done ≡ true → entryWords * (k + 1) ≤ length c
   pub none : r .done ≡ false → d ≡ c
   pub same : length d ≡ length c
 

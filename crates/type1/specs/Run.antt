@@ -17,6 +17,7 @@ use Rattle.type1.specs.Operator as op
 use Rattle.type1.specs.Operator.{Operator}
 use Rattle.type1.specs.Number.{Token, cut, number, operator, token, double}
 use Rattle.outline.specs.Store.{entryWords}
+use Rattle.hints.specs.Hints.{atMost, groupRefusal}
 use Rattle.outline.specs.Outline.{Command, move, line, curve, flex, plusZero, origin, isIn, lastIs, stemCount, pick, stemOf}
 use Rattle.type1.specs.State.{State, withOperands, withPostscript, withPoint, withBearing, withOpen, withFlex, withHints, settled, withDrawn, withDivided, withRan}
 
@@ -29,10 +30,6 @@ pub record Limits : Type 0 where
   pub groups : ℕ → ℕ
   pub stems : ℕ → ℕ
   pub commands : ℕ → ℕ
-
--- so many at the most; more are refused with the number
-abbrev pub atMost : ℕ → ℕ → ℕ → ℕ
-atMost most k n = pick (leb n most) 0 k
 
 -- document 01's numbers 15 to 17: 256 operands, 256 on the PostScript stack, 256 stems in force, 256 groups, and the lent stores, of so many records and words, 14 words to an entry
 abbrev pub within : ℕ → ℕ → Limits
@@ -96,13 +93,13 @@ stem lim h p w s =
 abbrev pub entries : State → ℕ
 entries s = length (s .drawn) + length (s .groups)
 
--- the stems in force become a new group: 16 before 17
+-- what a new group is refused with, or 0: 16 before 17
+abbrev pub groupNumber : Limits → State → ℕ
+groupNumber lim s = groupRefusal (lim .groups (length (s .groups) + 1)) (lim .stems (stemCount (s .groups) + length (s .hints))) (lim .commands (entries s + 1))
+
+-- the stems in force become a new group
 unfoldable pub newGroup : Limits → State → Outcome
-newGroup lim s =
-    allowed (lim .groups (length (s .groups) + 1))
-    (allowed (lim .stems (stemCount (s .groups) + length (s .hints)))
-    (allowed (lim .commands (entries s + 1))
-    (going (settled (s .groups ++ (record { stems = s .hints; before = length (s .drawn) } ∷ [])) s))))
+newGroup lim s = allowed (groupNumber lim s) (going (settled (s .groups ++ (record { stems = s .hints; before = length (s .drawn) } ∷ [])) s))
 
 -- at a path command, changed stems become a new group unless they are the last group's in the same order
 unfoldable pub commit : Limits → State → Outcome

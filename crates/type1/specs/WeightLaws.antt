@@ -19,9 +19,9 @@ use Rattle.geometry.specs.declared.Point.{Point}
 use Rattle.type1.specs.Operator as op
 use Rattle.type1.specs.Operator.{Operator}
 use Rattle.type1.specs.Number.{Token, cut, number, operator, token, double}
-use Rattle.outline.specs.Outline.{Command, move, line, curve, flex, Group, plusZero, origin, isIn, lastIs, stemCount, stemOf}
+use Rattle.outline.specs.Outline.{Command, move, line, curve, flex, Group, plusZero, origin, isIn, lastIs, stemOf}
 use Rattle.type1.specs.State.{State, withOperands, withPostscript, withPoint, withBearing, withOpen, withFlex, withHints, settled, withDrawn, withDivided, withRan}
-use Rattle.type1.specs.Run.{Limits, Outcome, going, refused, andThen, top, cleared, without, needs, push, stem, entries, newGroup, commit, enter, list, shifted, isFinite, noFlex, moveBy, openSubpath, lineTo, lineBy, curveTo, curveBy, samePoint, setPoint, backwards, handBack, endFlex, heightOf, otherSubr0, collected, otherSubr2, is, otherSubr, callOtherSubr, popD, divD, stems3, pointAt, operate, Font, charge, named, returned, callBody, callSubr, execute, consume, runBytes, runBody, run}
+use Rattle.type1.specs.Run.{Limits, Outcome, going, refused, andThen, top, cleared, without, needs, push, stem, entries, groupNumber, newGroup, commit, enter, list, shifted, isFinite, noFlex, moveBy, openSubpath, lineTo, lineBy, curveTo, curveBy, samePoint, setPoint, backwards, handBack, endFlex, heightOf, otherSubr0, collected, otherSubr2, is, otherSubr, callOtherSubr, popD, divD, stems3, pointAt, operate, Font, charge, named, returned, callBody, callSubr, execute, consume, runBytes, runBody, run}
 use Rattle.type1.specs.Sound.{Ends, points, pointsOf, gathered, weight, Goes, Rising, Placed, Weighs, Due}
 use Rattle.type1.specs.Outcomes.{check-ends, allowed-ends, pick-ends, needs-ends, returned-ends, then-ends, allowed-goes, pick-goes, then-goes}
 
@@ -98,9 +98,7 @@ module _ (lim : Limits) (n : ℕ) where
       let r = rising-more 0 (s .groups) (length (s .drawn)) (suc (length (s .drawn))) (omega arith) (w .placed) in
       pick-goes (Due n) (s .changed) _ (going s) (λ t.
       pick-goes (Due n) (lastIs (s .groups) (s .hints)) (going (settled (s .groups) s)) _ (λ u. record { below = w .below; ran = w .ran; placed = r }) (λ u.
-      allowed-goes (Due n) (lim .groups (length (s .groups) + 1)) _ (
-      allowed-goes (Due n) (lim .stems (stemCount (s .groups) + length (s .hints))) _ (
-      allowed-goes (Due n) (lim .commands (entries s + 1)) (going (settled l s)) (record { below = w .below; ran = w .ran; placed = rising-snoc 0 (s .groups) g (omega arith) (w .placed) })))))
+      allowed-goes (Due n) (groupNumber lim s) (going (settled l s)) (record { below = w .below; ran = w .ran; placed = rising-snoc 0 (s .groups) g (omega arith) (w .placed) })))
       (λ t. record { below = w .below; ran = w .ran; placed = r })
 
   enter-weighs : (c : Command) (s : State) → Due (points c + n) s → Ends (Weighs n) (enter lim c s)

@@ -21,7 +21,7 @@ ghost use Rattle.type1.specs.Operator as Op;
 ghost use Rattle.type1.specs.Run as Run;
 ghost use Rattle.hints.specs.Hints.{stemAt};
 ghost use Rattle.outline.specs.Outline.{pick, stemOf};
-ghost use Rattle.outline.specs.Store.{pointCommand};
+ghost use Rattle.outline.specs.Store.{entryWords, pointCommand};
 ghost use Rattle.type1.specs.Run.{readingOf, within, pointAt, isFinite, operate};
 ghost use Rattle.type1.specs.Memory.{Mem, stemsAt, Bounds, Good, Holds, Meets, operatorOf, withOps, withPs, withCells, withCmds, withHints, withPath, after, Told, Plain, Path, Step, Takes, Hinted};
 ghost use Rattle.type1.specs.Deltas.{axesOf, tangentsOf, noDelta, noDeltas, pointDelta, curveDeltas, byPoint, byCurve, stemFrom};
@@ -462,7 +462,7 @@ fn not_drawn(x: f64, y: f64) -> Drawn
 
 // An entry of one point, a move or a line, where there is room.
 fn store_point(kind: u64, x: f64, y: f64, k: usize, cmds: &mut [u64]) -> bool
-    requires { ⌜ 14 * k ≤ length (now cmds) ⌝ }
+    requires { ⌜ entryWords * k ≤ length (now cmds) ⌝ }
     requires { ⌜ (0 < kind) × (kind < 3) ⌝ }
     requires { ⌜ T (finite x) × T (finite y) ⌝ }
     ensures { λ r. ⌜ Stores (pointCommand kind (pointAt x y)) k (now (cmds .entry)) r (now (cmds .exit)) ⌝ }
@@ -488,7 +488,7 @@ fn store_curve(
     k: usize,
     cmds: &mut [u64],
 ) -> bool
-    requires { ⌜ 14 * k ≤ length (now cmds) ⌝ }
+    requires { ⌜ entryWords * k ≤ length (now cmds) ⌝ }
     requires { ⌜ T (isFinite (pointAt px py)) × (T (isFinite (pointAt qx qy)) × T (isFinite (pointAt rx ry))) ⌝ }
     ensures { λ r. ⌜ Stores (Outline.curve (pointAt px py) (pointAt qx qy) (pointAt rx ry)) k (now (cmds .entry)) r (now (cmds .exit)) ⌝ }
 {
@@ -508,7 +508,7 @@ fn store_curve(
 
 // A line from (x, y) with k entries listed.
 fn add_line(dx: f64, dy: f64, x: f64, y: f64, k: usize, cmds: &mut [u64]) -> Drawn
-    requires { ⌜ 14 * k ≤ length (now cmds) ⌝ }
+    requires { ⌜ entryWords * k ≤ length (now cmds) ⌝ }
     ensures { λ r. ⌜ Adds (λ lim. Run.lineBy lim dx dy) x y k (now (cmds .entry)) r (now (cmds .exit)) ⌝ }
 {
     let px = x + dx;
@@ -539,7 +539,7 @@ fn add_curve(
     k: usize,
     cmds: &mut [u64],
 ) -> Drawn
-    requires { ⌜ 14 * k ≤ length (now cmds) ⌝ }
+    requires { ⌜ entryWords * k ≤ length (now cmds) ⌝ }
     ensures { λ r. ⌜ Adds (λ lim. Run.curveBy lim dx1 dy1 dx2 dy2 dx3 dy3) x y k (now (cmds .entry)) r (now (cmds .exit)) ⌝ }
 {
     let px = x + dx1;
@@ -570,7 +570,7 @@ fn add_curve(
 // The operator of the byte v, if it is a line or a curve that is not refused: with n operands, at (x, y), with k
 // entries listed. Else nothing is done.
 fn draw(v: u8, n: usize, x: f64, y: f64, k: usize, ops: &[f64; 256], cmds: &mut [u64]) -> Drawn
-    requires { ⌜ (n ≤ 256) × (14 * k ≤ length (now cmds)) ⌝ }
+    requires { ⌜ (n ≤ 256) × (entryWords * k ≤ length (now cmds)) ⌝ }
     ensures { λ r. ⌜ Draws v n x y k (now (ops .entry)) (now (cmds .entry)) r (now (cmds .exit)) ⌝ }
 {
     let op = wide(v);
@@ -615,7 +615,7 @@ fn token(
     ops: &mut [f64; 256],
     cmds: &mut [u64],
 ) -> Tok
-    requires { ⌜ (from < length (now code)) × ((st .operands ≤ 256) × (14 * st .entries ≤ length (now cmds))) ⌝ }
+    requires { ⌜ (from < length (now code)) × ((st .operands ≤ 256) × (entryWords * st .entries ≤ length (now cmds))) ⌝ }
     ensures { λ r. ⌜ Reads (now (code .entry)) from start encrypted st (now (ops .entry)) (now (cmds .entry)) r (now (ops .exit)) (now (cmds .exit)) ⌝ }
 {
     let mut i = from;
@@ -747,7 +747,7 @@ fn cleared(st: St) -> St
 
 // An entry of one point: a move or a line.
 fn enter_point(kind: u64, x: f64, y: f64, st: St, cmds: &mut [u64]) -> Ran
-    requires { ⌜ 14 * st .entries ≤ length (now cmds) ⌝ }
+    requires { ⌜ entryWords * st .entries ≤ length (now cmds) ⌝ }
     requires { ⌜ (0 < kind) × (kind < 3) ⌝ }
     requires { ⌜ T (finite x) × T (finite y) ⌝ }
     ensures { λ r. ⌜ ((m : Mem) (s : State.State) (room : ℕ) → Holds st (withCmds (now (cmds .entry)) m) s →
@@ -775,7 +775,7 @@ fn enter_curve(
     st: St,
     cmds: &mut [u64],
 ) -> Ran
-    requires { ⌜ 14 * st .entries ≤ length (now cmds) ⌝ }
+    requires { ⌜ entryWords * st .entries ≤ length (now cmds) ⌝ }
     requires { ⌜ T (isFinite (pointAt px py)) × (T (isFinite (pointAt qx qy)) × T (isFinite (pointAt rx ry))) ⌝ }
     ensures { λ r. ⌜ ((m : Mem) (s : State.State) (room : ℕ) → Holds st (withCmds (now (cmds .entry)) m) s →
         Meets r (withCmds (now (cmds .exit)) m) (Run.enter (within room (length (now (cmds .entry)))) (Outline.curve (pointAt px py) (pointAt qx qy) (pointAt rx ry)) s)) ⌝ }
@@ -811,7 +811,7 @@ fn enter_flex(
     st: St,
     cmds: &mut [u64],
 ) -> Ran
-    requires { ⌜ 14 * st .entries ≤ length (now cmds) ⌝ }
+    requires { ⌜ entryWords * st .entries ≤ length (now cmds) ⌝ }
     requires { ⌜ Small.GoodPoint p1 × (Small.GoodPoint p2 × Small.GoodPoint p3) ⌝ }
     requires { ⌜ Small.GoodPoint p4 × (Small.GoodPoint p5 × Small.GoodPoint p6) ⌝ }
     requires { ⌜ T (finite height) ⌝ }
@@ -850,7 +850,7 @@ fn collected(cells: &[f64; 17], i: usize) -> Point
 
 // The flex of the seven points collected, of which the first is not used.
 fn list_flex(height: f64, st: St, cells: &[f64; 17], cmds: &mut [u64]) -> Ran
-    requires { ⌜ 14 * st .entries ≤ length (now cmds) ⌝ }
+    requires { ⌜ entryWords * st .entries ≤ length (now cmds) ⌝ }
     requires { ⌜ T (finite height) × ((i : ℕ) → i < 14 → Good (getD (now cells) i nan)) ⌝ }
     ensures { λ r. ⌜ ((m : Mem) (s : State.State) (room : ℕ) → Holds st (withCells (now (cells .entry)) (withCmds (now (cmds .entry)) m)) s →
         Meets r (withCells (now (cells .entry)) (withCmds (now (cmds .exit)) m)) (Run.enter (within room (length (now (cmds .entry)))) (Small.flexOf (now (cells .entry)) height) s)) ⌝ }

@@ -1,7 +1,7 @@
 -- Definitions: Type 2 numbers. How a double is rounded, how the bytes of a number read back, which bytes a number gets, and what a push into the output does.
 -- A number is counted in whole units of 1/65536, as a ℤ.
 use mathlib.Core.Path.{_≡_}
-use Prim.Native.Nat.{ℕ, suc, _+_, _-_, _*_, _/_, _%_, _^_, _<_}
+use Prim.Native.Nat.{ℕ, suc, _+_, _-_, _*_, _/_, _%_, _^_}
 use mathlib.Core.Bool.{Bool, false, _&&_, cond}
 use mathlib.Core.List.{List, [], _∷_, _++_}
 use lib.ListN.{length, take, drop}
@@ -100,11 +100,6 @@ readFrom b bs =
 abbrev pub read : List ℕ → Reading
 read [] = noNumber
 read (b ∷ bs) = readFrom b bs
-
--- each is a byte
-unfoldable pub Bytes : List ℕ → Type 0
-Bytes [] = Unit {0}
-Bytes (b ∷ bs) = (b < 256) × Bytes bs
 
 -- ---- Document 01, "Numbers (T2)": "Shortest form of -32768 to 32767, else 16.16."
 

@@ -5,10 +5,10 @@ use Prim.Native.Nat.{ℕ, suc, _+_, _-_, _*_, _/_, _%_, _≤_, _<_}
 use native.Mathlib.Omega.{arith}
 use mathlib.Core.Bool.{Bool, true, false, not, _&&_}
 use mathlib.Core.List.{List, [], _∷_, _++_}
-use lib.ListN.{length}
+use lib.ListN.{length, getD}
 use lib.Dec.{T, ltb, eqb, ltb→lt, lt→ltb, nltb→le, eqb→eq}
 use lib.IntN.{ℤ, subℕ}
-use Rattle.type2.specs.Number.{zp, zm, one, pair, short, fixed, Reading, noNumber, number, read2, read3, read5, readFrom, read, Bytes, wholeBytes, fixedBytes, numberBytes, inRange}
+use Rattle.type2.specs.Number.{zp, zm, one, pair, short, fixed, Reading, noNumber, number, read2, read3, read5, readFrom, read, wholeBytes, fixedBytes, numberBytes, inRange}
 use Rattle.type2.specs.Bools.{is-lt, not-lt, not-eq, is-eq, choose, and-both}
 use Rattle.type2.specs.Signed.{sub-bal, sub-is, one-sided}
 
@@ -190,23 +190,23 @@ five u m (a ∷ b ∷ []) = no u m
 five u m (a ∷ b ∷ c ∷ []) = no u m
 five u m (a ∷ b ∷ c ∷ d ∷ bs) = that u (fixed (((a * 256 + b) * 256 + c) * 256 + d)) m 4 (any-length (fixed (((a * 256 + b) * 256 + c) * 256 + d)))
 
-two : (u : ℤ) (m b : ℕ) (bs : List ℕ) → 247 ≤ b → b < 255 → Bytes bs → Says u m (read2 b bs)
-unfolding read2 Bytes
+two : (u : ℤ) (m b : ℕ) (bs : List ℕ) → 247 ≤ b → b < 255 → ((i : ℕ) → getD bs i 0 < 256) → Says u m (read2 b bs)
+unfolding read2
 two u m b [] h k g = no u m
 two u m b (w ∷ bs) h k g = that u (pair b w) m 1 (choose (ltb b 251) (λ (z : ℤ). AtMost 2 (numberBytes z)) _ _
-    (λ t. let l = ltb→lt b 251 t in let y = g .0 in sub-length 2 ((b - 247) * 256 + w + 108) 0 (record { first = omega arith; second = λ h. omega arith; third = λ h. absurd (let z : ⊥ = omega arith in z) }))
-    (λ t. let l = nltb→le b 251 t in let y = g .0 in sub-length 2 0 ((b - 251) * 256 + w + 108) (record { first = omega arith; second = λ h. omega arith; third = λ h. absurd (let z : ⊥ = omega arith in z) })))
+    (λ t. let l = ltb→lt b 251 t in let y = g 0 in sub-length 2 ((b - 247) * 256 + w + 108) 0 (record { first = omega arith; second = λ h. omega arith; third = λ h. absurd (let z : ⊥ = omega arith in z) }))
+    (λ t. let l = nltb→le b 251 t in let y = g 0 in sub-length 2 0 ((b - 251) * 256 + w + 108) (record { first = omega arith; second = λ h. omega arith; third = λ h. absurd (let z : ⊥ = omega arith in z) })))
 
-by-form : (u : ℤ) (m b : ℕ) (bs : List ℕ) → Bytes (b ∷ bs) → Says u m (readFrom b bs)
-unfolding readFrom Bytes
+by-form : (u : ℤ) (m b : ℕ) (bs : List ℕ) → ((i : ℕ) → getD bs i 0 < 256) → Says u m (readFrom b bs)
+unfolding readFrom
 by-form u m b bs h =
     choose (eqb b 28) (Says u m) (read3 bs) _ (λ t. three u m bs)
     (λ t0. choose (ltb b 32) (Says u m) noNumber _ (λ t. no u m)
     (λ t1. choose (ltb b 247) (Says u m) (number (one b) 0) _ (λ t. let l = ltb→lt b 247 t in let k = nltb→le b 32 t1 in that u (one b) m 0 (sub-length 1 b 139 (record { first = omega arith; second = λ h. absurd (let z : ⊥ = omega arith in z); third = λ h. absurd (let z : ⊥ = omega arith in z) })))
-    (λ t2. choose (ltb b 255) (Says u m) (read2 b bs) _ (λ t. two u m b bs (nltb→le b 247 t2) (ltb→lt b 255 t) (h .1))
+    (λ t2. choose (ltb b 255) (Says u m) (read2 b bs) _ (λ t. two u m b bs (nltb→le b 247 t2) (ltb→lt b 255 t) h)
     (λ t3. choose (eqb b 255) (Says u m) (read5 bs) noNumber (λ t. five u m bs) (λ t. no u m)))))
 
 -- ---- NOTHING SHORTER DOES: bytes that read as u are at least as many as u's
-pub shortest : (u : ℤ) (c : List ℕ) (m : ℕ) → Bytes c → read c ≡ number u m → length (numberBytes u) ≤ suc m
+pub shortest : (u : ℤ) (c : List ℕ) (m : ℕ) → ((i : ℕ) → getD c i 0 < 256) → read c ≡ number u m → length (numberBytes u) ≤ suc m
 shortest u [] m h e = absurd (let z : _≡_ {A = ℕ} 0 1 = cc in let y : ⊥ = omega arith in y)
-shortest u (b ∷ bs) m h e = by-form u m b bs h e
+shortest u (b ∷ bs) m h e = by-form u m b bs (λ i. h (suc i)) e

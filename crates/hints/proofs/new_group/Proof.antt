@@ -4,7 +4,7 @@ use mathlib.Core.Path.{refl, ap, ap₂}
 use mathlib.Core.Bool.{Bool, true, false, _&&_}
 use borrow.Author.Tests.{le-leb, lt-leb}
 use lib.Dec.{leb}
-use Rattle.hints.specs.Hints.{newGroup}
+use Rattle.hints.specs.Hints.{refusedGroup}
 use Rattle.hints.specs.Laws.{group-number}
 use native.Mathlib.Omega.{arith}
 use mathlib.Core.Path.{_≡_, sym, _∙_}
@@ -15,30 +15,30 @@ module _ (groups records used n words entries : ℕ) where
   abbrev entry : Bool
   entry = leb (14 * (entries + 1)) words
 
-  many-groups : 256 ≤ groups → 16 ≡ newGroup groups records used n words entries
+  many-groups : 256 ≤ groups → 16 ≡ refusedGroup groups records used n words entries
   many-groups h = sym (group-number groups records used n words entries false entry (ap (λ (b : Bool). b && leb (used + n) records) (lt-leb (groups + 1) 256 (omega arith))) refl)
 
-  full : records < used + n → 16 ≡ newGroup groups records used n words entries
+  full : records < used + n → 16 ≡ refusedGroup groups records used n words entries
   full h = sym (group-number groups records used n words entries false entry (ap (λ (b : Bool). leb (groups + 1) 256 && b) (lt-leb (used + n) records h) ∙ none (leb (groups + 1) 256)) refl)
     where
       none : (b : Bool) → (b && false) ≡ false
       none true = refl
       none false = refl
 
-  used-up : records < used → 16 ≡ newGroup groups records used n words entries
+  used-up : records < used → 16 ≡ refusedGroup groups records used n words entries
   used-up h = full (omega arith)
 
-  no-records : used ≤ records → records - used < n → 16 ≡ newGroup groups records used n words entries
+  no-records : used ≤ records → records - used < n → 16 ≡ refusedGroup groups records used n words entries
   no-records h k = full (omega arith)
 
   module _ (g : groups < 256) (u : used ≤ records) (r : n ≤ records - used) where
     fits : (leb (groups + 1) 256 && leb (used + n) records) ≡ true
     fits = ap₂ (λ (x y : Bool). x && y) (le-leb (groups + 1) 256 (omega arith)) (le-leb (used + n) records (omega arith))
 
-    no-words : words / 14 ≤ entries → 17 ≡ newGroup groups records used n words entries
+    no-words : words / 14 ≤ entries → 17 ≡ refusedGroup groups records used n words entries
     no-words h = sym (group-number groups records used n words entries true false fits (lt-leb (14 * (entries + 1)) words (omega arith)))
 
-    passes : entries < words / 14 → 0 ≡ newGroup groups records used n words entries
+    passes : entries < words / 14 → 0 ≡ refusedGroup groups records used n words entries
     passes h = sym (group-number groups records used n words entries true true fits (le-leb (14 * (entries + 1)) words (omega arith)))
 
 returns : tie.Need-returns
