@@ -35,7 +35,7 @@ use Rattle.type1.specs.Cycle.{Ready, limitsOf, fontOf, From, MeetsFrom, 
 use Rattle.type1.specs.Outcomes.{all-getD}
 use Rattle.type1.specs.SoundLaws.{callSubr-sound, execute-sound, runBody-sound}
 use Rattle.type1.proofs.Stacks.{holds-itself, few-held}
-use Rattle.type1.proofs.Bytes.{goes, held-sound}
+use Rattle.type1.proofs.ByteLaws.{goes, held-sound}
 
 -- ---- tests
 twice-not : (t : Bool) → T (not (not t)) → T t

@@ -21,7 +21,7 @@ use Rattle.type1.specs.Small.{ranOf, closedRan, Space}
 use Rattle.type1.proofs.Stacks.{cleared-holds}
 use Rattle.type1.proofs.Steps.{bearing-is}
 use Rattle.type1.proofs.Groups.{after-none}
-use Rattle.type1.proofs.Paths.{opens}
+use Rattle.type1.proofs.PathLaws.{opens}
 use Rattle.type1.proofs.OtherSubrs.{Others}
 
 -- ---- which operators a range of numbers is

@@ -24,10 +24,10 @@ use Rattle.type1.specs.Small.{ranOf}
 use Rattle.type1.specs.Reading.{placed, drawnTo, isRead, Stores, Adds, Draws}
 use Rattle.type1.proofs.Store.{withEntries, enter-full, wrote-3, wrote-7, point-entered, curve-entered}
 use Rattle.type1.proofs.Groups.{kept-none, commits-none, quiet-told}
-use Rattle.type1.proofs.Paths.{lists-on, lines-listed, line-open, curves-listed, curve-open}
+use Rattle.type1.proofs.PathLaws.{lists-on, lines-listed, line-open, curves-listed, curve-open}
 use Rattle.type1.specs.Deltas.{axesOf, tangentsOf, pointDelta, curveDeltas, byPoint, byCurve}
 use Rattle.type1.specs.DeltaLaws.{lines, curves}
-use Rattle.type1.proofs.Operands.{point-does, curve-does}
+use Rattle.type1.proofs.OperandLaws.{point-does, curve-does}
 
 -- ---- entries
 pub stores-none : (X : Command) (k : ℕ) (c : List ℕ) → length c - 14 * k < 14 → Stores X k c false c

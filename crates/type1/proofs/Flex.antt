@@ -21,7 +21,7 @@ use Rattle.type1.specs.Run.{Limits, within, Outcome, refused, andThen, c
 use Rattle.type1.specs.Memory.{Mem, pointsAt, abs, Holds, Meets, kept, after, withPs, withCells, withCmds, withStems, Told, Path, Step}
 use Rattle.type1.specs.Small.{ranOf, withXY, cellPoint, flexOf, Space}
 use Rattle.type1.proofs.Stacks.{small, small-fit, no-flex-held, flex-points, withPostscripts, back-full, back-done}
-use Rattle.type1.proofs.Paths.{stop-then, kept-same, moved}
+use Rattle.type1.proofs.PathLaws.{stop-then, kept-same, moved}
 use Rattle.type1.proofs.Steps.{then-goes}
 
 abbrev pub flexOff : St → St

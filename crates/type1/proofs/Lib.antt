@@ -1,6 +1,5 @@
 pub mod Again
-pub mod Bytes
-pub mod Callees
+pub mod ByteLaws
 pub mod Calls
 pub mod CycleLaws
 pub mod DeltasMade
@@ -21,9 +20,9 @@ pub mod Looping
 pub mod Many
 pub mod Numbers
 pub mod Octets
-pub mod Operands
+pub mod OperandLaws
 pub mod OtherSubrs
-pub mod Paths
+pub mod PathLaws
 pub mod Stacks
 pub mod Steps
 pub mod Store

@@ -11,7 +11,7 @@ use Rattle.type1.specs.declared.Ran.{Ran}
 use Rattle.type1.specs.State.{State}
 use Rattle.type1.specs.Run.{Limits, Outcome, check, andThen, top, cleared, stem, stems3, pointAt}
 use Rattle.type1.specs.Memory.{Mem, abs, Holds, Meets}
-use Rattle.type1.proofs.Paths.{stop-then, go-then}
+use Rattle.type1.proofs.PathLaws.{stop-then, go-then}
 use Rattle.type1.proofs.Stacks.{operand-count, top-is}
 
 -- ---- a step after a step that goes on

@@ -82,9 +82,9 @@ use Rattle.type1.proofs.refused.Met as refused-thm
 use Rattle.type1.proofs.deepest.Symbol as deepest-def
 use Rattle.type1.proofs.deepest.Symbol.{name as #type1·deepest}
 use Rattle.type1.proofs.deepest.Met as deepest-thm
-use Rattle.type1.proofs.run.Symbol as run-def
-use Rattle.type1.proofs.run.Symbol.{name as #type1·run}
-use Rattle.type1.proofs.run.Met as run-thm
+use Rattle.type1.proofs.run.run.Symbol as run-def
+use Rattle.type1.proofs.run.run.Symbol.{name as #type1·run·run}
+use Rattle.type1.proofs.run.run.Met as run-thm
 use Rattle.type1.proofs.number_of.Symbol as number-of-def
 use Rattle.type1.proofs.number_of.Symbol.{name as #type1·number-of}
 use Rattle.type1.proofs.number_of.Met as number-of-thm
@@ -174,7 +174,7 @@ module _ {M : Type 1} (𝓤 : URA M) (H : Heap 𝓤) (A : Atoms 𝓤) (W : Given
       qed W (‵ (I.the-row .own r (w ∷ [])) ∷ ‵ (ShrSlice (named 0) κcharstring u8 .own xcharstring (sliceVal (xcharstring .ptr) (length (xcharstring .now)) ∷ [])) ∷ ‵ (flft κcharstring qcharstring) ∷ ‵ (ShrSlice (named 0) κbank u8 .own xbank (sliceVal (xbank .ptr) (length (xbank .now)) ∷ [])) ∷ ‵ (flft κbank qbank) ∷ ‵ (OwnR (Array f64 256) bops oops κops γops usops) ∷ ‵ (flft κops qops) ∷ ‵ (OwnR (Array f64 256) bps ops κps γps usps) ∷ ‵ (flft κps qps) ∷ ‵ (OwnR (Array f64 17) bcells ocells κcells γcells uscells) ∷ ‵ (flft κcells qcells) ∷ ‵ (OwnR (Array f64 512) bedges oedges κedges γedges usedges) ∷ ‵ (flft κedges qedges) ∷ ‵ (OwnR (Array bool 256) bacross oacross κacross γacross usacross) ∷ ‵ (flft κacross qacross) ∷ ‵ (Own u64 mcommands bcommands ocommands κcommands γcommands uscommands) ∷ ‵ (flft κcommands qcommands) ∷ ‵ (Own T.the-row mstems bstems ostems κstems γstems usstems) ∷ ‵ (flft κstems qstems) ∷ []) ∵ suffices ! _ (ends-at 𝓤 H A f.ended stayed (f.clauses 𝓤 H A mem run′) W bound w r (tt, (tt, (tt, (usops, (usps, (uscells, (usedges, (usacross, (uscommands, (usstems, tt)))))))))) (tt, (tt, (tt, (tt, (tt, (tt, (tt, (tt, (lcommands, (lstems, tt))))))))))) $ says ! e $
       nothing ! $ move ! (19 ∷ 0 ∷ []) $ join ! $ move ! (17 ∷ 0 ∷ []) $ join ! $ move ! (15 ∷ 0 ∷ []) $ join ! $ move ! (13 ∷ 0 ∷ []) $ join ! $ move ! (11 ∷ 0 ∷ []) $ join ! $ move ! (9 ∷ 0 ∷ []) $ join ! $ move ! (7 ∷ 0 ∷ []) $ join ! $ move ! (5 ∷ 0 ∷ []) $ join ! $ move ! (3 ∷ 0 ∷ []) $ join ! $ frame ! $ nothing ! $ move ! (10 ∷ 0 ∷ []) $ fjoin ! $ move ! (9 ∷ 0 ∷ []) $ fjoin ! $ move ! (8 ∷ 0 ∷ []) $ fjoin ! $ move ! (7 ∷ 0 ∷ []) $ fjoin ! $ move ! (6 ∷ 0 ∷ []) $ fjoin ! $ move ! (5 ∷ 0 ∷ []) $ fjoin ! $ move ! (4 ∷ 0 ∷ []) $ fjoin ! $ owned ! Y.the-row (Is Y.the-row) (LL.makes Y.the-type Y′.the-plain 𝓤 H A) rd _ rd-fits $ fjoin ! $ move ! (3 ∷ 0 ∷ []) $ fjoin ! $ move ! (2 ∷ 0 ∷ []) $ fjoin ! $ done !
 
-  module _ (known-start-run : Triple 𝓤 (C #type1·start-run) (StartRunC 𝓤 H A mem run′)) (known-wipe : Triple 𝓤 (C #type1·wipe) (WipeC 𝓤 H A mem run′)) (known-wipe-words : Triple 𝓤 (C #type1·wipe-words) (WipeWordsC 𝓤 H A mem run′)) (known-refused : Triple 𝓤 (C #type1·refused) (RefusedC 𝓤 H A mem run′)) (known-deepest : Triple 𝓤 (C #type1·deepest) (DeepestC 𝓤 H A mem run′)) (known-run : Triple 𝓤 (C #type1·run) (RunC 𝓤 H A mem run′)) (known-number-of : Triple 𝓤 (C #type1·number-of) (NumberOfC 𝓤 H A mem run′)) (known-answer : Triple 𝓤 (C #type1·answer) (AnswerC 𝓤 H A mem run′)) (need : Cleared ysops ysps yscells ysedges ysacross) where
+  module _ (known-start-run : Triple 𝓤 (C #type1·start-run) (StartRunC 𝓤 H A mem run′)) (known-wipe : Triple 𝓤 (C #type1·wipe) (WipeC 𝓤 H A mem run′)) (known-wipe-words : Triple 𝓤 (C #type1·wipe-words) (WipeWordsC 𝓤 H A mem run′)) (known-refused : Triple 𝓤 (C #type1·refused) (RefusedC 𝓤 H A mem run′)) (known-deepest : Triple 𝓤 (C #type1·deepest) (DeepestC 𝓤 H A mem run′)) (known-run : Triple 𝓤 (C #type1·run·run) (RunC 𝓤 H A mem run′)) (known-number-of : Triple 𝓤 (C #type1·number-of) (NumberOfC 𝓤 H A mem run′)) (known-answer : Triple 𝓤 (C #type1·answer) (AnswerC 𝓤 H A mem run′)) (need : Cleared ysops ysps yscells ysedges ysacross) where
     pub walk : ent 𝓤 (onEntry 𝓤 H A f.signature (κcharstring, (κbank, (κops, (κps, (κcells, (κedges, (κacross, (κcommands, (κstems, tt))))))))) (qcharstring, (qbank, (qops, (qps, (qcells, (qedges, (qacross, (qcommands, (qstems, tt))))))))) a vals) (WpFn 𝓤 H C Λ code.function args Post)
     walk =
         qed W ((‵ (flft κcharstring qcharstring) ⊛ (‵ (flft κbank qbank) ⊛ (‵ (flft κops qops) ⊛ (‵ (flft κps qps) ⊛ (‵ (flft κcells qcells) ⊛ (‵ (flft κedges qedges) ⊛ (‵ (flft κacross qacross) ⊛ (‵ (flft κcommands qcommands) ⊛ (‵ (flft κstems qstems) ⊛ ‵ ftrue))))))))) ∷ ‵ (owns (ShrSlice (named 0) κcharstring u8 ∷ ShrSlice (named 1) κbank u8 ∷ Y.the-row ∷ MutRef (named 2) κops (Array f64 256) ∷ MutRef (named 3) κps (Array f64 256) ∷ MutRef (named 4) κcells (Array f64 17) ∷ MutRef (named 5) κedges (Array f64 512) ∷ MutRef (named 6) κacross (Array bool 256) ∷ MutSlice (named 7) κcommands u64 ∷ MutSlice (named 8) κstems T.the-row ∷ []) a vals) ∷ []) ∵ enter ! C Λ code.function args _ $
@@ -242,7 +242,7 @@ module _ {M : Type 1} (𝓤 : URA M) (H : Heap 𝓤) (A : Atoms 𝓤) (W : Given
         returns ! (look ! 91 refl) $ leave ! (_ ∷ _ ∷ _ ∷ _ ∷ _ ∷ _ ∷ _ ∷ _ ∷ _ ∷ _ ∷ _ ∷ _ ∷ _ ∷ _ ∷ _ ∷ _ ∷ _ ∷ _ ∷ _ ∷ []) (filled _ _ _ ∷ filled _ _ _ ∷ filled _ _ _ ∷ filled _ _ _ ∷ filled _ _ _ ∷ filled _ _ _ ∷ filled _ _ _ ∷ filled _ _ _ ∷ filled _ _ _ ∷ filled _ _ _ ∷ filled _ _ _ ∷ filled _ _ _ ∷ filled _ _ _ ∷ filled _ _ _ ∷ filled _ _ _ ∷ filled _ _ _ ∷ bare _ _ ∷ bare _ _ ∷ bare _ _ ∷ bare _ _ ∷ bare _ _ ∷ filled _ _ _ ∷ filled _ _ _ ∷ filled _ _ _ ∷ filled _ _ _ ∷ filled _ _ _ ∷ filled _ _ _ ∷ filled _ _ _ ∷ filled _ _ _ ∷ filled _ _ _ ∷ filled _ _ _ ∷ bare _ _ ∷ bare _ _ ∷ bare _ _ ∷ bare _ _ ∷ bare _ _ ∷ filled _ _ _ ∷ []) $ keep ! (0 ∷ 18 ∷ 16 ∷ 17 ∷ 15 ∷ 13 ∷ 14 ∷ 11 ∷ 12 ∷ 1 ∷ 2 ∷ 9 ∷ 10 ∷ 7 ∷ 8 ∷ 5 ∷ 6 ∷ 3 ∷ 4 ∷ []) $ by ! (exits r5 (machI r5) (zs3 .1 .1 .1 .1 .1 .0) (zs3 .1 .1 .1 .1 .1 .1 .0) (zs3 .1 .1 .1 .1 .1 .1 .1 .0) (zs3 .1 .1 .1 .1 .1 .1 .1 .1 .0) (zs3 .1 .1 .1 .1 .1 .1 .1 .1 .1 .0) (zs3 .1 .1 .1 .1 .1 .1 .1 .1 .1 .1 .0) (zs3 .1 .1 .1 .1 .1 .1 .1 .1 .1 .1 .1 .0) (ran-through (xcharstring .now) (xbank .now) rd r1 e1 yscommands ysstems ysops ysps yscells ysedges ysacross need on r3 (memOf (zs3 .1 .1 .1 .1 .1 .0) (zs3 .1 .1 .1 .1 .1 .1 .0) (zs3 .1 .1 .1 .1 .1 .1 .1 .0) (zs3 .1 .1 .1 .1 .1 .1 .1 .1 .0) (zs3 .1 .1 .1 .1 .1 .1 .1 .1 .1 .0) (zs3 .1 .1 .1 .1 .1 .1 .1 .1 .1 .1 .0) (zs3 .1 .1 .1 .1 .1 .1 .1 .1 .1 .1 .1 .0)) e3 r4 e4 octets octets′ done′ r5 e5) (lcommands3) (lstems3))))))))))))))))))))))))))))))))))))))))))))))))))))))))))))))))))
 
 module _ {M : Type 1} (𝓤 : URA M) (H : Heap 𝓤) (A : Atoms 𝓤) (W : Given 𝓤 H A) (mem : Memory → SProp 𝓤) (run′ : Routine → Fun 𝓤) where
-  meets : (𝓣 : Tables 𝓤 H) → (let C : Calls 𝓤 H = 𝓣 .C in Triple 𝓤 (C #type1·start-run) (StartRunC 𝓤 H A mem run′) → Triple 𝓤 (C #type1·wipe) (WipeC 𝓤 H A mem run′) → Triple 𝓤 (C #type1·wipe-words) (WipeWordsC 𝓤 H A mem run′) → Triple 𝓤 (C #type1·refused) (RefusedC 𝓤 H A mem run′) → Triple 𝓤 (C #type1·deepest) (DeepestC 𝓤 H A mem run′) → Triple 𝓤 (C #type1·run) (RunC 𝓤 H A mem run′) → Triple 𝓤 (C #type1·number-of) (NumberOfC 𝓤 H A mem run′) → Triple 𝓤 (C #type1·answer) (AnswerC 𝓤 H A mem run′) → MeetsC 𝓤 H A f.signature (WpFn 𝓤 H (𝓣 .C) (𝓣 .Λ) code.function) (f.spec 𝓤 H A mem run′))
+  meets : (𝓣 : Tables 𝓤 H) → (let C : Calls 𝓤 H = 𝓣 .C in Triple 𝓤 (C #type1·start-run) (StartRunC 𝓤 H A mem run′) → Triple 𝓤 (C #type1·wipe) (WipeC 𝓤 H A mem run′) → Triple 𝓤 (C #type1·wipe-words) (WipeWordsC 𝓤 H A mem run′) → Triple 𝓤 (C #type1·refused) (RefusedC 𝓤 H A mem run′) → Triple 𝓤 (C #type1·deepest) (DeepestC 𝓤 H A mem run′) → Triple 𝓤 (C #type1·run·run) (RunC 𝓤 H A mem run′) → Triple 𝓤 (C #type1·number-of) (NumberOfC 𝓤 H A mem run′) → Triple 𝓤 (C #type1·answer) (AnswerC 𝓤 H A mem run′) → MeetsC 𝓤 H A f.signature (WpFn 𝓤 H (𝓣 .C) (𝓣 .Λ) code.function) (f.spec 𝓤 H A mem run′))
   meets 𝓣 k0 k1 k2 k3 k4 k5 k6 k7 = walk-meets 𝓤 H A f.ended stayed W (goes-none-slice 𝓤 H A W 9 (0 ∷ []) tt (plain (λ _. u8)) yes, (goes-none-slice 𝓤 H A W 9 (1 ∷ []) tt (plain (λ _. u8)) yes, (goes-none 𝓤 H A W 9 (λ _. Y.the-row) yes (λ κs x f. refl), (goes-ref 𝓤 H A W 9 2 tt (ArrayOf (plain (λ _. f64)) (λ _. tt) 256), (goes-ref 𝓤 H A W 9 3 tt (ArrayOf (plain (λ _. f64)) (λ _. tt) 256), (goes-ref 𝓤 H A W 9 4 tt (ArrayOf (plain (λ _. f64)) (λ _. tt) 17), (goes-ref 𝓤 H A W 9 5 tt (ArrayOf (plain (λ _. f64)) (λ _. tt) 512), (goes-ref 𝓤 H A W 9 6 tt (ArrayOf (plain (λ _. bool)) (λ _. tt) 256), (goes-slice 𝓤 H A W 9 7 tt (plain (λ _. u64)), (goes-slice 𝓤 H A W 9 8 tt (plain (λ _. T.the-row)), tt)))))))))) (f.clauses 𝓤 H A mem run′)
       (WpFn 𝓤 H (𝓣 .C) (𝓣 .Λ) code.function) (WpFn-mono 𝓤 H (W .laws) 𝓣 code.function)
       (walked 𝓤 H A f.ended stayed (f.clauses 𝓤 H A mem run′) (WpFn 𝓤 H (𝓣 .C) (𝓣 .Λ) code.function) (λ κs. (slice-vals, (slice-vals, (LL.vals Y.the-type Y′.the-laws, (ptr-vals, (ptr-vals, (ptr-vals, (ptr-vals, (ptr-vals, (slice-vals, (slice-vals, tt))))))))))) (λ κs. (shr-slice-tells (named 0) (κs .0) u8, (shr-slice-tells (named 1) (κs .1 .0) u8, (LL.tells Y.the-type Y′.the-laws, (mut-tells (named 2) (κs .1 .1 .0) (Array f64 256), (mut-tells (named 3) (κs .1 .1 .1 .0) (Array f64 256), (mut-tells (named 4) (κs .1 .1 .1 .1 .0) (Array f64 17), (mut-tells (named 5) (κs .1 .1 .1 .1 .1 .0) (Array f64 512), (mut-tells (named 6) (κs .1 .1 .1 .1 .1 .1 .0) (Array bool 256), (mut-slice-tells (named 7) (κs .1 .1 .1 .1 .1 .1 .1 .0) u64, (mut-slice-tells (named 8) (κs .1 .1 .1 .1 .1 .1 .1 .1 .0) T.the-row, tt)))))))))))
@@ -259,6 +259,6 @@ interpret-spec 𝓤 H 𝓜 𝓖 𝓡 =
     (cited 𝓤 H (WipeWordsC 𝓤 H (𝓖 .A) (𝓜 .mem) (𝓡 .run)) 𝓜 𝓡 code.env #type1·wipe-words wipe-words-def.routine code.calls-type1·wipe-words (wipe-words-thm.met 𝓤 H 𝓜 𝓖 𝓡))
     (cited 𝓤 H (RefusedC 𝓤 H (𝓖 .A) (𝓜 .mem) (𝓡 .run)) 𝓜 𝓡 code.env #type1·refused refused-def.routine code.calls-type1·refused (refused-thm.met 𝓤 H 𝓜 𝓖 𝓡))
     (cited 𝓤 H (DeepestC 𝓤 H (𝓖 .A) (𝓜 .mem) (𝓡 .run)) 𝓜 𝓡 code.env #type1·deepest deepest-def.routine code.calls-type1·deepest (deepest-thm.met 𝓤 H 𝓜 𝓖 𝓡))
-    (cited 𝓤 H (RunC 𝓤 H (𝓖 .A) (𝓜 .mem) (𝓡 .run)) 𝓜 𝓡 code.env #type1·run run-def.routine code.calls-type1·run (run-thm.met 𝓤 H 𝓜 𝓖 𝓡))
+    (cited 𝓤 H (RunC 𝓤 H (𝓖 .A) (𝓜 .mem) (𝓡 .run)) 𝓜 𝓡 code.env #type1·run·run run-def.routine code.calls-type1·run·run (run-thm.met 𝓤 H 𝓜 𝓖 𝓡))
     (cited 𝓤 H (NumberOfC 𝓤 H (𝓖 .A) (𝓜 .mem) (𝓡 .run)) 𝓜 𝓡 code.env #type1·number-of number-of-def.routine code.calls-type1·number-of (number-of-thm.met 𝓤 H 𝓜 𝓖 𝓡))
     (cited 𝓤 H (AnswerC 𝓤 H (𝓖 .A) (𝓜 .mem) (𝓡 .run)) 𝓜 𝓡 code.env #type1·answer answer-def.routine code.calls-type1·answer (answer-thm.met 𝓤 H 𝓜 𝓖 𝓡)))

@@ -47,15 +47,15 @@ use Rattle.type1.proofs.Locals.{word, tS, so-is}
 use Rattle.outline.specs.Outline.{zeroStem}
 use lib.ListN.{getD-replicate, length-replicate}
 use lib.Seq.{paste-zero}
-use Rattle.type1.proofs.clear.Symbol as clear-def
-use Rattle.type1.proofs.clear.Symbol.{name as #type1·clear}
-use Rattle.type1.proofs.clear.Met as clear-thm
+use Rattle.type1.proofs.stems.clear.Symbol as clear-def
+use Rattle.type1.proofs.stems.clear.Symbol.{name as #type1·stems·clear}
+use Rattle.type1.proofs.stems.clear.Met as clear-thm
 use Rattle.type1.proofs.wipe.Key.{name as #type1·wipe}
 use Rattle.type1.proofs.wipe as f
 use Rattle.type1.proofs.wipe.Statement as stated
 use Rattle.type1.proofs.wipe.Code as code
 use Rattle.type1.proofs.wipe.Code.Mir as text
-use Rattle.type1.proofs.Callees.{ClearC, clear-as}
+use Rattle.type1.proofs.stems.Callees.{ClearC, clear-as}
 use Rattle.type1.proofs.Stored.{stored-one, all-stored, paste-all, next-fits, grows}
 
 abbrev pub stayed : Stays (f.ended .signature .params) (f.ended .kept)
@@ -96,7 +96,7 @@ module _ {M : Type 1} (𝓤 : URA M) (H : Heap 𝓤) (A : Atoms 𝓤) (W : Given
       qed W (‵ (Nothing .own r (w ∷ [])) ∷ ‵ (Own T.the-row mstems bstems ostems κstems γstems usstems) ∷ ‵ (flft κstems qstems) ∷ []) ∵ suffices ! _ (ends-at 𝓤 H A f.ended stayed (f.clauses 𝓤 H A mem run′) W bound w r (usstems, tt) (lstems, tt)) $ says ! e $
       nothing ! $ move ! (3 ∷ 0 ∷ []) $ join ! $ frame ! $ nothing ! $ move ! (2 ∷ 0 ∷ []) $ fjoin ! $ done !
 
-  module _ (known-clear : Triple 𝓤 (C #type1·clear) (ClearC 𝓤 H A mem run′)) where
+  module _ (known-clear : Triple 𝓤 (C #type1·stems·clear) (ClearC 𝓤 H A mem run′)) where
     abbrev En : (l₀ l₁ l₂ l₃ l₄ l₅ l₆ l₇ : ℕ) → Env 𝓤 H
     En l₀ l₁ l₂ l₃ l₄ l₅ l₆ l₇ = (tyUnit, l₀) ∷ (sliceTy (tS (named 0)), l₁) ∷ (word, l₂) ∷ (word, l₃) ∷ (tyBool, l₄) ∷ (tyUnit, l₅) ∷ (tS erased, l₆) ∷ (sliceTy (tS erased), l₇) ∷ []
 
@@ -153,7 +153,7 @@ module _ {M : Type 1} (𝓤 : URA M) (H : Heap 𝓤) (A : Atoms 𝓤) (W : Given
         assigns ! (of-opd ! (lit ! tt)) (from ! (stop !)) (init ! 12 refl (tt, record { fits = lit< tt })) $ keep ! (0 ∷ 1 ∷ 2 ∷ 3 ∷ 4 ∷ 5 ∷ 6 ∷ 7 ∷ 8 ∷ 9 ∷ 10 ∷ 11 ∷ 12 ∷ 13 ∷ 14 ∷ 15 ∷ 16 ∷ 17 ∷ []) $ by ! (loops l₀ l₁ l₂ l₃ l₄ l₅ l₆ l₇)))))))))
 
 module _ {M : Type 1} (𝓤 : URA M) (H : Heap 𝓤) (A : Atoms 𝓤) (W : Given 𝓤 H A) (mem : Memory → SProp 𝓤) (run′ : Routine → Fun 𝓤) where
-  meets : (𝓣 : Tables 𝓤 H) → (let C : Calls 𝓤 H = 𝓣 .C in Triple 𝓤 (C #type1·clear) (ClearC 𝓤 H A mem run′) → Meets 𝓤 H A f.signature (WpFn 𝓤 H (𝓣 .C) (𝓣 .Λ) code.function) (f.spec 𝓤 H A mem run′))
+  meets : (𝓣 : Tables 𝓤 H) → (let C : Calls 𝓤 H = 𝓣 .C in Triple 𝓤 (C #type1·stems·clear) (ClearC 𝓤 H A mem run′) → Meets 𝓤 H A f.signature (WpFn 𝓤 H (𝓣 .C) (𝓣 .Λ) code.function) (f.spec 𝓤 H A mem run′))
   meets 𝓣 k0 = walk-meets 𝓤 H A f.ended stayed W (goes-slice 𝓤 H A W 1 0 tt (plain (λ _. T.the-row)), tt) (f.clauses 𝓤 H A mem run′)
       (WpFn 𝓤 H (𝓣 .C) (𝓣 .Λ) code.function) (WpFn-mono 𝓤 H (W .laws) 𝓣 code.function)
       (walked 𝓤 H A f.ended stayed (f.clauses 𝓤 H A mem run′) (WpFn 𝓤 H (𝓣 .C) (𝓣 .Λ) code.function) (λ κs. (slice-vals, tt)) (λ κs. (mut-slice-tells (named 0) (κs .0) T.the-row, tt))
@@ -165,4 +165,4 @@ wipe-spec 𝓤 H 𝓜 𝓖 𝓡 =
     entered 𝓤 H (tripleOf 𝓤 H (𝓖 .A) f.signature (f.spec 𝓤 H (𝓖 .A) (𝓜 .mem) (𝓡 .run)))
     (tables 𝓤 H 𝓜 𝓡 code.env .C) (tables 𝓤 H 𝓜 𝓡 code.env .Λ) #type1·wipe code.function (code.unfolded 𝓤 H 𝓜 𝓡)
     (meets 𝓤 H (𝓖 .A) (givenOf 𝓤 H 𝓜 𝓖) (𝓜 .mem) (𝓡 .run) (tablesOf 𝓤 H 𝓜 (tables 𝓤 H 𝓜 𝓡 code.env))
-    (cited 𝓤 H (ClearC 𝓤 H (𝓖 .A) (𝓜 .mem) (𝓡 .run)) 𝓜 𝓡 code.env #type1·clear clear-def.routine code.calls-type1·clear (clear-thm.met 𝓤 H 𝓜 𝓖 𝓡)))
+    (cited 𝓤 H (ClearC 𝓤 H (𝓖 .A) (𝓜 .mem) (𝓡 .run)) 𝓜 𝓡 code.env #type1·stems·clear clear-def.routine code.calls-type1·stems·clear (clear-thm.met 𝓤 H 𝓜 𝓖 𝓡)))
