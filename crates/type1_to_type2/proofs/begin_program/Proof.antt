@@ -3,9 +3,6 @@ use mathlib.Core.Path.{refl}
 use borrow.Author.Needs.{needs}
 use Rattle.type1_to_type2.proofs.begin_program.Statement.{statement}
 use Rattle.type1_to_type2.proofs.begin_program.Tie as tie
-use Rattle.type1_to_type2.proofs.begin_program.Reads as reads
-use Rattle.type1_to_type2.proofs.begin_program.Lts as lts
-use Rattle.type1_to_type2.proofs.write_front.Reads as write-front-reads
 
 -- src/lib.rt:1279:9
 returns : tie.Need-returns

@@ -1,7 +1,7 @@
 -- `type1_to_type2::convert_charstring_transformed` meets its contract: a walk of its MIR, by hand. What the run left is converted by `convert_stored`; both stores are wiped.
 -- Assumes nothing.
 use mathlib.Core.Path.{_≡_, refl, _∙_, ap, subst}
-use Prim.Native.Nat.{ℕ, _<_, _^_}
+use Prim.Native.Nat.{ℕ}
 use mathlib.Core.List.{[], _∷_, List}
 use lib.ListN.{length, replicate}
 use lib.Dec.{T as So}
@@ -24,8 +24,8 @@ use sound.WpLaws.{FmC, fmOf, WpFn-mono}
 use denote.RattleType.{owns}
 use denote.Memory.{pointee}
 use denote.Laws.{Is, shows}
-use denote.Plain.{Nothing, uint-makes, uint-lawful, uint-vals, uint-tells, nothing-lawful}
-use denote.Builtin.{u8, u64, usize}
+use denote.Plain.{Nothing, uint-lawful, nothing-lawful}
+use denote.Builtin.{u8, u64}
 use denote.Ref.{RefT}
 use denote.Slice.{sliceVal, MutSlice, ShrSlice, Room, finally, slice-vals, mut-slice-tells, shr-slice-tells, shr-slice-copy}
 use denote.Signature.{plain}

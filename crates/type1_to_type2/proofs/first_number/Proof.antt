@@ -1,10 +1,7 @@
-use mathlib.Core.Path.{refl}
 use Rattle.type1_to_type2.proofs.Checking.{matrix-fine, matrix-not}
 use borrow.Author.Needs.{needs}
 use Rattle.type1_to_type2.proofs.first_number.Statement.{statement}
 use Rattle.type1_to_type2.proofs.first_number.Tie as tie
-use Rattle.type1_to_type2.proofs.first_number.Reads as reads
-use Rattle.type1_to_type2.proofs.first_number.Lts as lts
 
 -- src/lib.rt:809:8
 -- src/lib.rt:806:1

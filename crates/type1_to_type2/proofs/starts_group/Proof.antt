@@ -3,8 +3,6 @@ use Rattle.type1_to_type2.proofs.Checking.{is-start, no-start}
 use borrow.Author.Needs.{needs}
 use Rattle.type1_to_type2.proofs.starts_group.Statement.{statement}
 use Rattle.type1_to_type2.proofs.starts_group.Tie as tie
-use Rattle.type1_to_type2.proofs.starts_group.Reads as reads
-use Rattle.type1_to_type2.proofs.starts_group.Lts as lts
 
 -- src/lib.rt:717:17
 -- src/lib.rt:717:8
