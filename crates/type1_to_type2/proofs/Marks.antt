@@ -18,7 +18,7 @@ use Rattle.outline.specs.Outline.{stemOf, sameStem, isIn}
 use Rattle.type1_to_type2.specs.Stems.{maskOf}
 use Rattle.type1_to_type2.specs.Table.{tableStems}
 use Rattle.type1_to_type2.specs.Collecting.{tableStem, Marked}
-use Rattle.type1_to_type2.proofs.Tables.{table-length, table-at}
+use Rattle.type1_to_type2.proofs.TableLaws.{table-length, table-at}
 
 -- ---- one bit after the other
 module _ (from : ℕ) (s : Stem) (t : List Float) (b : List Bool) where

@@ -18,15 +18,16 @@ use Rattle.type1.specs.Run.{pointAt}
 use Rattle.type2.specs.Number.{units}
 use Rattle.type1_to_type2.proofs.Draws.{in-turn}
 use Rattle.type1_to_type2.proofs.Packing.{write-program}
-use Rattle.type1_to_type2.proofs.Tables.{table-length, table-at}
+use Rattle.type1_to_type2.proofs.TableLaws.{table-length, table-at}
 use Rattle.type1_to_type2.specs.declared.Writer.{Writer}
 use Rattle.type1_to_type2.specs.declared.StemWriter.{StemWriter}
-use Rattle.type1_to_type2.specs.Stems.{Declared, stemsOf}
-use Rattle.type1_to_type2.specs.Emission.{Cmd, items, written, secondEdge, program}
-use Rattle.type1_to_type2.specs.Writing.{Written, refused, wrote, thenWrite, put, putNumbers, write}
+use Rattle.type1_to_type2.specs.Emission.{Item, items, written, secondEdge}
+use Rattle.type1_to_type2.specs.Writing.{Written, refused, wrote, thenWrite, put, putNumbers}
 use Rattle.type1_to_type2.specs.Table.{tableStems}
 use Rattle.type1_to_type2.specs.Collecting.{tableStem}
-use Rattle.type1_to_type2.specs.Streaming.{resumed, resumedItems, resumedAll, pointOf, streamed, stemsWritten, Puts, Still, Begins, Stemmed}
+use Rattle.type1_to_type2.specs.Passes.{both}
+use Rattle.type1_to_type2.specs.Entry.{declaredBy, Declares}
+use Rattle.type1_to_type2.specs.Streaming.{resumed, resumedItems, pointOf, streamed, stemsWritten, Puts, Still, Begins, Stemmed}
 
 -- ---- an operator that takes no more
 pub next-operator : {v : Writer} {b a : List ℕ} (op : ℕ) (s : StemWriter) → s .left ≡ 0 → Puts (λ f left. put left (op ∷ []) f) (s .w) b v a → (x : Stem) (ss : List Stem) (f : ℕ → Written) →
@@ -94,20 +95,20 @@ from-start out f = ap (λ (k : ℕ). thenWrite (f k) (λ c. wrote c)) (let z : l
     all (refused n) = refl
     all (wrote b) = refl
 
-pub front-written : {w a r : Writer} {b z o : List ℕ} (p q na nu : ℕ) (across upright : List Float) (masked : Bool) → p ≡ cond masked 18 1 → q ≡ cond masked 23 3 → w .number ≡ 0 → w .next ≡ 0 → pointOf w ≡ origin → w .waits ≡ 0 → w .held ≡ 0 →
-    Puts (λ f left. stemsWritten p (tableStems true na across) 23 plusZero left f) w b a z → Still w a → Puts (λ f left. stemsWritten q (tableStems false nu upright) 23 plusZero left f) a z r o → Still a r →
-    (d : Declared) (ss : List Stem) (cs : List Cmd) → d .across ≡ tableStems true na across → d .upright ≡ tableStems false nu upright → d .masked ≡ masked → ss ≡ stemsOf d → resumedAll masked ss r o cs ≡ write (program d cs) (length b)
-front-written {w} {a} {r} {b} {z} {o} p q na nu across upright masked ep eq n0 k0 at0 w0 h0 x sx y sy d ss cs da du dm ds =
-    ap (λ (e : Point). resumedItems r o (items masked ss e cs)) (ap₂ pointAt (sy .x ∙ sx .x) (sy .y ∙ sx .y) ∙ at0)
-    ∙ ap₂ (λ (k n : ℕ). resumed (r .number) (r .next) o (streamed (items masked ss origin cs) k n)) (sy .waits ∙ sx .waits ∙ w0) (sy .held ∙ sx .held ∙ h0)
-    ∙ in-turn x y .then (streamed (items masked ss origin cs) 0 0)
-    ∙ ap₂ (λ (n k : ℕ). resumed n k b whole) n0 k0
-    ∙ from-start b whole
-    ∙ same
-    ∙ sym (write-program d cs (length b))
+pub front-written : {w a r : Writer} {b z o : List ℕ} (p q na nu : ℕ) (ta tu : List Float) (masked : Bool) → p ≡ cond masked 18 1 → q ≡ cond masked 23 3 → w .number ≡ 0 → w .next ≡ 0 → pointOf w ≡ origin → w .waits ≡ 0 → w .held ≡ 0 →
+    Puts (λ f left. stemsWritten p (tableStems true na ta) 23 plusZero left f) w b a z → Still w a → Puts (λ f left. stemsWritten q (tableStems false nu tu) 23 plusZero left f) a z r o → Still a r →
+    Declares masked na nu ta tu (length b) r o
+front-written {w} {a} {r} {b} {z} {o} p q na nu ta tu masked ep eq n0 k0 at0 w0 h0 x sx y sy cs =
+    ap (λ (e : Point). resumedItems r o (items masked (both na nu ta tu) e cs)) (ap₂ pointAt (sy .x ∙ sx .x) (sy .y ∙ sx .y) ∙ at0)
+    ∙ ap₂ (λ (k n : ℕ). resumed (r .number) (r .next) o (streamed path k n)) (sy .waits ∙ sx .waits ∙ w0) (sy .held ∙ sx .held ∙ h0)
+    ∙ in-turn x y .then (streamed path 0 0)
+    ∙ ap₂ (λ (n k : ℕ). resumed n k b (whole p q)) n0 k0
+    ∙ from-start b (whole p q)
+    ∙ ap₂ (λ (i j : ℕ). whole i j (length b)) ep eq
+    ∙ sym (write-program (declaredBy masked na nu ta tu) cs (length b))
   where
-    whole : ℕ → Written
-    whole left = stemsWritten p (tableStems true na across) 23 plusZero left (λ k. stemsWritten q (tableStems false nu upright) 23 plusZero k (streamed (items masked ss origin cs) 0 0))
+    path : List Item
+    path = items masked (both na nu ta tu) origin cs
 
-    same : whole (length b) ≡ stemsWritten (cond (d .masked) 18 1) (d .across) 23 plusZero (length b) (λ left. stemsWritten (cond (d .masked) 23 3) (d .upright) 23 plusZero left (streamed (items (d .masked) (stemsOf d) origin cs) 0 0))
-    same = rw (ep, eq, ds, dm, da, du)
+    whole : ℕ → ℕ → ℕ → Written
+    whole i j left = stemsWritten i (tableStems true na ta) 23 plusZero left (λ k. stemsWritten j (tableStems false nu tu) 23 plusZero k (streamed path 0 0))

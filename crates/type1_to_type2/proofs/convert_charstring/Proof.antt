@@ -69,7 +69,7 @@ use Rattle.type1_to_type2.proofs.convert_charstring as f
 use Rattle.type1_to_type2.proofs.convert_charstring.Statement as stated
 use Rattle.type1_to_type2.proofs.convert_charstring.Code as code
 use Rattle.type1_to_type2.proofs.convert_charstring.Code.Mir as text
-use Rattle.type1_to_type2.proofs.EntryCallees.{IdentityC, ConvertCharstringTransformedC, Matrix·identity-as, convert-charstring-transformed-as}
+use Rattle.type1_to_type2.proofs.entry.Callees.{IdentityC, ConvertCharstringTransformedC, Matrix·identity-as, convert-charstring-transformed-as}
 
 abbrev tYt : Ty
 tYt = spell text.table (pointee (Y.the-row .written))
