@@ -1,6 +1,6 @@
 pub mod Locals
 pub mod Folds
-pub mod Tables
+pub mod TableLaws
 pub mod Ordering
 pub mod Marks
 pub mod Coordinates
@@ -12,10 +12,8 @@ pub mod Entries
 pub mod Packing
 pub mod StemTables
 pub mod PassLaws
-pub mod PassCallees
 pub mod LentShared
 pub mod EntryLaws
-pub mod Checking
+pub mod CheckingLaws
 pub mod RunLaws
-pub mod EntryCallees
-pub mod Finishing
+pub mod FinishingLaws

@@ -1,34 +1,34 @@
 -- Laws: a group's stems marked in its mask, one at a time.
 use mathlib.Core.Path.{_≡_, refl, sym, ap, ap₂, _∙_, subst}
-use Prim.Native.Nat.{ℕ, zero, suc, _+_, _-_, _*_, _≤_, _<_, min}
+use Prim.Native.Nat.{ℕ, zero, suc, _+_, _-_, _≤_, _<_, min}
 use native.Mathlib.Nat.{zero-add}
 use native.Mathlib.Numerals.{add-one}
 use native.Mathlib.Omega.{arith}
-use mathlib.Core.Bool.{Bool, true, false, _&&_, _||_, Bool·beq, or-false}
+use mathlib.Core.Bool.{Bool, true, false, _||_, or-false}
 use mathlib.Core.List.{List, [], _∷_, _++_, append-nil}
 use mathlib.Core.Logic.{_⊎_, inl, inr}
 use borrow.Author.Tests.{eqb-true, eqb-false, ltb-true, ltb-false}
 use lib.Dec.{eqb, ltb}
 use lib.Arith.{lt-of-le-ne}
 use lib.ListN.{length, getD, take, set, replicate, length-take, length-set, length-append, List·getD-append, replicate-append-replicate}
-use lib.Seq.{ext-getD, getD-take, getD-set-same, getD-set-other, getD-append-seam, getD-append-add, take-suc-set, take-all}
-use lib.Ieee.{Float, nan}
+use lib.Seq.{ext-getD, getD-take, getD-set-same, getD-set-other, getD-append-add, take-suc-set, take-all}
+use lib.Ieee.{Float}
 use Rattle.outline.specs.declared.Stem.{Stem}
-use Rattle.outline.specs.Outline.{sameStem, isIn}
+use Rattle.outline.specs.Outline.{stemOf, sameStem, isIn}
 use Rattle.type1_to_type2.specs.Stems.{maskOf}
 use Rattle.type1_to_type2.specs.Table.{tableStems}
-use Rattle.type1_to_type2.specs.Collecting.{tableStem, sameEdges, Marked}
-use Rattle.type1_to_type2.proofs.Tables.{table-length}
+use Rattle.type1_to_type2.specs.Collecting.{tableStem, Marked}
+use Rattle.type1_to_type2.proofs.TableLaws.{table-length, table-at}
 
 -- ---- one bit after the other
-module _ (from : ℕ) (p w : Float) (t : List Float) (b : List Bool) where
+module _ (from : ℕ) (s : Stem) (t : List Float) (b : List Bool) where
   abbrev equal : ℕ → Bool
-  equal i = sameEdges p w (getD t (2 * i) nan) (getD t (2 * i + 1) nan)
+  equal i = sameStem s (tableStem (s .horizontal) i t)
 
-  pub mark-start : Marked from 0 p w t b b
+  pub mark-start : Marked from 0 s t b b
   mark-start = record { same = refl; inside = λ i l. absurd (let z : ⊥ = omega arith in z); outside = λ k h. refl }
 
-  mark-turn : (i : ℕ) (d : List Bool) (x : Bool) → Marked from i p w t b d → from + i < length b → x ≡ (getD d (from + i) false || equal i) → Marked from (i + 1) p w t b (set d (from + i) x)
+  mark-turn : (i : ℕ) (d : List Bool) (x : Bool) → Marked from i s t b d → from + i < length b → x ≡ (getD d (from + i) false || equal i) → Marked from (i + 1) s t b (set d (from + i) x)
   mark-turn i d x M l e = record {
     same = length-set d (from + i) x ∙ M .same;
     inside = λ j k. split j k (eqb j i) refl;
@@ -43,14 +43,14 @@ module _ (from : ℕ) (p w : Float) (t : List Float) (b : List Bool) where
       split j k false q = let ne = eqb-false j i q in getD-set-other d (from + i) (from + j) x false (λ r. ne (let z : j ≡ i = omega arith in z)) ∙ M .inside j (lt-of-le-ne (let z : j ≤ i = omega arith in z) ne)
 
   -- the two are equal, or not
-  mark-equal : (i : ℕ) (d : List Bool) (x : Bool) → Marked from i p w t b d → from + i < length b → x ≡ equal i → x ≡ true → Marked from (i + 1) p w t b (set d (from + i) true)
+  mark-equal : (i : ℕ) (d : List Bool) (x : Bool) → Marked from i s t b d → from + i < length b → x ≡ equal i → x ≡ true → Marked from (i + 1) s t b (set d (from + i) true)
   mark-equal i d x M l e q = mark-turn i d true M l (sym (ap (λ (y : Bool). getD d (from + i) false || y) (sym e ∙ q) ∙ or-true (getD d (from + i) false)))
     where
       or-true : (c : Bool) → (c || true) ≡ true
       or-true true = refl
       or-true false = refl
 
-  mark-other : (i : ℕ) (d : List Bool) (x : Bool) → Marked from i p w t b d → x ≡ equal i → x ≡ false → Marked from (i + 1) p w t b d
+  mark-other : (i : ℕ) (d : List Bool) (x : Bool) → Marked from i s t b d → x ≡ equal i → x ≡ false → Marked from (i + 1) s t b d
   mark-other i d x M e q = record { same = M .same; inside = λ j k. split j k (eqb j i) refl; outside = λ k h. M .outside k (λ j m. h j (omega arith)) }
     where
       here : getD d (from + i) false ≡ (getD b (from + i) false || equal i)
@@ -60,9 +60,9 @@ module _ (from : ℕ) (p w : Float) (t : List Float) (b : List Bool) where
       split j k true r = subst (λ (n : ℕ). getD d (from + n) false ≡ (getD b (from + n) false || equal n)) (sym (eqb-true j i r)) here
       split j k false r = let ne = eqb-false j i r in M .inside j (lt-of-le-ne (let z : j ≤ i = omega arith in z) ne)
 
-  pub mark-either : (i : ℕ) (d d' : List Bool) (x : Bool) → Marked from i p w t b d → from + i < length b → x ≡ equal i → ((x ≡ true) × (d' ≡ set d (from + i) true)) ⊎ ((x ≡ false) × (d' ≡ d)) → Marked from (i + 1) p w t b d'
-  mark-either i d d' x M l e (inl (q, r)) = subst (Marked from (i + 1) p w t b) (sym r) (mark-equal i d x M l e q)
-  mark-either i d d' x M l e (inr (q, r)) = subst (Marked from (i + 1) p w t b) (sym r) (mark-other i d x M e q)
+  pub mark-either : (i : ℕ) (d d' : List Bool) (x : Bool) → Marked from i s t b d → from + i < length b → x ≡ equal i → ((x ≡ true) × (d' ≡ set d (from + i) true)) ⊎ ((x ≡ false) × (d' ≡ d)) → Marked from (i + 1) s t b d'
+  mark-either i d d' x M l e (inl (q, r)) = subst (Marked from (i + 1) s t b) (sym r) (mark-equal i d x M l e q)
+  mark-either i d d' x M l e (inr (q, r)) = subst (Marked from (i + 1) s t b) (sym r) (mark-other i d x M e q)
 
 -- ---- masks
 in-more : (l : List Stem) (t s : Stem) → isIn (l ++ (t ∷ [])) s ≡ (isIn l s || sameStem t s)
@@ -84,17 +84,6 @@ unfolding maskOf
 mask-at g [] k d h = absurd (let z : ⊥ = omega arith in z)
 mask-at g (s ∷ l) zero d h = refl
 mask-at g (s ∷ l) (suc k) d h = mask-at g l k d (omega arith)
-
-table-at : (h : Bool) (t : List Float) (n k : ℕ) (d : Stem) → k < n → getD (tableStems h n t) k d ≡ tableStem h k t
-unfolding tableStems
-table-at h t zero k d l = absurd (let z : ⊥ = omega arith in z)
-table-at h t (suc n) k d l = split (eqb k n) refl (λ m. table-at h t n k d m)
-  where
-    split : (b : Bool) → eqb k n ≡ b → (k < n → getD (tableStems h n t) k d ≡ tableStem h k t) → getD (tableStems h n t ++ (tableStem h n t ∷ [])) k d ≡ tableStem h k t
-    split true q r = ap (λ (j : ℕ). getD (tableStems h n t ++ (tableStem h n t ∷ [])) j d) (eqb-true k n q ∙ sym (table-length h t n)) ∙ getD-append-seam (tableStems h n t) (tableStem h n t) [] d ∙ ap (λ (j : ℕ). tableStem h j t) (sym (eqb-true k n q))
-    split false q r =
-        let m : k < n = lt-of-le-ne (let z : k ≤ n = omega arith in z) (eqb-false k n q) in
-        List·getD-append (tableStems h n t) (tableStem h n t ∷ []) d k (subst (λ (j : ℕ). k < j) (sym (table-length h t n)) m) ∙ r m
 
 -- every bit is set where its stem is the same
 mark-all : (g l : List Stem) (s : Stem) (b d : List Bool) (n : ℕ) → length l ≡ n → length d ≡ length b → ((k : ℕ) → k < n → getD d k false ≡ (getD b k false || sameStem s (getD l k s))) → take n b ≡ maskOf g l → take n d ≡ maskOf (g ++ (s ∷ [])) l
@@ -128,33 +117,33 @@ module _ (na nu : ℕ) (a u : List Float) where
   mask-room g b e = let z = sym (length-take (na + nu) b) ∙ ap length e ∙ mask-length g both ∙ both-length in omega arith
 
   module _ (b d : List Bool) (g : List Stem) (e : take (na + nu) b ≡ maskOf g both) where
-    split-across : (s : Stem) → s .horizontal ≡ true → Marked 0 na (s .pos) (s .width) a b d → (k : ℕ) → k < na + nu → (x : Bool) → ltb k na ≡ x → getD d k false ≡ (getD b k false || sameStem s (getD both k s))
+    split-across : (s : Stem) → s .horizontal ≡ true → Marked 0 na s a b d → (k : ℕ) → k < na + nu → (x : Bool) → ltb k na ≡ x → getD d k false ≡ (getD b k false || sameStem s (getD both k s))
     split-across s h M k l true r =
         let m = ltb-true k na r in
-        ap (λ (j : ℕ). getD d j false) (sym (zero-add k)) ∙ M .inside k m ∙ ap₂ (λ (j : ℕ) (y : Bool). getD b j false || (Bool·beq y true && sameEdges (s .pos) (s .width) (getD a (2 * k) nan) (getD a (2 * k + 1) nan))) (zero-add k) (sym h) ∙ ap (λ (x : Stem). getD b k false || sameStem s x) (sym (both-front k s m))
+        ap (λ (j : ℕ). getD d j false) (sym (zero-add k)) ∙ M .inside k m ∙ ap₂ (λ (j : ℕ) (y : Bool). getD b j false || sameStem s (tableStem y k a)) (zero-add k) h ∙ ap (λ (x : Stem). getD b k false || sameStem s x) (sym (both-front k s m))
     split-across s h M k l false r =
         let m = ltb-false k na r in
         M .outside k (λ i j y. let z : ⊥ = omega arith in z)
-        ∙ sym (ap (λ (x : Stem). getD b k false || sameStem s x) (both-back k s m l) ∙ ap (λ (y : Bool). getD b k false || (Bool·beq y false && sameEdges (s .pos) (s .width) (getD u (2 * (k - na)) nan) (getD u (2 * (k - na) + 1) nan))) h ∙ or-false (getD b k false))
+        ∙ sym (ap (λ (x : Stem). getD b k false || sameStem s x) (both-back k s m l) ∙ ap (λ (y : Bool). getD b k false || sameStem (stemOf y (s .pos) (s .width)) (tableStem false (k - na) u)) h ∙ or-false (getD b k false))
 
-    split-upright : (s : Stem) → s .horizontal ≡ false → Marked na nu (s .pos) (s .width) u b d → (k : ℕ) → k < na + nu → (x : Bool) → ltb k na ≡ x → getD d k false ≡ (getD b k false || sameStem s (getD both k s))
+    split-upright : (s : Stem) → s .horizontal ≡ false → Marked na nu s u b d → (k : ℕ) → k < na + nu → (x : Bool) → ltb k na ≡ x → getD d k false ≡ (getD b k false || sameStem s (getD both k s))
     split-upright s h M k l true r =
         let m = ltb-true k na r in
         M .outside k (λ i j y. let z : ⊥ = omega arith in z)
-        ∙ sym (ap (λ (x : Stem). getD b k false || sameStem s x) (both-front k s m) ∙ ap (λ (y : Bool). getD b k false || (Bool·beq y true && sameEdges (s .pos) (s .width) (getD a (2 * k) nan) (getD a (2 * k + 1) nan))) h ∙ or-false (getD b k false))
+        ∙ sym (ap (λ (x : Stem). getD b k false || sameStem s x) (both-front k s m) ∙ ap (λ (y : Bool). getD b k false || sameStem (stemOf y (s .pos) (s .width)) (tableStem true k a)) h ∙ or-false (getD b k false))
     split-upright s h M k l false r =
         let m = ltb-false k na r in
         let i : na + (k - na) ≡ k = omega arith in
-        ap (λ (j : ℕ). getD d j false) (sym i) ∙ M .inside (k - na) (omega arith) ∙ ap₂ (λ (j : ℕ) (y : Bool). getD b j false || (Bool·beq y false && sameEdges (s .pos) (s .width) (getD u (2 * (k - na)) nan) (getD u (2 * (k - na) + 1) nan))) i (sym h) ∙ ap (λ (x : Stem). getD b k false || sameStem s x) (sym (both-back k s m l))
+        ap (λ (j : ℕ). getD d j false) (sym i) ∙ M .inside (k - na) (omega arith) ∙ ap₂ (λ (j : ℕ) (y : Bool). getD b j false || sameStem s (tableStem y (k - na) u)) i h ∙ ap (λ (x : Stem). getD b k false || sameStem s x) (sym (both-back k s m l))
 
     module _ (l : List Stem) (s : Stem) (q : l ≡ s ∷ []) where
-      pub mark-across : s .horizontal ≡ true → (0 + na ≤ length b → Marked 0 na (s .pos) (s .width) a b d) → take (na + nu) d ≡ maskOf (g ++ l) both
+      pub mark-across : s .horizontal ≡ true → (0 + na ≤ length b → Marked 0 na s a b d) → take (na + nu) d ≡ maskOf (g ++ l) both
       mark-across h f =
           let room = mask-room g b e in
           let M = f (omega arith) in
           mark-all g both s b d (na + nu) both-length (M .same) (λ k i. split-across s h M k i (ltb k na) refl) e ∙ ap (λ (x : List Stem). maskOf (g ++ x) both) (sym q)
 
-      pub mark-upright : s .horizontal ≡ false → (na + nu ≤ length b → Marked na nu (s .pos) (s .width) u b d) → take (na + nu) d ≡ maskOf (g ++ l) both
+      pub mark-upright : s .horizontal ≡ false → (na + nu ≤ length b → Marked na nu s u b d) → take (na + nu) d ≡ maskOf (g ++ l) both
       mark-upright h f =
           let M = f (mask-room g b e) in
           mark-all g both s b d (na + nu) both-length (M .same) (λ k i. split-upright s h M k i (ltb k na) refl) e ∙ ap (λ (x : List Stem). maskOf (g ++ x) both) (sym q)

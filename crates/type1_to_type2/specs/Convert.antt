@@ -1,7 +1,7 @@
 -- Definitions: converting, from the charstring to the program. Document 01, "A glyph's way to the renderer", "Numbers the board logs": 1, 2, the run's steps, folding, writing.
 use Prim.Native.Nat.{ℕ, _-_}
-use mathlib.Core.Bool.{Bool, true, false, _&&_}
-use mathlib.Core.List.{List, [], _∷_, _++_}
+use mathlib.Core.Bool.{Bool, _&&_}
+use mathlib.Core.List.{List, _++_}
 use lib.ListN.{length, replicate}
 use lib.Ieee.{Float}
 use lib.Ieee.Scale.{finite}

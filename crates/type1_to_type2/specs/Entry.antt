@@ -39,9 +39,16 @@ groupCount (suc n) c = groupCount n c + pick (eqb (word c n 0) 5) 1 0
 abbrev pub noneOf : ℕ → Collected
 noneOf groups = record { finite = true; across = 0; upright = 0; groups = groups }
 
--- the stems that two tables hold, as they are declared
+-- the stems that two tables hold, so many of each, as they are declared
+abbrev pub declaredBy : Bool → ℕ → ℕ → List Float → List Float → Declared
+declaredBy masked na nu ta tu = record { across = tableStems true na ta; upright = tableStems false nu tu; masked = masked }
+
 abbrev pub tables : Plan → List Float → List Float → Declared
-tables p ta tu = record { across = tableStems true (p .across) ta; upright = tableStems false (p .upright) tu; masked = p .masked }
+tables p ta tu = declaredBy (p .masked) (p .across) (p .upright) ta tu
+
+-- they are written from the start of an output of so many bytes
+abbrev pub Declares : Bool → ℕ → ℕ → List Float → List Float → ℕ → Writer → List ℕ → Type 0
+Declares masked na nu ta tu room w out = (cs : List Cmd) → resumedAll masked (both na nu ta tu) w out cs ≡ write (program (declaredBy masked na nu ta tu) cs) room
 
 -- what is to be written: the number, 14 where the folded width or a folded stem is not finite, and the stems that are declared
 pub record Planned (number : ℕ) (c : Collected) (m : Matrix) (width : Float) (p : Plan) : Type 0 where

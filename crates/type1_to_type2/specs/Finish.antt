@@ -1,6 +1,6 @@
 -- Definitions: finishing. Document 01, "Finishing": "No width if the rounded width equals the default (NaN equals none), else rounded width less nominal first."
 use Prim.Native.Nat.{ℕ}
-use mathlib.Core.Bool.{Bool, cond}
+use mathlib.Core.Bool.{cond}
 use mathlib.Core.List.{List, [], _∷_}
 use mathlib.Core.Option.{Option, none, some}
 use lib.IntN.{ℤ}

@@ -2,24 +2,21 @@
 use Prim.Native.Nat.{ℕ, zero, suc, _+_, _*_, _≤_, _<_}
 use mathlib.Core.Path.{_≡_}
 use mathlib.Core.Bool.{Bool, true, false}
-use mathlib.Core.List.{List, [], _∷_, _++_}
-use lib.Dec.{eqb}
+use mathlib.Core.List.{List, [], _++_}
 use lib.ListN.{length, take, drop}
 use lib.Ieee.{Float}
 use Rattle.folding.specs.declared.Fold.{Fold}
 use Rattle.outline.specs.declared.Stem.{Stem}
-use Rattle.outline.specs.Outline.{pick}
 use Rattle.outline.specs.Store.{word, commandIn}
 use Rattle.type1.specs.Sound.{All, OfCommand}
 use Rattle.type1.specs.Memory.{Good}
 use Rattle.type1_to_type2.specs.declared.Collected.{Collected}
-use Rattle.type1_to_type2.specs.declared.Writer.{Writer}
 use Rattle.folding.specs.Folding.{foldedStems}
 use Rattle.type1_to_type2.specs.Stems.{maskOf}
 use Rattle.type1_to_type2.specs.Emission.{Cmd}
 use Rattle.type1_to_type2.specs.Table.{tableStems}
 use Rattle.type1_to_type2.specs.Collecting.{Collects, Counted, firstOf, countOf}
-use Rattle.type1_to_type2.specs.Streaming.{resumedAll, cmdsIn}
+use Rattle.type1_to_type2.specs.Streaming.{cmdsIn}
 
 -- so many records, from one on
 abbrev pub records : ℕ → ℕ → List Stem → List Stem

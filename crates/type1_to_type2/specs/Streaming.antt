@@ -158,10 +158,10 @@ pub record Begins (op : ℕ) (s : StemWriter) (before : List ℕ) (r : StemWrite
   pub few : s .left ≤ 23 → r .left ≤ 23
   pub same : length after ≡ length before
 
--- a stem of op, of either direction
-pub record Stemmed (op : ℕ) (pos width : Float) (s : StemWriter) (before : List ℕ) (r : StemWriter) (after : List ℕ) : Type 0 where
-  pub then : (h : Bool) (ss : List Stem) (f : ℕ → Written) →
-      resumed (r .w .number) (r .w .next) after (λ room. stemsWritten op ss (r .left) (r .from) room f) ≡ resumed (s .w .number) (s .w .next) before (λ room. stemsWritten op (record { horizontal = h; pos = pos; width = width } ∷ ss) (s .left) (s .from) room f)
+-- a stem x of op
+pub record Stemmed (op : ℕ) (x : Stem) (s : StemWriter) (before : List ℕ) (r : StemWriter) (after : List ℕ) : Type 0 where
+  pub then : (ss : List Stem) (f : ℕ → Written) →
+      resumed (r .w .number) (r .w .next) after (λ room. stemsWritten op ss (r .left) (r .from) room f) ≡ resumed (s .w .number) (s .w .next) before (λ room. stemsWritten op (x ∷ ss) (s .left) (s .from) room f)
   pub still : Still (s .w) (r .w)
   pub few : r .left ≤ 23
   pub same : length after ≡ length before

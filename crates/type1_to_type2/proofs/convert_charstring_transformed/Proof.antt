@@ -1,7 +1,7 @@
 -- `type1_to_type2::convert_charstring_transformed` meets its contract: a walk of its MIR, by hand. What the run left is converted by `convert_stored`; both stores are wiped.
 -- Assumes nothing.
 use mathlib.Core.Path.{_≡_, refl, _∙_, ap, subst}
-use Prim.Native.Nat.{ℕ, _<_, _^_}
+use Prim.Native.Nat.{ℕ}
 use mathlib.Core.List.{[], _∷_, List}
 use lib.ListN.{length, replicate}
 use lib.Dec.{T as So}
@@ -24,8 +24,8 @@ use sound.WpLaws.{FmC, fmOf, WpFn-mono}
 use denote.RattleType.{owns}
 use denote.Memory.{pointee}
 use denote.Laws.{Is, shows}
-use denote.Plain.{Nothing, uint-makes, uint-lawful, uint-vals, uint-tells, nothing-lawful}
-use denote.Builtin.{u8, u64, usize}
+use denote.Plain.{Nothing, uint-lawful, nothing-lawful}
+use denote.Builtin.{u8, u64}
 use denote.Ref.{RefT}
 use denote.Slice.{sliceVal, MutSlice, ShrSlice, Room, finally, slice-vals, mut-slice-tells, shr-slice-tells, shr-slice-copy}
 use denote.Signature.{plain}
@@ -66,24 +66,24 @@ use Rattle.type1_to_type2.specs.Entry.{firstNumber, fromRun, Answers, Co
 use Rattle.type1.proofs.run_charstring.Symbol as run-charstring-def
 use Rattle.type1.proofs.run_charstring.Symbol.{name as #type1·run-charstring}
 use Rattle.type1.proofs.run_charstring.Met as run-charstring-thm
-use Rattle.type1_to_type2.proofs.first_number.Symbol as first-number-def
-use Rattle.type1_to_type2.proofs.first_number.Symbol.{name as #type1-to-type2·first-number}
-use Rattle.type1_to_type2.proofs.first_number.Met as first-number-thm
-use Rattle.type1_to_type2.proofs.convert_stored.Symbol as convert-stored-def
-use Rattle.type1_to_type2.proofs.convert_stored.Symbol.{name as #type1-to-type2·convert-stored}
-use Rattle.type1_to_type2.proofs.convert_stored.Met as convert-stored-thm
+use Rattle.type1_to_type2.proofs.entry.first_number.Symbol as first-number-def
+use Rattle.type1_to_type2.proofs.entry.first_number.Symbol.{name as #type1-to-type2·first-number}
+use Rattle.type1_to_type2.proofs.entry.first_number.Met as first-number-thm
+use Rattle.type1_to_type2.proofs.entry.convert_stored.Symbol as convert-stored-def
+use Rattle.type1_to_type2.proofs.entry.convert_stored.Symbol.{name as #type1-to-type2·convert-stored}
+use Rattle.type1_to_type2.proofs.entry.convert_stored.Met as convert-stored-thm
 use Rattle.type1.proofs.wipe.Symbol as wipe-def
 use Rattle.type1.proofs.wipe.Symbol.{name as #type1·wipe}
 use Rattle.type1.proofs.wipe.Met as wipe-thm
-use Rattle.type1_to_type2.proofs.wipe_words.Symbol as wipe-words-def
-use Rattle.type1_to_type2.proofs.wipe_words.Symbol.{name as #type1-to-type2·wipe-words}
-use Rattle.type1_to_type2.proofs.wipe_words.Met as wipe-words-thm
+use Rattle.type1_to_type2.proofs.entry.wipe_words.Symbol as wipe-words-def
+use Rattle.type1_to_type2.proofs.entry.wipe_words.Symbol.{name as #type1-to-type2·wipe-words}
+use Rattle.type1_to_type2.proofs.entry.wipe_words.Met as wipe-words-thm
 use Rattle.type1_to_type2.proofs.convert_charstring_transformed.Key.{name as #type1-to-type2·convert-charstring-transformed}
 use Rattle.type1_to_type2.proofs.convert_charstring_transformed as f
 use Rattle.type1_to_type2.proofs.convert_charstring_transformed.Statement as stated
 use Rattle.type1_to_type2.proofs.convert_charstring_transformed.Code as code
 use Rattle.type1_to_type2.proofs.convert_charstring_transformed.Code.Mir as text
-use Rattle.type1_to_type2.proofs.EntryCallees.{RunCharstringC, FirstNumberC, ConvertStoredC, WipeC, WipeWordsC, run-charstring-as, first-number-as, convert-stored-as, wipe-as, wipe-words-as}
+use Rattle.type1_to_type2.proofs.entry.Callees.{RunCharstringC, FirstNumberC, ConvertStoredC, WipeC, WipeWordsC, run-charstring-as, first-number-as, convert-stored-as, wipe-as, wipe-words-as}
 use Rattle.type1_to_type2.proofs.RunLaws.{left-stored, entry-answers}
 
 abbrev tYt : Ty
@@ -223,7 +223,7 @@ convert-charstring-transformed-spec 𝓤 H 𝓜 𝓖 𝓡 =
     (tables 𝓤 H 𝓜 𝓡 code.env .C) (tables 𝓤 H 𝓜 𝓡 code.env .Λ) #type1-to-type2·convert-charstring-transformed code.function (code.unfolded 𝓤 H 𝓜 𝓡)
     (meets 𝓤 H (𝓖 .A) (givenOf 𝓤 H 𝓜 𝓖) (𝓜 .mem) (𝓡 .run) (tablesOf 𝓤 H 𝓜 (tables 𝓤 H 𝓜 𝓡 code.env))
     (cited 𝓤 H (RunCharstringC 𝓤 H (𝓖 .A) (𝓜 .mem) (𝓡 .run)) 𝓜 𝓡 code.env #type1·run-charstring run-charstring-def.routine code.calls-type1·run-charstring (run-charstring-thm.met 𝓤 H 𝓜 𝓖 𝓡))
-    (cited 𝓤 H (FirstNumberC 𝓤 H (𝓖 .A) (𝓜 .mem) (𝓡 .run)) 𝓜 𝓡 code.env #type1-to-type2·first-number first-number-def.routine code.calls-type1-to-type2·first-number (first-number-thm.met 𝓤 H 𝓜 𝓖 𝓡))
-    (cited 𝓤 H (ConvertStoredC 𝓤 H (𝓖 .A) (𝓜 .mem) (𝓡 .run)) 𝓜 𝓡 code.env #type1-to-type2·convert-stored convert-stored-def.routine code.calls-type1-to-type2·convert-stored (convert-stored-thm.met 𝓤 H 𝓜 𝓖 𝓡))
+    (cited 𝓤 H (FirstNumberC 𝓤 H (𝓖 .A) (𝓜 .mem) (𝓡 .run)) 𝓜 𝓡 code.env #type1-to-type2·first-number first-number-def.routine code.calls-type1-to-type2·entry·first-number (first-number-thm.met 𝓤 H 𝓜 𝓖 𝓡))
+    (cited 𝓤 H (ConvertStoredC 𝓤 H (𝓖 .A) (𝓜 .mem) (𝓡 .run)) 𝓜 𝓡 code.env #type1-to-type2·convert-stored convert-stored-def.routine code.calls-type1-to-type2·entry·convert-stored (convert-stored-thm.met 𝓤 H 𝓜 𝓖 𝓡))
     (cited 𝓤 H (WipeC 𝓤 H (𝓖 .A) (𝓜 .mem) (𝓡 .run)) 𝓜 𝓡 code.env #type1·wipe wipe-def.routine code.calls-type1·wipe (wipe-thm.met 𝓤 H 𝓜 𝓖 𝓡))
-    (cited 𝓤 H (WipeWordsC 𝓤 H (𝓖 .A) (𝓜 .mem) (𝓡 .run)) 𝓜 𝓡 code.env #type1-to-type2·wipe-words wipe-words-def.routine code.calls-type1-to-type2·wipe-words (wipe-words-thm.met 𝓤 H 𝓜 𝓖 𝓡)))
+    (cited 𝓤 H (WipeWordsC 𝓤 H (𝓖 .A) (𝓜 .mem) (𝓡 .run)) 𝓜 𝓡 code.env #type1-to-type2·wipe-words wipe-words-def.routine code.calls-type1-to-type2·entry·wipe-words (wipe-words-thm.met 𝓤 H 𝓜 𝓖 𝓡)))

@@ -2,7 +2,7 @@
 use mathlib.Core.Path.{sym, subst}
 use borrow.Author.Needs.{needs}
 use Rattle.type1_to_type2.specs.FinishAnswer.{Front}
-use Rattle.type1_to_type2.proofs.Finishing.{front-of}
+use Rattle.type1_to_type2.proofs.FinishingLaws.{front-of}
 use Rattle.type1_to_type2.proofs.finished_program.Statement.{statement}
 use Rattle.type1_to_type2.proofs.finished_program.Tie as tie
 

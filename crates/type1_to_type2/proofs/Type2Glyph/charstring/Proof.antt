@@ -3,7 +3,7 @@ use native.Mathlib.Omega.{arith}
 use lib.ListN.{length, take}
 use borrow.Author.Needs.{needs}
 use Rattle.type2.specs.Number.{gave}
-use Rattle.type1_to_type2.proofs.Finishing.{Finishes, after-width, refused-so, front-short, no-room, charstring-written}
+use Rattle.type1_to_type2.proofs.FinishingLaws.{Finishes, after-width, refused-so, front-short, no-room, charstring-written}
 use Rattle.type1_to_type2.proofs.Type2Glyph.charstring.Statement.{statement}
 use Rattle.type1_to_type2.proofs.Type2Glyph.charstring.Tie as tie
 

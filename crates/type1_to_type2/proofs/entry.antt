@@ -1,0 +1,2 @@
+-- What the proofs of module `entry` share.
+pub mod Callees

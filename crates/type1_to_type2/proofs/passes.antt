@@ -1,0 +1,2 @@
+-- What the proofs of module `passes` share.
+pub mod Callees
