@@ -27,3 +27,4 @@ pub mod Stacks
 pub mod Steps
 pub mod Store
 pub mod Stored
+pub mod StemCallee

@@ -7,7 +7,7 @@ use lib.ListN.{length, take, drop}
 use lib.Ieee.{Float}
 use Rattle.folding.specs.declared.Fold.{Fold}
 use Rattle.outline.specs.declared.Stem.{Stem}
-use Rattle.outline.specs.Store.{word, commandIn}
+use Rattle.outline.specs.Store.{entryWords, word, commandIn}
 use Rattle.type1.specs.Sound.{All, OfCommand}
 use Rattle.type1.specs.Memory.{Good}
 use Rattle.type1_to_type2.specs.declared.Collected.{Collected}
@@ -49,6 +49,6 @@ cmdsFrom fold c z e (suc n) = cmdsIn fold c e (groupAt fold c z e) ++ cmdsFrom f
 
 -- the stores hold so many entries: each group's records are there, and every coordinate is a finite double
 pub record Stored (entries : ℕ) (c : List ℕ) (z : List Stem) : Type 0 where
-  pub words : 14 * entries ≤ length c
+  pub words : entryWords * entries ≤ length c
   pub groups : (e : ℕ) → e < entries → word c e 0 ≡ 5 → word c e 1 + word c e 2 ≤ length z
   pub finite : (e : ℕ) → e < entries → All (OfCommand Good) (commandIn c e)

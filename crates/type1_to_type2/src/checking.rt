@@ -6,7 +6,7 @@ ghost use lib.Dec.{eqb};
 ghost use lib.ListN.{length, getD};
 ghost use lib.Ieee.{binary64, ofBits};
 ghost use Rattle.outline.specs.Outline.{pick};
-ghost use Rattle.outline.specs.Store.{word, commandIn, drawnIn};
+ghost use Rattle.outline.specs.Store.{entryWords, word, commandIn, drawnIn};
 ghost use Rattle.type1.specs.Memory.{Good};
 ghost use Rattle.type1.specs.Sound.{All, OfCommand};
 ghost use Rattle.folding.specs.Folding.{foldedPoint, foldedList, finiteList, finitePoint};
@@ -29,7 +29,7 @@ pub(crate) fn and(a: bool, b: bool) -> bool
 
 // Where the records of the group that entry e starts begin; 0 where it starts none.
 pub(crate) fn first_of(commands: &[u64], e: usize) -> usize
-    requires { ⌜ 14 * e + 14 ≤ length (now commands) ⌝ }
+    requires { ⌜ entryWords * e + entryWords ≤ length (now commands) ⌝ }
     ensures { λ r. ⌜ r ≡ firstOf (now (commands .entry)) e ⌝ }
 {
     let at = ENTRY * e;
@@ -41,7 +41,7 @@ pub(crate) fn first_of(commands: &[u64], e: usize) -> usize
 
 // How many records it has.
 pub(crate) fn count_of(commands: &[u64], e: usize) -> usize
-    requires { ⌜ 14 * e + 14 ≤ length (now commands) ⌝ }
+    requires { ⌜ entryWords * e + entryWords ≤ length (now commands) ⌝ }
     ensures { λ r. ⌜ r ≡ countOf (now (commands .entry)) e ⌝ }
 {
     let at = ENTRY * e;
@@ -53,7 +53,7 @@ pub(crate) fn count_of(commands: &[u64], e: usize) -> usize
 
 // 1 where entry e starts a group, else 0.
 fn starts_group(commands: &[u64], e: usize) -> usize
-    requires { ⌜ 14 * e + 14 ≤ length (now commands) ⌝ }
+    requires { ⌜ entryWords * e + entryWords ≤ length (now commands) ⌝ }
     ensures { λ r. ⌜ (r ≡ pick (eqb (word (now (commands .entry)) e 0) 5) 1 0) × (r ≤ 1) ⌝ }
 {
     if commands[ENTRY * e] == GROUP { 1 } else { 0 }
@@ -61,7 +61,7 @@ fn starts_group(commands: &[u64], e: usize) -> usize
 
 // How many entries start a group.
 pub(crate) fn count_groups(commands: &[u64], entries: usize) -> usize
-    requires { ⌜ 14 * entries ≤ length (now commands) ⌝ }
+    requires { ⌜ entryWords * entries ≤ length (now commands) ⌝ }
     ensures { λ r. ⌜ r ≡ groupCount entries (now (commands .entry)) ⌝ }
 {
     let mut groups = 0;
@@ -92,7 +92,7 @@ fn check_point(commands: &[u64], at: usize, fold: Fold) -> bool
 
 // Whether every folded coordinate of entry e is finite.
 fn check_points(commands: &[u64], e: usize, fold: Fold) -> bool
-    requires { ⌜ 14 * e + 14 ≤ length (now commands) ⌝ }
+    requires { ⌜ entryWords * e + entryWords ≤ length (now commands) ⌝ }
     requires { ⌜ All (OfCommand Good) (commandIn (now commands) e) ⌝ }
     ensures { λ r. ⌜ r ≡ finiteList (foldedList fold (commandIn (now (commands .entry)) e)) ⌝ }
 {
@@ -136,7 +136,7 @@ fn check_points(commands: &[u64], e: usize, fold: Fold) -> bool
 
 // The same, at once under the identity: every coordinate in the store is finite.
 fn check_entry(commands: &[u64], e: usize, fold: Fold) -> bool
-    requires { ⌜ 14 * e + 14 ≤ length (now commands) ⌝ }
+    requires { ⌜ entryWords * e + entryWords ≤ length (now commands) ⌝ }
     requires { ⌜ All (OfCommand Good) (commandIn (now commands) e) ⌝ }
     ensures { λ r. ⌜ r ≡ finiteList (foldedList fold (commandIn (now (commands .entry)) e)) ⌝ }
 {
@@ -148,7 +148,7 @@ fn check_entry(commands: &[u64], e: usize, fold: Fold) -> bool
 
 // Whether the folded points of all entries are finite.
 pub(crate) fn finite_points(commands: &[u64], entries: usize, fold: Fold) -> bool
-    requires { ⌜ (14 * entries ≤ length (now commands)) × ((e : ℕ) → e < entries → All (OfCommand Good) (commandIn (now commands) e)) ⌝ }
+    requires { ⌜ (entryWords * entries ≤ length (now commands)) × ((e : ℕ) → e < entries → All (OfCommand Good) (commandIn (now commands) e)) ⌝ }
     ensures { λ r. ⌜ r ≡ finiteList (foldedList fold (drawnIn entries (now (commands .entry)))) ⌝ }
 {
     let mut finite = true;

@@ -2,7 +2,7 @@
 ghost use mathlib.Core.Path.{_≡_};
 ghost use Prim.Native.Nat.{_+_, _*_, _≤_, _<_};
 ghost use lib.ListN.{length};
-ghost use Rattle.outline.specs.Store.{coordinate, pointIn, commandIn};
+ghost use Rattle.outline.specs.Store.{entryWords, coordinate, pointIn, commandIn};
 ghost use Rattle.type1.specs.Memory.{Good};
 ghost use Rattle.type1.specs.Sound.{All, OfPoint, OfCommand};
 ghost use Rattle.folding.specs.Folding.{foldedPoint};
@@ -29,7 +29,7 @@ use outline::MOVE;
 
 // The point at word i of entry e.
 fn read_point(commands: &[u64], e: usize, i: usize, fold: Fold) -> geometry::Point
-    requires { ⌜ (14 * e + 14 ≤ length (now commands)) × (i < 13) ⌝ }
+    requires { ⌜ (entryWords * e + entryWords ≤ length (now commands)) × (i < 13) ⌝ }
     requires { ⌜ OfPoint Good (pointIn (now commands) e i) ⌝ }
     ensures { λ r. ⌜ r ≡ foldedPoint fold (pointIn (now (commands .entry)) e i) ⌝ }
 {
@@ -81,7 +81,7 @@ fn draw_points(
     w: Writer,
     out: &mut [u8],
 ) -> Writer
-    requires { ⌜ (14 * e + 14 ≤ length (now commands)) × (n ≤ 6) ⌝ }
+    requires { ⌜ (entryWords * e + entryWords ≤ length (now commands)) × (n ≤ 6) ⌝ }
     requires { ⌜ All (OfPoint Good) (pointsIn (now commands) e 1 n) ⌝ }
     ensures { λ r. ⌜ Goes (foldedPoints fold (pointsIn (now (commands .entry)) e 1 n)) w (now (out .entry)) r (now (out .exit)) ⌝ }
 {
@@ -97,7 +97,7 @@ fn draw_points(
 
 // After an entry's points: a flex has its height and its operator.
 fn end_entry(commands: &[u64], e: usize, kind: u64, w: Writer, out: &mut [u8]) -> Writer
-    requires { ⌜ 14 * e + 14 ≤ length (now commands) ⌝ }
+    requires { ⌜ entryWords * e + entryWords ≤ length (now commands) ⌝ }
     requires { ⌜ (kind ≡ 4 → Good (coordinate (now commands) e 13)) ⌝ }
     ensures { λ r. ⌜ EntryEnds kind (coordinate (now (commands .entry)) e 13) w (now (out .entry)) r (now (out .exit)) ⌝ }
 {
@@ -121,7 +121,7 @@ pub(crate) fn write_entry(
     w: Writer,
     out: &mut [u8],
 ) -> Writer
-    requires { ⌜ (14 * e + 14 ≤ length (now commands)) × (((n ≤ 96) × (n ≤ length (now mask))) × All (OfCommand Good) (commandIn (now commands) e)) ⌝ }
+    requires { ⌜ (entryWords * e + entryWords ≤ length (now commands)) × (((n ≤ 96) × (n ≤ length (now mask))) × All (OfCommand Good) (commandIn (now commands) e)) ⌝ }
     ensures { λ r. ⌜ Writes masked fold (now (commands .entry)) e n (now (mask .entry)) w (now (out .entry)) r (now (out .exit)) ⌝ }
 {
     let kind = commands[ENTRY * e];

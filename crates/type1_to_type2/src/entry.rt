@@ -7,7 +7,7 @@ ghost use lib.Dec.{eqb};
 ghost use lib.ListN.{length, replicate};
 ghost use lib.Ieee.Scale.{finite};
 ghost use Rattle.outline.specs.Outline.{pick};
-ghost use Rattle.outline.specs.Store.{commandIn, drawnIn};
+ghost use Rattle.outline.specs.Store.{entryWords, commandIn, drawnIn};
 ghost use Rattle.type1.specs.Memory.{Good};
 ghost use Rattle.type1.specs.Sound.{All, OfCommand};
 ghost use Rattle.folding.specs.Folding.{foldedList, finiteList};
@@ -92,7 +92,7 @@ fn end_program(
     fold: Fold,
     out: &mut [u8],
 ) -> Type2Glyph
-    requires { ⌜ (14 * r .entries ≤ length (now commands)) × ((e : ℕ) → e < r .entries → All (OfCommand Good) (commandIn (now commands) e)) ⌝ }
+    requires { ⌜ (entryWords * r .entries ≤ length (now commands)) × ((e : ℕ) → e < r .entries → All (OfCommand Good) (commandIn (now commands) e)) ⌝ }
     ensures { λ g. ⌜ Answers (settles (p .number) (finiteList (foldedList fold (drawnIn (r .entries) (now (commands .entry)))))
         (writes (glyphOf (p .width) (r .ran)) (resumedAll false [] w (now (out .entry)) []))) (length (now (out .entry))) g (now (out .exit)) ⌝ }
 {

@@ -69,7 +69,8 @@ use Rattle.type1.proofs.stems.all_same as f
 use Rattle.type1.proofs.stems.all_same.Statement as stated
 use Rattle.type1.proofs.stems.all_same.Code as code
 use Rattle.type1.proofs.stems.all_same.Code.Mir as text
-use Rattle.type1.proofs.stems.Callees.{SumC, StemFromC, DiffersAtC, sum-as, stem-from-as, differs-at-as}
+use Rattle.type1.proofs.stems.Callees.{SumC, DiffersAtC, sum-as, differs-at-as}
+use Rattle.type1.proofs.StemCallee.{StemFromC, stem-from-as}
 use Rattle.type1.proofs.Stored.{next-fits, grows, sum-fits}
 use Rattle.type1.proofs.Hints.{same-begun, same-turn, same-stop, same-end}
 
