@@ -11,6 +11,7 @@ pub mod Points
 pub mod Entries
 pub mod Packing
 pub mod StemTables
+pub mod CountedLoop
 pub mod PassLaws
 pub mod LentShared
 pub mod EntryLaws

@@ -1,13 +1,24 @@
 -- The MIR types of locals and the machine values of records, as the walks name them. Assumes nothing.
 use mir.Syntax.{Ty, Lifetime, mut, imm, w8, w64, tyInt, tyArray, tyBool, tyRef}
 use mir.Val.{Val}
+use mathlib.Core.Path.{subst}
+use mathlib.Core.List.{List, [], _∷_}
+use denote.RattleType.{RattleType}
+use denote.Laws.{Is, Tells}
 use denote.Struct.Laws as LL
 use Rattle.geometry.specs.declared.Matrix.{Matrix}
+use Rattle.outline.specs.declared.Stem.{Stem}
+use Rattle.type1.specs.declared.Interpreted.{Interpreted}
 use Rattle.folding.specs.declared.Fold.{Fold}
 use Rattle.type1_to_type2.specs.declared.Collected.{Collected}
 use Rattle.type1_to_type2.specs.declared.Writer.{Writer}
 use Rattle.type1_to_type2.specs.declared.Type2Glyph.{Type2Glyph}
 use Rattle.type1_to_type2.specs.declared.Plan.{Plan}
+use Rattle.outline.proofs.Stem as T
+use Rattle.outline.proofs.Stem.Laws as T′
+use Rattle.type1.proofs.Interpreted as I
+use Rattle.type1.proofs.Interpreted.Laws as I′
+use Rattle.type1.proofs.Locals.{machT, machI}
 use Rattle.geometry.proofs.Matrix as Z
 use Rattle.geometry.proofs.Matrix.Laws as Z′
 use Rattle.folding.proofs.Fold as F
@@ -50,3 +61,31 @@ machG h = LL.tuple-val G.the-type G′.the-laws (G.the-type .to h)
 
 abbrev pub machQ : Plan → Val
 machQ h = LL.tuple-val Q.the-type Q′.the-laws (Q.the-type .to h)
+
+-- a record's machine value is the one that its row tells
+mine : (R : RattleType) (vals : R .Denot → List Val) → Tells R (Is R) vals → (h : R .Denot) (vs : List Val) → Is R h vs → Is R h (vals h)
+mine R vals t h vs i = subst (Is R h) (t h vs i) i
+
+pub mineT : (h : Stem) (u : Val) → Is T.the-row h (u ∷ []) → Is T.the-row h (machT h ∷ [])
+mineT h u i = mine T.the-row (λ y. machT y ∷ []) (LL.tells T.the-type T′.the-laws) h (u ∷ []) i
+
+pub mineZ : (h : Matrix) (u : Val) → Is Z.the-row h (u ∷ []) → Is Z.the-row h (machZ h ∷ [])
+mineZ h u i = mine Z.the-row (λ y. machZ y ∷ []) (LL.tells Z.the-type Z′.the-laws) h (u ∷ []) i
+
+pub mineF : (h : Fold) (u : Val) → Is F.the-row h (u ∷ []) → Is F.the-row h (machF h ∷ [])
+mineF h u i = mine F.the-row (λ y. machF y ∷ []) (LL.tells F.the-type F′.the-laws) h (u ∷ []) i
+
+pub mineK : (h : Collected) (u : Val) → Is K.the-row h (u ∷ []) → Is K.the-row h (machK h ∷ [])
+mineK h u i = mine K.the-row (λ y. machK y ∷ []) (LL.tells K.the-type K′.the-laws) h (u ∷ []) i
+
+pub mineR : (h : Writer) (u : Val) → Is R.the-row h (u ∷ []) → Is R.the-row h (machR h ∷ [])
+mineR h u i = mine R.the-row (λ y. machR y ∷ []) (LL.tells R.the-type R′.the-laws) h (u ∷ []) i
+
+pub mineG : (h : Type2Glyph) (u : Val) → Is G.the-row h (u ∷ []) → Is G.the-row h (machG h ∷ [])
+mineG h u i = mine G.the-row (λ y. machG y ∷ []) (LL.tells G.the-type G′.the-laws) h (u ∷ []) i
+
+pub mineQ : (h : Plan) (u : Val) → Is Q.the-row h (u ∷ []) → Is Q.the-row h (machQ h ∷ [])
+mineQ h u i = mine Q.the-row (λ y. machQ y ∷ []) (LL.tells Q.the-type Q′.the-laws) h (u ∷ []) i
+
+pub mineI : (h : Interpreted) (u : Val) → Is I.the-row h (u ∷ []) → Is I.the-row h (machI h ∷ [])
+mineI h u i = mine I.the-row (λ y. machI y ∷ []) (LL.tells I.the-type I′.the-laws) h (u ∷ []) i

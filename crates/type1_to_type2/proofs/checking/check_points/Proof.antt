@@ -13,7 +13,8 @@ check-point-requires c κs =
 
 returns : tie.Need-returns
 returns c =
-    c .check-point .ensures ∙ fine-move (c .before .before .before .before .args .commands .now) (c .before .before .before .before .args .e) (c .before .before .before .before .args .fold) (c .before .if1 .taken)
+    let a = c .before .before .before .before .args in
+    c .check-point .ensures ∙ fine-move (a .commands .now) (a .e) (a .fold) (c .before .if1 .taken)
 
 check-point-requires-2 : tie.Need-check-point-requires-2
 check-point-requires-2 c κs =
@@ -21,7 +22,8 @@ check-point-requires-2 c κs =
 
 returns-2 : tie.Need-returns-2
 returns-2 c =
-    c .check-point2 .ensures ∙ fine-line (c .before .before .before .before .before .args .commands .now) (c .before .before .before .before .before .args .e) (c .before .before .before .before .before .args .fold) (c .before .if2 .taken)
+    let a = c .before .before .before .before .before .args in
+    c .check-point2 .ensures ∙ fine-line (a .commands .now) (a .e) (a .fold) (c .before .if2 .taken)
 
 check-point-requires-3 : tie.Need-check-point-requires-3
 check-point-requires-3 c κs =
@@ -29,7 +31,10 @@ check-point-requires-3 c κs =
 
 returns-3 : tie.Need-returns-3
 returns-3 c =
-    three-1 (fine (c .before .before .before .before .before .before .before .args .commands .now) (c .before .before .before .before .before .before .before .args .e) (c .before .before .before .before .before .before .before .args .fold) 1) (fine (c .before .before .before .before .before .before .before .args .commands .now) (c .before .before .before .before .before .before .before .args .e) (c .before .before .before .before .before .before .before .args .fold) 3) (fine (c .before .before .before .before .before .before .before .args .commands .now) (c .before .before .before .before .before .before .before .args .e) (c .before .before .before .before .before .before .before .args .fold) 5) (sym (c .before .check-point3 .ensures) ∙ not-true _ (c .if4 .taken)) ∙ fine-curve (c .before .before .before .before .before .before .before .args .commands .now) (c .before .before .before .before .before .before .before .args .e) (c .before .before .before .before .before .before .before .args .fold) (c .before .before .if3 .taken)
+    let a = c .before .before .before .before .before .before .before .args in
+    let p = fine (a .commands .now) (a .e) (a .fold) in
+    three-1 (p 1) (p 3) (p 5) (sym (c .before .check-point3 .ensures) ∙ not-true _ (c .if4 .taken))
+    ∙ fine-curve (a .commands .now) (a .e) (a .fold) (c .before .before .if3 .taken)
 
 check-point-requires-4 : tie.Need-check-point-requires-4
 check-point-requires-4 c κs =
@@ -37,7 +42,11 @@ check-point-requires-4 c κs =
 
 returns-4 : tie.Need-returns-4
 returns-4 c =
-    three-2 (fine (c .before .before .before .before .before .before .before .before .before .args .commands .now) (c .before .before .before .before .before .before .before .before .before .args .e) (c .before .before .before .before .before .before .before .before .before .args .fold) 1) (fine (c .before .before .before .before .before .before .before .before .before .args .commands .now) (c .before .before .before .before .before .before .before .before .before .args .e) (c .before .before .before .before .before .before .before .before .before .args .fold) 3) (fine (c .before .before .before .before .before .before .before .before .before .args .commands .now) (c .before .before .before .before .before .before .before .before .before .args .e) (c .before .before .before .before .before .before .before .before .before .args .fold) 5) (sym (c .before .before .before .check-point3 .ensures) ∙ not-false _ (c .before .before .if4 .left)) (sym (c .before .check-point4 .ensures) ∙ not-true _ (c .if5 .taken)) ∙ fine-curve (c .before .before .before .before .before .before .before .before .before .args .commands .now) (c .before .before .before .before .before .before .before .before .before .args .e) (c .before .before .before .before .before .before .before .before .before .args .fold) (c .before .before .before .before .if3 .taken)
+    let a = c .before .before .before .before .before .before .before .before .before .args in
+    let p = fine (a .commands .now) (a .e) (a .fold) in
+    three-2 (p 1) (p 3) (p 5) (sym (c .before .before .before .check-point3 .ensures) ∙ not-false _ (c .before .before .if4 .left))
+    (sym (c .before .check-point4 .ensures) ∙ not-true _ (c .if5 .taken))
+    ∙ fine-curve (a .commands .now) (a .e) (a .fold) (c .before .before .before .before .if3 .taken)
 
 check-point-requires-5 : tie.Need-check-point-requires-5
 check-point-requires-5 c κs =
@@ -45,7 +54,11 @@ check-point-requires-5 c κs =
 
 returns-5 : tie.Need-returns-5
 returns-5 c =
-    three-3 (fine (c .before .before .before .before .before .before .before .before .before .before .args .commands .now) (c .before .before .before .before .before .before .before .before .before .before .args .e) (c .before .before .before .before .before .before .before .before .before .before .args .fold) 1) (fine (c .before .before .before .before .before .before .before .before .before .before .args .commands .now) (c .before .before .before .before .before .before .before .before .before .before .args .e) (c .before .before .before .before .before .before .before .before .before .before .args .fold) 3) (fine (c .before .before .before .before .before .before .before .before .before .before .args .commands .now) (c .before .before .before .before .before .before .before .before .before .before .args .e) (c .before .before .before .before .before .before .before .before .before .before .args .fold) 5) _ (sym (c .before .before .before .before .check-point3 .ensures) ∙ not-false _ (c .before .before .before .if4 .left)) (sym (c .before .before .check-point4 .ensures) ∙ not-false _ (c .before .if5 .left)) (c .check-point5 .ensures) ∙ fine-curve (c .before .before .before .before .before .before .before .before .before .before .args .commands .now) (c .before .before .before .before .before .before .before .before .before .before .args .e) (c .before .before .before .before .before .before .before .before .before .before .args .fold) (c .before .before .before .before .before .if3 .taken)
+    let a = c .before .before .before .before .before .before .before .before .before .before .args in
+    let p = fine (a .commands .now) (a .e) (a .fold) in
+    three-3 (p 1) (p 3) (p 5) _ (sym (c .before .before .before .before .check-point3 .ensures) ∙ not-false _ (c .before .before .before .if4 .left))
+    (sym (c .before .before .check-point4 .ensures) ∙ not-false _ (c .before .if5 .left)) (c .check-point5 .ensures)
+    ∙ fine-curve (a .commands .now) (a .e) (a .fold) (c .before .before .before .before .before .if3 .taken)
 
 check-point-requires-6 : tie.Need-check-point-requires-6
 check-point-requires-6 c κs =
@@ -53,7 +66,10 @@ check-point-requires-6 c κs =
 
 returns-6 : tie.Need-returns-6
 returns-6 c =
-    six-1 (fine (c .before .before .before .before .before .before .before .before .args .commands .now) (c .before .before .before .before .before .before .before .before .args .e) (c .before .before .before .before .before .before .before .before .args .fold) 1) (fine (c .before .before .before .before .before .before .before .before .args .commands .now) (c .before .before .before .before .before .before .before .before .args .e) (c .before .before .before .before .before .before .before .before .args .fold) 3) (fine (c .before .before .before .before .before .before .before .before .args .commands .now) (c .before .before .before .before .before .before .before .before .args .e) (c .before .before .before .before .before .before .before .before .args .fold) 5) (fine (c .before .before .before .before .before .before .before .before .args .commands .now) (c .before .before .before .before .before .before .before .before .args .e) (c .before .before .before .before .before .before .before .before .args .fold) 7) (fine (c .before .before .before .before .before .before .before .before .args .commands .now) (c .before .before .before .before .before .before .before .before .args .e) (c .before .before .before .before .before .before .before .before .args .fold) 9) (fine (c .before .before .before .before .before .before .before .before .args .commands .now) (c .before .before .before .before .before .before .before .before .args .e) (c .before .before .before .before .before .before .before .before .args .fold) 11) (sym (c .before .check-point6 .ensures) ∙ not-true _ (c .if7 .taken)) ∙ fine-flex (c .before .before .before .before .before .before .before .before .args .commands .now) (c .before .before .before .before .before .before .before .before .args .e) (c .before .before .before .before .before .before .before .before .args .fold) (c .before .before .if6 .taken)
+    let a = c .before .before .before .before .before .before .before .before .args in
+    let p = fine (a .commands .now) (a .e) (a .fold) in
+    six-1 (p 1) (p 3) (p 5) (p 7) (p 9) (p 11) (sym (c .before .check-point6 .ensures) ∙ not-true _ (c .if7 .taken))
+    ∙ fine-flex (a .commands .now) (a .e) (a .fold) (c .before .before .if6 .taken)
 
 check-point-requires-7 : tie.Need-check-point-requires-7
 check-point-requires-7 c κs =
@@ -61,7 +77,11 @@ check-point-requires-7 c κs =
 
 returns-7 : tie.Need-returns-7
 returns-7 c =
-    six-2 (fine (c .before .before .before .before .before .before .before .before .before .before .args .commands .now) (c .before .before .before .before .before .before .before .before .before .before .args .e) (c .before .before .before .before .before .before .before .before .before .before .args .fold) 1) (fine (c .before .before .before .before .before .before .before .before .before .before .args .commands .now) (c .before .before .before .before .before .before .before .before .before .before .args .e) (c .before .before .before .before .before .before .before .before .before .before .args .fold) 3) (fine (c .before .before .before .before .before .before .before .before .before .before .args .commands .now) (c .before .before .before .before .before .before .before .before .before .before .args .e) (c .before .before .before .before .before .before .before .before .before .before .args .fold) 5) (fine (c .before .before .before .before .before .before .before .before .before .before .args .commands .now) (c .before .before .before .before .before .before .before .before .before .before .args .e) (c .before .before .before .before .before .before .before .before .before .before .args .fold) 7) (fine (c .before .before .before .before .before .before .before .before .before .before .args .commands .now) (c .before .before .before .before .before .before .before .before .before .before .args .e) (c .before .before .before .before .before .before .before .before .before .before .args .fold) 9) (fine (c .before .before .before .before .before .before .before .before .before .before .args .commands .now) (c .before .before .before .before .before .before .before .before .before .before .args .e) (c .before .before .before .before .before .before .before .before .before .before .args .fold) 11) (sym (c .before .before .before .check-point6 .ensures) ∙ not-false _ (c .before .before .if7 .left)) (sym (c .before .check-point7 .ensures) ∙ not-true _ (c .if8 .taken)) ∙ fine-flex (c .before .before .before .before .before .before .before .before .before .before .args .commands .now) (c .before .before .before .before .before .before .before .before .before .before .args .e) (c .before .before .before .before .before .before .before .before .before .before .args .fold) (c .before .before .before .before .if6 .taken)
+    let a = c .before .before .before .before .before .before .before .before .before .before .args in
+    let p = fine (a .commands .now) (a .e) (a .fold) in
+    six-2 (p 1) (p 3) (p 5) (p 7) (p 9) (p 11) (sym (c .before .before .before .check-point6 .ensures) ∙ not-false _ (c .before .before .if7 .left))
+    (sym (c .before .check-point7 .ensures) ∙ not-true _ (c .if8 .taken))
+    ∙ fine-flex (a .commands .now) (a .e) (a .fold) (c .before .before .before .before .if6 .taken)
 
 check-point-requires-8 : tie.Need-check-point-requires-8
 check-point-requires-8 c κs =
@@ -69,7 +89,11 @@ check-point-requires-8 c κs =
 
 returns-8 : tie.Need-returns-8
 returns-8 c =
-    six-3 (fine (c .before .before .before .before .before .before .before .before .before .before .before .before .args .commands .now) (c .before .before .before .before .before .before .before .before .before .before .before .before .args .e) (c .before .before .before .before .before .before .before .before .before .before .before .before .args .fold) 1) (fine (c .before .before .before .before .before .before .before .before .before .before .before .before .args .commands .now) (c .before .before .before .before .before .before .before .before .before .before .before .before .args .e) (c .before .before .before .before .before .before .before .before .before .before .before .before .args .fold) 3) (fine (c .before .before .before .before .before .before .before .before .before .before .before .before .args .commands .now) (c .before .before .before .before .before .before .before .before .before .before .before .before .args .e) (c .before .before .before .before .before .before .before .before .before .before .before .before .args .fold) 5) (fine (c .before .before .before .before .before .before .before .before .before .before .before .before .args .commands .now) (c .before .before .before .before .before .before .before .before .before .before .before .before .args .e) (c .before .before .before .before .before .before .before .before .before .before .before .before .args .fold) 7) (fine (c .before .before .before .before .before .before .before .before .before .before .before .before .args .commands .now) (c .before .before .before .before .before .before .before .before .before .before .before .before .args .e) (c .before .before .before .before .before .before .before .before .before .before .before .before .args .fold) 9) (fine (c .before .before .before .before .before .before .before .before .before .before .before .before .args .commands .now) (c .before .before .before .before .before .before .before .before .before .before .before .before .args .e) (c .before .before .before .before .before .before .before .before .before .before .before .before .args .fold) 11) (sym (c .before .before .before .before .before .check-point6 .ensures) ∙ not-false _ (c .before .before .before .before .if7 .left)) (sym (c .before .before .before .check-point7 .ensures) ∙ not-false _ (c .before .before .if8 .left)) (sym (c .before .check-point8 .ensures) ∙ not-true _ (c .if9 .taken)) ∙ fine-flex (c .before .before .before .before .before .before .before .before .before .before .before .before .args .commands .now) (c .before .before .before .before .before .before .before .before .before .before .before .before .args .e) (c .before .before .before .before .before .before .before .before .before .before .before .before .args .fold) (c .before .before .before .before .before .before .if6 .taken)
+    let a = c .before .before .before .before .before .before .before .before .before .before .before .before .args in
+    let p = fine (a .commands .now) (a .e) (a .fold) in
+    six-3 (p 1) (p 3) (p 5) (p 7) (p 9) (p 11) (sym (c .before .before .before .before .before .check-point6 .ensures) ∙ not-false _ (c .before .before .before .before .if7 .left))
+    (sym (c .before .before .before .check-point7 .ensures) ∙ not-false _ (c .before .before .if8 .left)) (sym (c .before .check-point8 .ensures) ∙ not-true _ (c .if9 .taken))
+    ∙ fine-flex (a .commands .now) (a .e) (a .fold) (c .before .before .before .before .before .before .if6 .taken)
 
 check-point-requires-9 : tie.Need-check-point-requires-9
 check-point-requires-9 c κs =
@@ -77,7 +101,13 @@ check-point-requires-9 c κs =
 
 returns-9 : tie.Need-returns-9
 returns-9 c =
-    six-4 (fine (c .before .before .before .before .before .before .before .before .before .before .before .before .before .before .args .commands .now) (c .before .before .before .before .before .before .before .before .before .before .before .before .before .before .args .e) (c .before .before .before .before .before .before .before .before .before .before .before .before .before .before .args .fold) 1) (fine (c .before .before .before .before .before .before .before .before .before .before .before .before .before .before .args .commands .now) (c .before .before .before .before .before .before .before .before .before .before .before .before .before .before .args .e) (c .before .before .before .before .before .before .before .before .before .before .before .before .before .before .args .fold) 3) (fine (c .before .before .before .before .before .before .before .before .before .before .before .before .before .before .args .commands .now) (c .before .before .before .before .before .before .before .before .before .before .before .before .before .before .args .e) (c .before .before .before .before .before .before .before .before .before .before .before .before .before .before .args .fold) 5) (fine (c .before .before .before .before .before .before .before .before .before .before .before .before .before .before .args .commands .now) (c .before .before .before .before .before .before .before .before .before .before .before .before .before .before .args .e) (c .before .before .before .before .before .before .before .before .before .before .before .before .before .before .args .fold) 7) (fine (c .before .before .before .before .before .before .before .before .before .before .before .before .before .before .args .commands .now) (c .before .before .before .before .before .before .before .before .before .before .before .before .before .before .args .e) (c .before .before .before .before .before .before .before .before .before .before .before .before .before .before .args .fold) 9) (fine (c .before .before .before .before .before .before .before .before .before .before .before .before .before .before .args .commands .now) (c .before .before .before .before .before .before .before .before .before .before .before .before .before .before .args .e) (c .before .before .before .before .before .before .before .before .before .before .before .before .before .before .args .fold) 11) (sym (c .before .before .before .before .before .before .before .check-point6 .ensures) ∙ not-false _ (c .before .before .before .before .before .before .if7 .left)) (sym (c .before .before .before .before .before .check-point7 .ensures) ∙ not-false _ (c .before .before .before .before .if8 .left)) (sym (c .before .before .before .check-point8 .ensures) ∙ not-false _ (c .before .before .if9 .left)) (sym (c .before .check-point9 .ensures) ∙ not-true _ (c .if10 .taken)) ∙ fine-flex (c .before .before .before .before .before .before .before .before .before .before .before .before .before .before .args .commands .now) (c .before .before .before .before .before .before .before .before .before .before .before .before .before .before .args .e) (c .before .before .before .before .before .before .before .before .before .before .before .before .before .before .args .fold) (c .before .before .before .before .before .before .before .before .if6 .taken)
+    let a = c .before .before .before .before .before .before .before .before .before .before .before .before .before .before .args in
+    let p = fine (a .commands .now) (a .e) (a .fold) in
+    six-4 (p 1) (p 3) (p 5) (p 7) (p 9) (p 11)
+    (sym (c .before .before .before .before .before .before .before .check-point6 .ensures) ∙ not-false _ (c .before .before .before .before .before .before .if7 .left))
+    (sym (c .before .before .before .before .before .check-point7 .ensures) ∙ not-false _ (c .before .before .before .before .if8 .left))
+    (sym (c .before .before .before .check-point8 .ensures) ∙ not-false _ (c .before .before .if9 .left)) (sym (c .before .check-point9 .ensures) ∙ not-true _ (c .if10 .taken))
+    ∙ fine-flex (a .commands .now) (a .e) (a .fold) (c .before .before .before .before .before .before .before .before .if6 .taken)
 
 check-point-requires-10 : tie.Need-check-point-requires-10
 check-point-requires-10 c κs =
@@ -85,7 +115,14 @@ check-point-requires-10 c κs =
 
 returns-10 : tie.Need-returns-10
 returns-10 c =
-    six-5 (fine (c .before .before .before .before .before .before .before .before .before .before .before .before .before .before .before .before .args .commands .now) (c .before .before .before .before .before .before .before .before .before .before .before .before .before .before .before .before .args .e) (c .before .before .before .before .before .before .before .before .before .before .before .before .before .before .before .before .args .fold) 1) (fine (c .before .before .before .before .before .before .before .before .before .before .before .before .before .before .before .before .args .commands .now) (c .before .before .before .before .before .before .before .before .before .before .before .before .before .before .before .before .args .e) (c .before .before .before .before .before .before .before .before .before .before .before .before .before .before .before .before .args .fold) 3) (fine (c .before .before .before .before .before .before .before .before .before .before .before .before .before .before .before .before .args .commands .now) (c .before .before .before .before .before .before .before .before .before .before .before .before .before .before .before .before .args .e) (c .before .before .before .before .before .before .before .before .before .before .before .before .before .before .before .before .args .fold) 5) (fine (c .before .before .before .before .before .before .before .before .before .before .before .before .before .before .before .before .args .commands .now) (c .before .before .before .before .before .before .before .before .before .before .before .before .before .before .before .before .args .e) (c .before .before .before .before .before .before .before .before .before .before .before .before .before .before .before .before .args .fold) 7) (fine (c .before .before .before .before .before .before .before .before .before .before .before .before .before .before .before .before .args .commands .now) (c .before .before .before .before .before .before .before .before .before .before .before .before .before .before .before .before .args .e) (c .before .before .before .before .before .before .before .before .before .before .before .before .before .before .before .before .args .fold) 9) (fine (c .before .before .before .before .before .before .before .before .before .before .before .before .before .before .before .before .args .commands .now) (c .before .before .before .before .before .before .before .before .before .before .before .before .before .before .before .before .args .e) (c .before .before .before .before .before .before .before .before .before .before .before .before .before .before .before .before .args .fold) 11) (sym (c .before .before .before .before .before .before .before .before .before .check-point6 .ensures) ∙ not-false _ (c .before .before .before .before .before .before .before .before .if7 .left)) (sym (c .before .before .before .before .before .before .before .check-point7 .ensures) ∙ not-false _ (c .before .before .before .before .before .before .if8 .left)) (sym (c .before .before .before .before .before .check-point8 .ensures) ∙ not-false _ (c .before .before .before .before .if9 .left)) (sym (c .before .before .before .check-point9 .ensures) ∙ not-false _ (c .before .before .if10 .left)) (sym (c .before .check-point10 .ensures) ∙ not-true _ (c .if11 .taken)) ∙ fine-flex (c .before .before .before .before .before .before .before .before .before .before .before .before .before .before .before .before .args .commands .now) (c .before .before .before .before .before .before .before .before .before .before .before .before .before .before .before .before .args .e) (c .before .before .before .before .before .before .before .before .before .before .before .before .before .before .before .before .args .fold) (c .before .before .before .before .before .before .before .before .before .before .if6 .taken)
+    let a = c .before .before .before .before .before .before .before .before .before .before .before .before .before .before .before .before .args in
+    let p = fine (a .commands .now) (a .e) (a .fold) in
+    six-5 (p 1) (p 3) (p 5) (p 7) (p 9) (p 11)
+    (sym (c .before .before .before .before .before .before .before .before .before .check-point6 .ensures) ∙ not-false _ (c .before .before .before .before .before .before .before .before .if7 .left))
+    (sym (c .before .before .before .before .before .before .before .check-point7 .ensures) ∙ not-false _ (c .before .before .before .before .before .before .if8 .left))
+    (sym (c .before .before .before .before .before .check-point8 .ensures) ∙ not-false _ (c .before .before .before .before .if9 .left))
+    (sym (c .before .before .before .check-point9 .ensures) ∙ not-false _ (c .before .before .if10 .left)) (sym (c .before .check-point10 .ensures) ∙ not-true _ (c .if11 .taken))
+    ∙ fine-flex (a .commands .now) (a .e) (a .fold) (c .before .before .before .before .before .before .before .before .before .before .if6 .taken)
 
 check-point-requires-11 : tie.Need-check-point-requires-11
 check-point-requires-11 c κs =
@@ -93,11 +130,20 @@ check-point-requires-11 c κs =
 
 returns-11 : tie.Need-returns-11
 returns-11 c =
-    six-6 (fine (c .before .before .before .before .before .before .before .before .before .before .before .before .before .before .before .before .before .args .commands .now) (c .before .before .before .before .before .before .before .before .before .before .before .before .before .before .before .before .before .args .e) (c .before .before .before .before .before .before .before .before .before .before .before .before .before .before .before .before .before .args .fold) 1) (fine (c .before .before .before .before .before .before .before .before .before .before .before .before .before .before .before .before .before .args .commands .now) (c .before .before .before .before .before .before .before .before .before .before .before .before .before .before .before .before .before .args .e) (c .before .before .before .before .before .before .before .before .before .before .before .before .before .before .before .before .before .args .fold) 3) (fine (c .before .before .before .before .before .before .before .before .before .before .before .before .before .before .before .before .before .args .commands .now) (c .before .before .before .before .before .before .before .before .before .before .before .before .before .before .before .before .before .args .e) (c .before .before .before .before .before .before .before .before .before .before .before .before .before .before .before .before .before .args .fold) 5) (fine (c .before .before .before .before .before .before .before .before .before .before .before .before .before .before .before .before .before .args .commands .now) (c .before .before .before .before .before .before .before .before .before .before .before .before .before .before .before .before .before .args .e) (c .before .before .before .before .before .before .before .before .before .before .before .before .before .before .before .before .before .args .fold) 7) (fine (c .before .before .before .before .before .before .before .before .before .before .before .before .before .before .before .before .before .args .commands .now) (c .before .before .before .before .before .before .before .before .before .before .before .before .before .before .before .before .before .args .e) (c .before .before .before .before .before .before .before .before .before .before .before .before .before .before .before .before .before .args .fold) 9) (fine (c .before .before .before .before .before .before .before .before .before .before .before .before .before .before .before .before .before .args .commands .now) (c .before .before .before .before .before .before .before .before .before .before .before .before .before .before .before .before .before .args .e) (c .before .before .before .before .before .before .before .before .before .before .before .before .before .before .before .before .before .args .fold) 11) _ (sym (c .before .before .before .before .before .before .before .before .before .before .check-point6 .ensures) ∙ not-false _ (c .before .before .before .before .before .before .before .before .before .if7 .left)) (sym (c .before .before .before .before .before .before .before .before .check-point7 .ensures) ∙ not-false _ (c .before .before .before .before .before .before .before .if8 .left)) (sym (c .before .before .before .before .before .before .check-point8 .ensures) ∙ not-false _ (c .before .before .before .before .before .if9 .left)) (sym (c .before .before .before .before .check-point9 .ensures) ∙ not-false _ (c .before .before .before .if10 .left)) (sym (c .before .before .check-point10 .ensures) ∙ not-false _ (c .before .if11 .left)) (c .check-point11 .ensures) ∙ fine-flex (c .before .before .before .before .before .before .before .before .before .before .before .before .before .before .before .before .before .args .commands .now) (c .before .before .before .before .before .before .before .before .before .before .before .before .before .before .before .before .before .args .e) (c .before .before .before .before .before .before .before .before .before .before .before .before .before .before .before .before .before .args .fold) (c .before .before .before .before .before .before .before .before .before .before .before .if6 .taken)
+    let a = c .before .before .before .before .before .before .before .before .before .before .before .before .before .before .before .before .before .args in
+    let p = fine (a .commands .now) (a .e) (a .fold) in
+    six-6 (p 1) (p 3) (p 5) (p 7) (p 9) (p 11) _
+    (sym (c .before .before .before .before .before .before .before .before .before .before .check-point6 .ensures) ∙ not-false _ (c .before .before .before .before .before .before .before .before .before .if7 .left))
+    (sym (c .before .before .before .before .before .before .before .before .check-point7 .ensures) ∙ not-false _ (c .before .before .before .before .before .before .before .if8 .left))
+    (sym (c .before .before .before .before .before .before .check-point8 .ensures) ∙ not-false _ (c .before .before .before .before .before .if9 .left))
+    (sym (c .before .before .before .before .check-point9 .ensures) ∙ not-false _ (c .before .before .before .if10 .left))
+    (sym (c .before .before .check-point10 .ensures) ∙ not-false _ (c .before .if11 .left)) (c .check-point11 .ensures)
+    ∙ fine-flex (a .commands .now) (a .e) (a .fold) (c .before .before .before .before .before .before .before .before .before .before .before .if6 .taken)
 
 returns-12 : tie.Need-returns-12
 returns-12 c =
-    fine-none (c .before .before .before .before .before .before .args .commands .now) (c .before .before .before .before .before .before .args .e) (c .before .before .before .before .before .before .args .fold) (c .before .before .before .if1 .left) (c .before .before .if2 .left) (c .before .if3 .left) (c .if6 .left)
+    let a = c .before .before .before .before .before .before .args in
+    fine-none (a .commands .now) (a .e) (a .fold) (c .before .before .before .if1 .left) (c .before .before .if2 .left) (c .before .if3 .left) (c .if6 .left)
 
 pub check-points-spec : {M : Type 1} → statement M
 check-points-spec =
