@@ -1,6 +1,7 @@
 pub mod Again
 pub mod ByteLaws
 pub mod Calls
+pub mod CountedLoop
 pub mod CycleLaws
 pub mod DeltasMade
 pub mod Dispatch
@@ -16,7 +17,6 @@ pub mod LentArray
 pub mod LentLocal
 pub mod LentWith
 pub mod Locals
-pub mod Looping
 pub mod Many
 pub mod Numbers
 pub mod Octets

@@ -11,7 +11,6 @@ pub mod Points
 pub mod Entries
 pub mod Packing
 pub mod StemTables
-pub mod CountedLoop
 pub mod PassLaws
 pub mod LentShared
 pub mod EntryLaws

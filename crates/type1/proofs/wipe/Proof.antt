@@ -41,7 +41,7 @@ use Rattle.outline.proofs.Stem as T
 use Rattle.type1.proofs.Lent.{at-list, Own, lend}
 use Rattle.type1.proofs.LentWith.{returned}
 use Rattle.type1.proofs.Leaving.{filled, bare, leave}
-use Rattle.type1.proofs.Looping.{loop-walk}
+use Rattle.type1.proofs.CountedLoop.{counts}
 use Rattle.type1.proofs.Many.{asks-all}
 use Rattle.type1.proofs.Locals.{word, tS, so-is}
 use Rattle.outline.specs.Outline.{zeroStem}
@@ -140,9 +140,9 @@ module _ {M : Type 1} (𝓤 : URA M) (H : Heap 𝓤) (A : Atoms 𝓤) (W : Given
     module _ (l₀ l₁ l₂ l₃ l₄ l₅ l₆ l₇ : ℕ) where
       loops : ent 𝓤 (⋆ 𝓤 H A (At 0 ysstems l₀ l₁ l₂ l₃ l₄ l₅ l₆ l₇)) (Wp 𝓤 H C Λ (En l₀ l₁ l₂ l₃ l₄ l₅ l₆ l₇) (loop text.turn-1) (Left l₀ l₁ l₂ l₃ l₄ l₅ l₆ l₇))
       loops =
-          loop-walk 𝓤 H A W 𝓣 (En l₀ l₁ l₂ l₃ l₄ l₅ l₆ l₇) text.turn-1 (Left l₀ l₁ l₂ l₃ l₄ l₅ l₆ l₇) (ℕ × (List Stem)) (λ x. x .0) mstems (λ x. Held (x .0) (x .1)) (λ x. At (x .0) (x .1) l₀ l₁ l₂ l₃ l₄ l₅ l₆ l₇)
-          (λ X x small held go. more X (x .0) (x .1) small held l₀ l₁ l₂ l₃ l₄ l₅ l₆ l₇ (λ i′ zs′. go (i′, zs′))) (λ X x over held. ends X (x .0) (x .1) over held l₀ l₁ l₂ l₃ l₄ l₅ l₆ l₇)
-          (0, ysstems) (lit< tt, (omega arith, (refl, paste-zero ysstems 0 (replicate mstems zeroStem))))
+          counts 𝓤 H A 𝓣 (En l₀ l₁ l₂ l₃ l₄ l₅ l₆ l₇) text.turn-1 (Left l₀ l₁ l₂ l₃ l₄ l₅ l₆ l₇) mstems (List Stem) (λ i x. At i x l₀ l₁ l₂ l₃ l₄ l₅ l₆ l₇) (λ i x. Held i x) W
+          (λ X i x small held go. more X i x small held l₀ l₁ l₂ l₃ l₄ l₅ l₆ l₇ (λ i′ zs′. go i′ zs′)) (λ X i x over held. ends X i x over held l₀ l₁ l₂ l₃ l₄ l₅ l₆ l₇)
+          ysstems (lit< tt, (omega arith, (refl, paste-zero ysstems 0 (replicate mstems zeroStem))))
 
     -- the MIR, up to the loop
     pub walk : ent 𝓤 (onEntry 𝓤 H A f.signature (κstems, tt) (qstems, tt) a vals) (WpFn 𝓤 H C Λ code.function args Post)

@@ -48,7 +48,7 @@ use Rattle.outline.proofs.Stem.Laws as T′
 use Rattle.type1.proofs.Lent.{at-list, Own, lend}
 use Rattle.type1.proofs.LentWith.{returned}
 use Rattle.type1.proofs.Leaving.{filled, bare, leave}
-use Rattle.type1.proofs.Looping.{loop-walk}
+use Rattle.type1.proofs.CountedLoop.{counts}
 use Rattle.type1.proofs.Many.{asks-all}
 use Rattle.outline.proofs.Steps.{guards}
 use Rattle.type1.proofs.Locals.{word, sF, sA, tS, so-is, machT}
@@ -172,9 +172,9 @@ module _ {M : Type 1} (𝓤 : URA M) (H : Heap 𝓤) (A : Atoms 𝓤) (W : Given
     module _ (l₀ l₁ l₂ l₃ l₄ l₅ l₆ l₇ l₈ l₉ l₁₀ l₁₁ l₁₂ : ℕ) where
       loops : ent 𝓤 (⋆ 𝓤 H A (At 0 ysstems l₀ l₁ l₂ l₃ l₄ l₅ l₆ l₇ l₈ l₉ l₁₀ l₁₁ l₁₂)) (Wp 𝓤 H C Λ (En l₀ l₁ l₂ l₃ l₄ l₅ l₆ l₇ l₈ l₉ l₁₀ l₁₁ l₁₂) (loop text.turn-1) (Left l₀ l₁ l₂ l₃ l₄ l₅ l₆ l₇ l₈ l₉ l₁₀ l₁₁ l₁₂))
       loops =
-          loop-walk 𝓤 H A W 𝓣 (En l₀ l₁ l₂ l₃ l₄ l₅ l₆ l₇ l₈ l₉ l₁₀ l₁₁ l₁₂) text.turn-1 (Left l₀ l₁ l₂ l₃ l₄ l₅ l₆ l₇ l₈ l₉ l₁₀ l₁₁ l₁₂) (ℕ × (List Stem)) (λ x. x .0) n (λ x. Held (x .0) (x .1)) (λ x. At (x .0) (x .1) l₀ l₁ l₂ l₃ l₄ l₅ l₆ l₇ l₈ l₉ l₁₀ l₁₁ l₁₂)
-          (λ X x small held go. more X (x .0) (x .1) small held l₀ l₁ l₂ l₃ l₄ l₅ l₆ l₇ l₈ l₉ l₁₀ l₁₁ l₁₂ (λ i′ zs′. go (i′, zs′))) (λ X x over held. ends X (x .0) (x .1) over held l₀ l₁ l₂ l₃ l₄ l₅ l₆ l₇ l₈ l₉ l₁₀ l₁₁ l₁₂)
-          (0, ysstems) (lit< tt, (omega arith, (refl, (refl, same-begun ysstems first (xedges .now) (xacross .now)))))
+          counts 𝓤 H A 𝓣 (En l₀ l₁ l₂ l₃ l₄ l₅ l₆ l₇ l₈ l₉ l₁₀ l₁₁ l₁₂) text.turn-1 (Left l₀ l₁ l₂ l₃ l₄ l₅ l₆ l₇ l₈ l₉ l₁₀ l₁₁ l₁₂) n (List Stem) (λ i x. At i x l₀ l₁ l₂ l₃ l₄ l₅ l₆ l₇ l₈ l₉ l₁₀ l₁₁ l₁₂) (λ i x. Held i x) W
+          (λ X i x small held go. more X i x small held l₀ l₁ l₂ l₃ l₄ l₅ l₆ l₇ l₈ l₉ l₁₀ l₁₁ l₁₂ (λ i′ zs′. go i′ zs′)) (λ X i x over held. ends X i x over held l₀ l₁ l₂ l₃ l₄ l₅ l₆ l₇ l₈ l₉ l₁₀ l₁₁ l₁₂)
+          ysstems (lit< tt, (omega arith, (refl, (refl, same-begun ysstems first (xedges .now) (xacross .now)))))
 
     -- the MIR, up to the loop
     pub walk : ent 𝓤 (onEntry 𝓤 H A f.signature (κedges, (κacross, (κstems, tt))) (qedges, (qacross, (qstems, tt))) a vals) (WpFn 𝓤 H C Λ code.function args Post)

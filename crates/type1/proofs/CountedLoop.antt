@@ -65,6 +65,8 @@ module _ {M : Type 1} (𝓤 : URA M) (H : Heap 𝓤) (A : Atoms 𝓤) (𝓣 : Ta
         exE 𝓤 (λ (x : ℕ × S). guard 𝓤 (Facts u x) (Head x)) (λ x.
         guardE 𝓤 (Facts u x) (Head x) (λ e. turn-at u (x .0) (x .1) e (ltb (x .0) n) refl))
 
+    pub counts-from : (i : ℕ) (x : S) → Held i x → ent 𝓤 (⋆ 𝓤 H A (At i x)) (Wp 𝓤 H (𝓣 .C) (𝓣 .Λ) E (loop turn) Q)
+    counts-from i x held = via 𝓤 (Inv n) (enters n (i, x) (omega arith, held)) (loop-rule 𝓤 H (W .laws) 𝓣 _<_ (Nat·lt-wfRel .wf) E turn Q Inv turns n)
+
     pub counts : (x : S) → Held 0 x → ent 𝓤 (⋆ 𝓤 H A (At 0 x)) (Wp 𝓤 H (𝓣 .C) (𝓣 .Λ) E (loop turn) Q)
-    counts x held =
-        via 𝓤 (Inv n) (enters n (0, x) (omega arith, held)) (loop-rule 𝓤 H (W .laws) 𝓣 _<_ (Nat·lt-wfRel .wf) E turn Q Inv turns n)
+    counts = counts-from 0
