@@ -65,10 +65,19 @@ module _ {M : Type 1} (𝓤 : URA M) (H : Heap 𝓤) (A : Atoms 𝓤) (mem : Mem
 
 module _ {M : Type 1} (𝓤 : URA M) (H : Heap 𝓤) (A : Atoms 𝓤) (mem : Memory → SProp 𝓤) (run′ : Routine → Fun 𝓤) (W : Given 𝓤 H A) (C : Calls 𝓤 H) where
   pub convert-charstring-transformed-as : Triple 𝓤 (C #type1-to-type2·convert-charstring-transformed) (ConvertCharstringTransformedC 𝓤 H A mem run′) → (κcharstring : Lft) (qcharstring : Share) (xcharstring : RefT (List ℕ)) (κbank : Lft) (qbank : Share) (xbank : RefT (List ℕ)) (κstems : Lft) (qstems : Share) (mstems bstems ostems : ℕ) (γstems : GName) (ysstems : List Stem) (κcommands : Lft) (qcommands : Share) (mcommands bcommands ocommands : ℕ) (γcommands : GName) (yscommands : List ℕ) (κout : Lft) (qout : Share) (mout bout oout : ℕ) (γout : GName) (ysout : List ℕ) (rd : Reading) (m : Matrix) → Is Y.the-row rd (machY rd ∷ []) → Is Z.the-row m (machZ m ∷ [])
-      → ent 𝓤 (mean 𝓤 H A ((‵ (flft κcharstring qcharstring) ⊛ ‵ (ShrSlice (named 0) κcharstring u8 .own xcharstring (sliceVal (xcharstring .ptr) (length (xcharstring .now)) ∷ []))) ⊛ ((‵ (flft κbank qbank) ⊛ ‵ (ShrSlice (named 0) κbank u8 .own xbank (sliceVal (xbank .ptr) (length (xbank .now)) ∷ []))) ⊛ ((‵ (flft κstems qstems) ⊛ ‵ (Own T.the-row mstems bstems ostems κstems γstems ysstems)) ⊛ ((‵ (flft κcommands qcommands) ⊛ ‵ (Own u64 mcommands bcommands ocommands κcommands γcommands yscommands)) ⊛ (‵ (flft κout qout) ⊛ ‵ (Own u8 mout bout oout κout γout ysout))))))) (C #type1-to-type2·convert-charstring-transformed (sliceVal (xcharstring .ptr) (length (xcharstring .now)) ∷ sliceVal (xbank .ptr) (length (xbank .now)) ∷ machY rd ∷ machZ m ∷ sliceVal (bstems, ostems) mstems ∷ sliceVal (bcommands, ocommands) mcommands ∷ sliceVal (bout, oout) mout ∷ []) (λ w. mean 𝓤 H A (GotAll 𝓤 G.the-row (Unit {0} × (Unit {0} × (Unit {0} × (Unit {0} × (List Stem × (List ℕ × (List ℕ × Unit {0}))))))) (λ (r : G.the-row .Denot) (lasts : (Unit {0} × (Unit {0} × (Unit {0} × (Unit {0} × (List Stem × (List ℕ × (List ℕ × Unit {0})))))))). ConvertsFrom (sourceOf (xcharstring .now) (xbank .now)) rd m (roomsOf ysstems yscommands ysout) r (lasts .1 .1 .1 .1 .0) (lasts .1 .1 .1 .1 .1 .0) (lasts .1 .1 .1 .1 .1 .1 .0)) (λ (lasts : (Unit {0} × (Unit {0} × (Unit {0} × (Unit {0} × (List Stem × (List ℕ × (List ℕ × Unit {0})))))))). (fsep ftrue (fsep ftrue (fsep ftrue (fsep ftrue (fsep (fsep (finally T.the-row γstems (lasts .1 .1 .1 .1 .0)) (feq ℕ (length (lasts .1 .1 .1 .1 .0)) (length ysstems))) (fsep (fsep (finally u64 γcommands (lasts .1 .1 .1 .1 .1 .0)) (feq ℕ (length (lasts .1 .1 .1 .1 .1 .0)) (length yscommands))) (fsep (fsep (finally u8 γout (lasts .1 .1 .1 .1 .1 .1 .0)) (feq ℕ (length (lasts .1 .1 .1 .1 .1 .1 .0)) (length ysout))) ftrue)))))))) (‵ (flft κcharstring qcharstring) ⊛ (‵ (flft κbank qbank) ⊛ (‵ (flft κstems qstems) ⊛ (‵ (flft κcommands qcommands) ⊛ (‵ (flft κout qout) ⊛ ‵ ftrue))))) w)))
+      → ent 𝓤 (mean 𝓤 H A ((‵ (flft κcharstring qcharstring) ⊛ ‵ (ShrSlice (named 0) κcharstring u8 .own xcharstring (sliceVal (xcharstring .ptr) (length (xcharstring .now)) ∷ []))) ⊛ ((‵ (flft κbank qbank) ⊛ ‵ (ShrSlice (named 0) κbank u8 .own xbank (sliceVal (xbank .ptr) (length (xbank .now)) ∷ []))) ⊛ ((‵ (flft κstems qstems) ⊛ ‵ (Own T.the-row mstems bstems ostems κstems γstems ysstems))
+      ⊛ ((‵ (flft κcommands qcommands) ⊛ ‵ (Own u64 mcommands bcommands ocommands κcommands γcommands yscommands)) ⊛ (‵ (flft κout qout)
+      ⊛ ‵ (Own u8 mout bout oout κout γout ysout))))))) (C #type1-to-type2·convert-charstring-transformed (sliceVal (xcharstring .ptr) (length (xcharstring .now)) ∷ sliceVal (xbank .ptr) (length (xbank .now)) ∷ machY rd ∷ machZ m ∷ sliceVal (bstems, ostems) mstems ∷ sliceVal (bcommands, ocommands) mcommands ∷ sliceVal (bout, oout) mout ∷ [])
+      (λ w. mean 𝓤 H A (GotAll 𝓤 G.the-row (Unit {0} × (Unit {0} × (Unit {0} × (Unit {0} × (List Stem × (List ℕ × (List ℕ × Unit {0})))))))
+      (λ (r : G.the-row .Denot) (lasts : (Unit {0} × (Unit {0} × (Unit {0} × (Unit {0} × (List Stem × (List ℕ × (List ℕ × Unit {0})))))))). ConvertsFrom (sourceOf (xcharstring .now) (xbank .now)) rd m (roomsOf ysstems yscommands ysout) r (lasts .1 .1 .1 .1 .0) (lasts .1 .1 .1 .1 .1 .0) (lasts .1 .1 .1 .1 .1 .1 .0))
+      (λ (lasts : (Unit {0} × (Unit {0} × (Unit {0} × (Unit {0} × (List Stem × (List ℕ × (List ℕ × Unit {0})))))))). (fsep ftrue (fsep ftrue (fsep ftrue (fsep ftrue (fsep (fsep (finally T.the-row γstems (lasts .1 .1 .1 .1 .0)) (feq ℕ (length (lasts .1 .1 .1 .1 .0)) (length ysstems))) (fsep (fsep (finally u64 γcommands (lasts .1 .1 .1 .1 .1 .0)) (feq ℕ (length (lasts .1 .1 .1 .1 .1 .0)) (length yscommands))) (fsep (fsep (finally u8 γout (lasts .1 .1 .1 .1 .1 .1 .0)) (feq ℕ (length (lasts .1 .1 .1 .1 .1 .1 .0)) (length ysout))) ftrue)))))))) (‵ (flft κcharstring qcharstring)
+      ⊛ (‵ (flft κbank qbank) ⊛ (‵ (flft κstems qstems) ⊛ (‵ (flft κcommands qcommands) ⊛ (‵ (flft κout qout) ⊛ ‵ ftrue))))) w)))
   convert-charstring-transformed-as known κcharstring qcharstring xcharstring κbank qbank xbank κstems qstems mstems bstems ostems γstems ysstems κcommands qcommands mcommands bcommands ocommands γcommands yscommands κout qout mout bout oout γout ysout rd m rd-fits m-fits =
       let y : ConvertCharstringTransformedC 𝓤 H A mem run′ .Ghost = (((κcharstring, (κbank, (κstems, (κcommands, (κout, tt))))), (qcharstring, (qbank, (qstems, (qcommands, (qout, tt))))), tt, (xcharstring, (xbank, (rd, (m, (at-list T.the-row mstems bstems ostems γstems ysstems, (at-list u64 mcommands bcommands ocommands γcommands yscommands, (at-list u8 mout bout oout γout ysout, tt))))))), (sliceVal (xcharstring .ptr) (length (xcharstring .now)) ∷ [], (sliceVal (xbank .ptr) (length (xbank .now)) ∷ [], (machY rd ∷ [], (machZ m ∷ [], (sliceVal (bstems, ostems) mstems ∷ [], (sliceVal (bcommands, ocommands) mcommands ∷ [], (sliceVal (bout, oout) mout ∷ [], tt)))))))), tt) in
-      via 𝓤 (ConvertCharstringTransformedC 𝓤 H A mem run′ .pre y) (qed W (((‵ (flft κcharstring qcharstring) ⊛ ‵ (ShrSlice (named 0) κcharstring u8 .own xcharstring (sliceVal (xcharstring .ptr) (length (xcharstring .now)) ∷ []))) ⊛ ((‵ (flft κbank qbank) ⊛ ‵ (ShrSlice (named 0) κbank u8 .own xbank (sliceVal (xbank .ptr) (length (xbank .now)) ∷ []))) ⊛ ((‵ (flft κstems qstems) ⊛ ‵ (Own T.the-row mstems bstems ostems κstems γstems ysstems)) ⊛ ((‵ (flft κcommands qcommands) ⊛ ‵ (Own u64 mcommands bcommands ocommands κcommands γcommands yscommands)) ⊛ (‵ (flft κout qout) ⊛ ‵ (Own u8 mout bout oout κout γout ysout)))))) ∷ []) ∵ split ! $ move ! (1 ∷ []) $ split ! $ move ! (1 ∷ []) $ split ! $ move ! (1 ∷ []) $ split ! $ move ! (4 ∷ []) $ split ! $ move ! (5 ∷ []) $ split ! $ move ! (6 ∷ []) $ split ! $ move ! (6 ∷ []) $ split ! $ move ! (8 ∷ []) $ split ! $ nothing ! $ move ! (2 ∷ 0 ∷ []) $ fjoin ! $ move ! (3 ∷ 0 ∷ []) $ fjoin ! $ move ! (4 ∷ 0 ∷ []) $ fjoin ! $ owned ! Z.the-row (Is Z.the-row) (LL.makes Z.the-type Z′.the-plain 𝓤 H A) m _ m-fits $ fjoin ! $ owned ! Y.the-row (Is Y.the-row) (LL.makes Y.the-type Y′.the-plain 𝓤 H A) rd _ rd-fits $ fjoin ! $ move ! (5 ∷ 0 ∷ []) $ fjoin ! $ move ! (6 ∷ 0 ∷ []) $ fjoin ! $ nothing ! $ move ! (2 ∷ 0 ∷ []) $ join ! $ move ! (2 ∷ 0 ∷ []) $ join ! $ move ! (2 ∷ 0 ∷ []) $ join ! $ move ! (2 ∷ 0 ∷ []) $ join ! $ move ! (2 ∷ 0 ∷ []) $ join ! $ join ! $ frame ! $ done !) (known y)
+      via 𝓤 (ConvertCharstringTransformedC 𝓤 H A mem run′ .pre y) (qed W (((‵ (flft κcharstring qcharstring) ⊛ ‵ (ShrSlice (named 0) κcharstring u8 .own xcharstring (sliceVal (xcharstring .ptr) (length (xcharstring .now)) ∷ []))) ⊛ ((‵ (flft κbank qbank) ⊛ ‵ (ShrSlice (named 0) κbank u8 .own xbank (sliceVal (xbank .ptr) (length (xbank .now)) ∷ []))) ⊛ ((‵ (flft κstems qstems)
+      ⊛ ‵ (Own T.the-row mstems bstems ostems κstems γstems ysstems)) ⊛ ((‵ (flft κcommands qcommands) ⊛ ‵ (Own u64 mcommands bcommands ocommands κcommands γcommands yscommands)) ⊛ (‵ (flft κout qout) ⊛ ‵ (Own u8 mout bout oout κout γout ysout)))))) ∷ []) ∵ split ! $ move ! (1 ∷ []) $ split ! $ move ! (1 ∷ []) $ split ! $ move ! (1 ∷ []) $ split ! $ move ! (4 ∷ []) $ split ! $ move ! (5 ∷ []) $
+      split ! $ move ! (6 ∷ []) $ split ! $ move ! (6 ∷ []) $ split ! $ move ! (8 ∷ []) $ split ! $ nothing ! $ move ! (2 ∷ 0 ∷ []) $ fjoin ! $ move ! (3 ∷ 0 ∷ []) $ fjoin ! $ move ! (4 ∷ 0 ∷ []) $ fjoin ! $ owned ! Z.the-row (Is Z.the-row) (LL.makes Z.the-type Z′.the-plain 𝓤 H A) m _ m-fits $ fjoin ! $ owned ! Y.the-row (Is Y.the-row) (LL.makes Y.the-type Y′.the-plain 𝓤 H A) rd _ rd-fits $ fjoin ! $
+      move ! (5 ∷ 0 ∷ []) $ fjoin ! $ move ! (6 ∷ 0 ∷ []) $ fjoin ! $ nothing ! $ move ! (2 ∷ 0 ∷ []) $ join ! $ move ! (2 ∷ 0 ∷ []) $ join ! $ move ! (2 ∷ 0 ∷ []) $ join ! $ move ! (2 ∷ 0 ∷ []) $ join ! $ move ! (2 ∷ 0 ∷ []) $ join ! $ join ! $ frame ! $ done !) (known y)
 
   pub finish-glyph-as : Triple 𝓤 (C #agreement·finish-glyph) (FinishGlyphC 𝓤 H A mem run′) → (κprogram : Lft) (qprogram : Share) (xprogram : RefT (List ℕ)) (κout : Lft) (qout : Share) (mout bout oout : ℕ) (γout : GName) (ysout : List ℕ) (g : Type2Glyph) (p : Widths) → Is G.the-row g (machG g ∷ []) → Is X.the-row p (machX p ∷ [])
       → ent 𝓤 (mean 𝓤 H A ((‵ (flft κprogram qprogram) ⊛ ‵ (ShrSlice (named 0) κprogram u8 .own xprogram (sliceVal (xprogram .ptr) (length (xprogram .now)) ∷ []))) ⊛ (‵ (flft κout qout) ⊛ ‵ (Own u8 mout bout oout κout γout ysout)))) (C #agreement·finish-glyph (machG g ∷ machX p ∷ sliceVal (xprogram .ptr) (length (xprogram .now)) ∷ sliceVal (bout, oout) mout ∷ []) (λ w. mean 𝓤 H A (GotAll 𝓤 G.the-row (Unit {0} × (Unit {0} × (Unit {0} × (List ℕ × Unit {0})))) (λ (r : G.the-row .Denot) (lasts : (Unit {0} × (Unit {0} × (Unit {0} × (List ℕ × Unit {0}))))). Finishes g p (xprogram .now) (length ysout) r (lasts .1 .1 .1 .0)) (λ (lasts : (Unit {0} × (Unit {0} × (Unit {0} × (List ℕ × Unit {0}))))). (fsep ftrue (fsep ftrue (fsep ftrue (fsep (fsep (finally u8 γout (lasts .1 .1 .1 .0)) (feq ℕ (length (lasts .1 .1 .1 .0)) (length ysout))) ftrue))))) (‵ (flft κprogram qprogram) ⊛ (‵ (flft κout qout) ⊛ ‵ ftrue)) w)))

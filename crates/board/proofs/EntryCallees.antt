@@ -109,7 +109,16 @@ module _ {M : Type 1} (𝓤 : URA M) (H : Heap 𝓤) (A : Atoms 𝓤) (mem : Mem
       via 𝓤 (PutGlyphC 𝓤 H A mem run′ .pre y) (qed W ((‵ (flft κanswer qanswer) ⊛ ‵ (OwnR (Array u64 4) banswer oanswer κanswer γanswer ysanswer)) ∷ []) ∵ says ! need $ split ! $ nothing ! $ move ! (2 ∷ 0 ∷ []) $ fjoin ! $ owned ! G.the-row (Is G.the-row) (LL.makes G.the-type G′.the-plain 𝓤 H A) g _ g-fits $ fjoin ! $ nothing ! $ move ! (2 ∷ 0 ∷ []) $ join ! $ frame ! $ done !) (known y)
 
   pub convert-finished-as : Triple 𝓤 (C #agreement·convert-finished) (ConvertFinishedC 𝓤 H A mem run′) → (κcharstring : Lft) (qcharstring : Share) (xcharstring : RefT (List ℕ)) (κbank : Lft) (qbank : Share) (xbank : RefT (List ℕ)) (κstems : Lft) (qstems : Share) (mstems bstems ostems : ℕ) (γstems : GName) (ysstems : List Stem) (κcommands : Lft) (qcommands : Share) (mcommands bcommands ocommands : ℕ) (γcommands : GName) (yscommands : List ℕ) (κprogram : Lft) (qprogram : Share) (mprogram bprogram oprogram : ℕ) (γprogram : GName) (ysprogram : List ℕ) (κout : Lft) (qout : Share) (mout bout oout : ℕ) (γout : GName) (ysout : List ℕ) (rd : Reading) (m : Matrix) (p : Widths) → Is Y.the-row rd (machY rd ∷ []) → Is Z.the-row m (machZ m ∷ []) → Is X.the-row p (machX p ∷ [])
-      → ent 𝓤 (mean 𝓤 H A ((‵ (flft κcharstring qcharstring) ⊛ ‵ (ShrSlice (named 0) κcharstring u8 .own xcharstring (sliceVal (xcharstring .ptr) (length (xcharstring .now)) ∷ []))) ⊛ ((‵ (flft κbank qbank) ⊛ ‵ (ShrSlice (named 0) κbank u8 .own xbank (sliceVal (xbank .ptr) (length (xbank .now)) ∷ []))) ⊛ ((‵ (flft κstems qstems) ⊛ ‵ (Own T.the-row mstems bstems ostems κstems γstems ysstems)) ⊛ ((‵ (flft κcommands qcommands) ⊛ ‵ (Own u64 mcommands bcommands ocommands κcommands γcommands yscommands)) ⊛ ((‵ (flft κprogram qprogram) ⊛ ‵ (Own u8 mprogram bprogram oprogram κprogram γprogram ysprogram)) ⊛ (‵ (flft κout qout) ⊛ ‵ (Own u8 mout bout oout κout γout ysout)))))))) (C #agreement·convert-finished (sliceVal (xcharstring .ptr) (length (xcharstring .now)) ∷ sliceVal (xbank .ptr) (length (xbank .now)) ∷ machY rd ∷ machZ m ∷ machX p ∷ sliceVal (bstems, ostems) mstems ∷ sliceVal (bcommands, ocommands) mcommands ∷ sliceVal (bprogram, oprogram) mprogram ∷ sliceVal (bout, oout) mout ∷ []) (λ w. mean 𝓤 H A (GotAll 𝓤 G.the-row (Unit {0} × (Unit {0} × (Unit {0} × (Unit {0} × (Unit {0} × (List Stem × (List ℕ × (List ℕ × (List ℕ × Unit {0}))))))))) (λ (r : G.the-row .Denot) (lasts : (Unit {0} × (Unit {0} × (Unit {0} × (Unit {0} × (Unit {0} × (List Stem × (List ℕ × (List ℕ × (List ℕ × Unit {0})))))))))). ConvertsFinished (sourceOf (xcharstring .now) (xbank .now)) rd m p (roomsOf ysstems yscommands ysprogram) (length ysout) r (lasts .1 .1 .1 .1 .1 .0) (lasts .1 .1 .1 .1 .1 .1 .0) (lasts .1 .1 .1 .1 .1 .1 .1 .0) (lasts .1 .1 .1 .1 .1 .1 .1 .1 .0)) (λ (lasts : (Unit {0} × (Unit {0} × (Unit {0} × (Unit {0} × (Unit {0} × (List Stem × (List ℕ × (List ℕ × (List ℕ × Unit {0})))))))))). (fsep ftrue (fsep ftrue (fsep ftrue (fsep ftrue (fsep ftrue (fsep (fsep (finally T.the-row γstems (lasts .1 .1 .1 .1 .1 .0)) (feq ℕ (length (lasts .1 .1 .1 .1 .1 .0)) (length ysstems))) (fsep (fsep (finally u64 γcommands (lasts .1 .1 .1 .1 .1 .1 .0)) (feq ℕ (length (lasts .1 .1 .1 .1 .1 .1 .0)) (length yscommands))) (fsep (fsep (finally u8 γprogram (lasts .1 .1 .1 .1 .1 .1 .1 .0)) (feq ℕ (length (lasts .1 .1 .1 .1 .1 .1 .1 .0)) (length ysprogram))) (fsep (fsep (finally u8 γout (lasts .1 .1 .1 .1 .1 .1 .1 .1 .0)) (feq ℕ (length (lasts .1 .1 .1 .1 .1 .1 .1 .1 .0)) (length ysout))) ftrue)))))))))) (‵ (flft κcharstring qcharstring) ⊛ (‵ (flft κbank qbank) ⊛ (‵ (flft κstems qstems) ⊛ (‵ (flft κcommands qcommands) ⊛ (‵ (flft κprogram qprogram) ⊛ (‵ (flft κout qout) ⊛ ‵ ftrue)))))) w)))
+      → ent 𝓤 (mean 𝓤 H A ((‵ (flft κcharstring qcharstring) ⊛ ‵ (ShrSlice (named 0) κcharstring u8 .own xcharstring (sliceVal (xcharstring .ptr) (length (xcharstring .now)) ∷ []))) ⊛ ((‵ (flft κbank qbank) ⊛ ‵ (ShrSlice (named 0) κbank u8 .own xbank (sliceVal (xbank .ptr) (length (xbank .now)) ∷ []))) ⊛ ((‵ (flft κstems qstems) ⊛ ‵ (Own T.the-row mstems bstems ostems κstems γstems ysstems))
+      ⊛ ((‵ (flft κcommands qcommands) ⊛ ‵ (Own u64 mcommands bcommands ocommands κcommands γcommands yscommands)) ⊛ ((‵ (flft κprogram qprogram) ⊛ ‵ (Own u8 mprogram bprogram oprogram κprogram γprogram ysprogram)) ⊛ (‵ (flft κout qout)
+      ⊛ ‵ (Own u8 mout bout oout κout γout ysout)))))))) (C #agreement·convert-finished (sliceVal (xcharstring .ptr) (length (xcharstring .now)) ∷ sliceVal (xbank .ptr) (length (xbank .now)) ∷ machY rd ∷ machZ m ∷ machX p ∷ sliceVal (bstems, ostems) mstems ∷ sliceVal (bcommands, ocommands) mcommands ∷ sliceVal (bprogram, oprogram) mprogram ∷ sliceVal (bout, oout) mout ∷ [])
+      (λ w. mean 𝓤 H A (GotAll 𝓤 G.the-row (Unit {0} × (Unit {0} × (Unit {0} × (Unit {0} × (Unit {0} × (List Stem × (List ℕ × (List ℕ × (List ℕ × Unit {0})))))))))
+      (λ (r : G.the-row .Denot) (lasts : (Unit {0} × (Unit {0} × (Unit {0} × (Unit {0} × (Unit {0} × (List Stem × (List ℕ × (List ℕ × (List ℕ × Unit {0})))))))))). ConvertsFinished (sourceOf (xcharstring .now) (xbank .now)) rd m p (roomsOf ysstems yscommands ysprogram) (length ysout) r (lasts .1 .1 .1 .1 .1 .0) (lasts .1 .1 .1 .1 .1 .1 .0) (lasts .1 .1 .1 .1 .1 .1 .1 .0) (lasts .1 .1 .1 .1 .1 .1 .1 .1 .0))
+      (λ (lasts : (Unit {0} × (Unit {0} × (Unit {0} × (Unit {0} × (Unit {0} × (List Stem × (List ℕ × (List ℕ × (List ℕ × Unit {0})))))))))). (fsep ftrue (fsep ftrue (fsep ftrue (fsep ftrue (fsep ftrue (fsep (fsep (finally T.the-row γstems (lasts .1 .1 .1 .1 .1 .0)) (feq ℕ (length (lasts .1 .1 .1 .1 .1 .0)) (length ysstems))) (fsep (fsep (finally u64 γcommands (lasts .1 .1 .1 .1 .1 .1 .0)) (feq ℕ (length (lasts .1 .1 .1 .1 .1 .1 .0)) (length yscommands))) (fsep (fsep (finally u8 γprogram (lasts .1 .1 .1 .1 .1 .1 .1 .0)) (feq ℕ (length (lasts .1 .1 .1 .1 .1 .1 .1 .0)) (length ysprogram))) (fsep (fsep (finally u8 γout (lasts .1 .1 .1 .1 .1 .1 .1 .1 .0)) (feq ℕ (length (lasts .1 .1 .1 .1 .1 .1 .1 .1 .0)) (length ysout))) ftrue)))))))))) (‵ (flft κcharstring qcharstring)
+      ⊛ (‵ (flft κbank qbank) ⊛ (‵ (flft κstems qstems) ⊛ (‵ (flft κcommands qcommands) ⊛ (‵ (flft κprogram qprogram) ⊛ (‵ (flft κout qout) ⊛ ‵ ftrue)))))) w)))
   convert-finished-as known κcharstring qcharstring xcharstring κbank qbank xbank κstems qstems mstems bstems ostems γstems ysstems κcommands qcommands mcommands bcommands ocommands γcommands yscommands κprogram qprogram mprogram bprogram oprogram γprogram ysprogram κout qout mout bout oout γout ysout rd m p rd-fits m-fits p-fits =
       let y : ConvertFinishedC 𝓤 H A mem run′ .Ghost = (((κcharstring, (κbank, (κstems, (κcommands, (κprogram, (κout, tt)))))), (qcharstring, (qbank, (qstems, (qcommands, (qprogram, (qout, tt)))))), tt, (xcharstring, (xbank, (rd, (m, (p, (at-list T.the-row mstems bstems ostems γstems ysstems, (at-list u64 mcommands bcommands ocommands γcommands yscommands, (at-list u8 mprogram bprogram oprogram γprogram ysprogram, (at-list u8 mout bout oout γout ysout, tt))))))))), (sliceVal (xcharstring .ptr) (length (xcharstring .now)) ∷ [], (sliceVal (xbank .ptr) (length (xbank .now)) ∷ [], (machY rd ∷ [], (machZ m ∷ [], (machX p ∷ [], (sliceVal (bstems, ostems) mstems ∷ [], (sliceVal (bcommands, ocommands) mcommands ∷ [], (sliceVal (bprogram, oprogram) mprogram ∷ [], (sliceVal (bout, oout) mout ∷ [], tt)))))))))), tt) in
-      via 𝓤 (ConvertFinishedC 𝓤 H A mem run′ .pre y) (qed W (((‵ (flft κcharstring qcharstring) ⊛ ‵ (ShrSlice (named 0) κcharstring u8 .own xcharstring (sliceVal (xcharstring .ptr) (length (xcharstring .now)) ∷ []))) ⊛ ((‵ (flft κbank qbank) ⊛ ‵ (ShrSlice (named 0) κbank u8 .own xbank (sliceVal (xbank .ptr) (length (xbank .now)) ∷ []))) ⊛ ((‵ (flft κstems qstems) ⊛ ‵ (Own T.the-row mstems bstems ostems κstems γstems ysstems)) ⊛ ((‵ (flft κcommands qcommands) ⊛ ‵ (Own u64 mcommands bcommands ocommands κcommands γcommands yscommands)) ⊛ ((‵ (flft κprogram qprogram) ⊛ ‵ (Own u8 mprogram bprogram oprogram κprogram γprogram ysprogram)) ⊛ (‵ (flft κout qout) ⊛ ‵ (Own u8 mout bout oout κout γout ysout))))))) ∷ []) ∵ split ! $ move ! (1 ∷ []) $ split ! $ move ! (1 ∷ []) $ split ! $ move ! (1 ∷ []) $ split ! $ move ! (1 ∷ []) $ split ! $ move ! (5 ∷ []) $ split ! $ move ! (6 ∷ []) $ split ! $ move ! (7 ∷ []) $ split ! $ move ! (8 ∷ []) $ split ! $ move ! (8 ∷ []) $ split ! $ move ! (10 ∷ []) $ split ! $ nothing ! $ move ! (2 ∷ 0 ∷ []) $ fjoin ! $ move ! (3 ∷ 0 ∷ []) $ fjoin ! $ move ! (4 ∷ 0 ∷ []) $ fjoin ! $ move ! (5 ∷ 0 ∷ []) $ fjoin ! $ owned ! X.the-row (Is X.the-row) (LL.makes X.the-type X′.the-plain 𝓤 H A) p _ p-fits $ fjoin ! $ owned ! Z.the-row (Is Z.the-row) (LL.makes Z.the-type Z′.the-plain 𝓤 H A) m _ m-fits $ fjoin ! $ owned ! Y.the-row (Is Y.the-row) (LL.makes Y.the-type Y′.the-plain 𝓤 H A) rd _ rd-fits $ fjoin ! $ move ! (6 ∷ 0 ∷ []) $ fjoin ! $ move ! (7 ∷ 0 ∷ []) $ fjoin ! $ nothing ! $ move ! (2 ∷ 0 ∷ []) $ join ! $ move ! (2 ∷ 0 ∷ []) $ join ! $ move ! (2 ∷ 0 ∷ []) $ join ! $ move ! (2 ∷ 0 ∷ []) $ join ! $ move ! (2 ∷ 0 ∷ []) $ join ! $ move ! (2 ∷ 0 ∷ []) $ join ! $ join ! $ frame ! $ done !) (known y)
+      via 𝓤 (ConvertFinishedC 𝓤 H A mem run′ .pre y) (qed W (((‵ (flft κcharstring qcharstring) ⊛ ‵ (ShrSlice (named 0) κcharstring u8 .own xcharstring (sliceVal (xcharstring .ptr) (length (xcharstring .now)) ∷ []))) ⊛ ((‵ (flft κbank qbank) ⊛ ‵ (ShrSlice (named 0) κbank u8 .own xbank (sliceVal (xbank .ptr) (length (xbank .now)) ∷ []))) ⊛ ((‵ (flft κstems qstems)
+      ⊛ ‵ (Own T.the-row mstems bstems ostems κstems γstems ysstems)) ⊛ ((‵ (flft κcommands qcommands) ⊛ ‵ (Own u64 mcommands bcommands ocommands κcommands γcommands yscommands)) ⊛ ((‵ (flft κprogram qprogram) ⊛ ‵ (Own u8 mprogram bprogram oprogram κprogram γprogram ysprogram)) ⊛ (‵ (flft κout qout) ⊛ ‵ (Own u8 mout bout oout κout γout ysout))))))) ∷ []) ∵ split ! $ move ! (1 ∷ []) $ split ! $
+      move ! (1 ∷ []) $ split ! $ move ! (1 ∷ []) $ split ! $ move ! (1 ∷ []) $ split ! $ move ! (5 ∷ []) $ split ! $ move ! (6 ∷ []) $ split ! $ move ! (7 ∷ []) $ split ! $ move ! (8 ∷ []) $ split ! $ move ! (8 ∷ []) $ split ! $ move ! (10 ∷ []) $ split ! $ nothing ! $ move ! (2 ∷ 0 ∷ []) $ fjoin ! $ move ! (3 ∷ 0 ∷ []) $ fjoin ! $ move ! (4 ∷ 0 ∷ []) $ fjoin ! $ move ! (5 ∷ 0 ∷ []) $ fjoin ! $
+      owned ! X.the-row (Is X.the-row) (LL.makes X.the-type X′.the-plain 𝓤 H A) p _ p-fits $ fjoin ! $ owned ! Z.the-row (Is Z.the-row) (LL.makes Z.the-type Z′.the-plain 𝓤 H A) m _ m-fits $ fjoin ! $ owned ! Y.the-row (Is Y.the-row) (LL.makes Y.the-type Y′.the-plain 𝓤 H A) rd _ rd-fits $ fjoin ! $ move ! (6 ∷ 0 ∷ []) $ fjoin ! $ move ! (7 ∷ 0 ∷ []) $ fjoin ! $ nothing ! $ move ! (2 ∷ 0 ∷ []) $ join ! $ move ! (2 ∷ 0 ∷ []) $ join ! $ move ! (2 ∷ 0 ∷ []) $ join ! $ move ! (2 ∷ 0 ∷ []) $ join ! $ move ! (2 ∷ 0 ∷ []) $ join ! $ move ! (2 ∷ 0 ∷ []) $ join ! $ join ! $ frame ! $ done !) (known y)

@@ -137,14 +137,69 @@ module _ {M : Type 1} (𝓤 : URA M) (H : Heap 𝓤) (A : Atoms 𝓤) (mem : Mem
       let y : AnswerC 𝓤 H A mem run′ .Ghost = (((κcells, tt), (qcells, tt), tt, (st, (xcells, tt)), (machS st ∷ [], (vptr (xcells .ptr .0) (xcells .ptr .1) ∷ [], tt))), tt) in
       via 𝓤 (AnswerC 𝓤 H A mem run′ .pre y) (qed W ((‵ (flft κcells qcells) ⊛ ‵ (ShrRef (named 0) κcells (Array f64 17) .own xcells (vptr (xcells .ptr .0) (xcells .ptr .1) ∷ []))) ∷ []) ∵ split ! $ nothing ! $ move ! (2 ∷ 0 ∷ []) $ fjoin ! $ owned ! S.the-row (Is S.the-row) (LL.makes S.the-type S′.the-plain 𝓤 H A) st _ st-fits $ fjoin ! $ nothing ! $ move ! (2 ∷ 0 ∷ []) $ join ! $ join ! $ frame ! $ done !) (known y)
 
-  pub run-as : Triple 𝓤 (C #type1·run·run) (RunC 𝓤 H A mem run′) → (κcode : Lft) (qcode : Share) (xcode : RefT (List ℕ)) (κbank : Lft) (qbank : Share) (xbank : RefT (List ℕ)) (κops : Lft) (qops : Share) (bops oops : ℕ) (γops : GName) (ysops : List Float) (κps : Lft) (qps : Share) (bps ops : ℕ) (γps : GName) (ysps : List Float) (κcells : Lft) (qcells : Share) (bcells ocells : ℕ) (γcells : GName) (yscells : List Float) (κedges : Lft) (qedges : Share) (bedges oedges : ℕ) (γedges : GName) (ysedges : List Float) (κacross : Lft) (qacross : Share) (bacross oacross : ℕ) (γacross : GName) (ysacross : List Bool) (κcmds : Lft) (qcmds : Share) (mcmds bcmds ocmds : ℕ) (γcmds : GName) (yscmds : List ℕ) (κstems : Lft) (qstems : Share) (mstems bstems ostems : ℕ) (γstems : GName) (ysstems : List Stem) (rd : Reading) (levels : ℕ) (st : St) → Is Y.the-row rd (machY rd ∷ []) → levels < 2 ^ 64 → Is S.the-row st (machS st ∷ []) → (levels < 100) × (Valid (xbank .now) × Ready st (memOf ysops ysps yscells ysedges ysacross yscmds ysstems))
-      → ent 𝓤 (mean 𝓤 H A ((‵ (flft κcode qcode) ⊛ ‵ (ShrSlice (named 0) κcode u8 .own xcode (sliceVal (xcode .ptr) (length (xcode .now)) ∷ []))) ⊛ ((‵ (flft κbank qbank) ⊛ ‵ (ShrSlice (named 0) κbank u8 .own xbank (sliceVal (xbank .ptr) (length (xbank .now)) ∷ []))) ⊛ ((‵ (flft κops qops) ⊛ ‵ (OwnR (Array f64 256) bops oops κops γops ysops)) ⊛ ((‵ (flft κps qps) ⊛ ‵ (OwnR (Array f64 256) bps ops κps γps ysps)) ⊛ ((‵ (flft κcells qcells) ⊛ ‵ (OwnR (Array f64 17) bcells ocells κcells γcells yscells)) ⊛ ((‵ (flft κedges qedges) ⊛ ‵ (OwnR (Array f64 512) bedges oedges κedges γedges ysedges)) ⊛ ((‵ (flft κacross qacross) ⊛ ‵ (OwnR (Array bool 256) bacross oacross κacross γacross ysacross)) ⊛ ((‵ (flft κcmds qcmds) ⊛ ‵ (Own u64 mcmds bcmds ocmds κcmds γcmds yscmds)) ⊛ (‵ (flft κstems qstems) ⊛ ‵ (Own T.the-row mstems bstems ostems κstems γstems ysstems))))))))))) (C #type1·run·run (sliceVal (xcode .ptr) (length (xcode .now)) ∷ sliceVal (xbank .ptr) (length (xbank .now)) ∷ machY rd ∷ vint w64 levels ∷ machS st ∷ vptr bops oops ∷ vptr bps ops ∷ vptr bcells ocells ∷ vptr bedges oedges ∷ vptr bacross oacross ∷ sliceVal (bcmds, ocmds) mcmds ∷ sliceVal (bstems, ostems) mstems ∷ []) (λ w. mean 𝓤 H A (GotAll 𝓤 N.the-row (Unit {0} × (Unit {0} × (Unit {0} × (Unit {0} × (Unit {0} × (List Float × (List Float × (List Float × (List Float × (List Bool × (List ℕ × (List Stem × Unit {0})))))))))))) (λ (r : N.the-row .Denot) (lasts : (Unit {0} × (Unit {0} × (Unit {0} × (Unit {0} × (Unit {0} × (List Float × (List Float × (List Float × (List Float × (List Bool × (List ℕ × (List Stem × Unit {0}))))))))))))). MeetsFrom r (memOf (lasts .1 .1 .1 .1 .1 .0) (lasts .1 .1 .1 .1 .1 .1 .0) (lasts .1 .1 .1 .1 .1 .1 .1 .0) (lasts .1 .1 .1 .1 .1 .1 .1 .1 .0) (lasts .1 .1 .1 .1 .1 .1 .1 .1 .1 .0) (lasts .1 .1 .1 .1 .1 .1 .1 .1 .1 .1 .0) (lasts .1 .1 .1 .1 .1 .1 .1 .1 .1 .1 .1 .0)) (runD (xbank .now) rd levels (xcode .now) st (memOf ysops ysps yscells ysedges ysacross yscmds ysstems))) (λ (lasts : (Unit {0} × (Unit {0} × (Unit {0} × (Unit {0} × (Unit {0} × (List Float × (List Float × (List Float × (List Float × (List Bool × (List ℕ × (List Stem × Unit {0}))))))))))))). (fsep ftrue (fsep ftrue (fsep ftrue (fsep ftrue (fsep ftrue (fsep (fres γops ((Array f64 256) .coded .code (lasts .1 .1 .1 .1 .1 .0))) (fsep (fres γps ((Array f64 256) .coded .code (lasts .1 .1 .1 .1 .1 .1 .0))) (fsep (fres γcells ((Array f64 17) .coded .code (lasts .1 .1 .1 .1 .1 .1 .1 .0))) (fsep (fres γedges ((Array f64 512) .coded .code (lasts .1 .1 .1 .1 .1 .1 .1 .1 .0))) (fsep (fres γacross ((Array bool 256) .coded .code (lasts .1 .1 .1 .1 .1 .1 .1 .1 .1 .0))) (fsep (fsep (finally u64 γcmds (lasts .1 .1 .1 .1 .1 .1 .1 .1 .1 .1 .0)) (feq ℕ (length (lasts .1 .1 .1 .1 .1 .1 .1 .1 .1 .1 .0)) (length yscmds))) (fsep (fsep (finally T.the-row γstems (lasts .1 .1 .1 .1 .1 .1 .1 .1 .1 .1 .1 .0)) (feq ℕ (length (lasts .1 .1 .1 .1 .1 .1 .1 .1 .1 .1 .1 .0)) (length ysstems))) ftrue))))))))))))) (‵ (flft κcode qcode) ⊛ (‵ (flft κbank qbank) ⊛ (‵ (flft κops qops) ⊛ (‵ (flft κps qps) ⊛ (‵ (flft κcells qcells) ⊛ (‵ (flft κedges qedges) ⊛ (‵ (flft κacross qacross) ⊛ (‵ (flft κcmds qcmds) ⊛ (‵ (flft κstems qstems) ⊛ ‵ ftrue))))))))) w)))
+  pub run-as : Triple 𝓤 (C #type1·run·run) (RunC 𝓤 H A mem run′)
+      → (κcode : Lft) (qcode : Share) (xcode : RefT (List ℕ)) (κbank : Lft) (qbank : Share) (xbank : RefT (List ℕ)) (κops : Lft) (qops : Share) (bops oops : ℕ) (γops : GName) (ysops : List Float) (κps : Lft) (qps : Share) (bps ops : ℕ) (γps : GName) (ysps : List Float) (κcells : Lft) (qcells : Share) (bcells ocells : ℕ) (γcells : GName)
+      (yscells : List Float) (κedges : Lft) (qedges : Share) (bedges oedges : ℕ) (γedges : GName) (ysedges : List Float) (κacross : Lft) (qacross : Share) (bacross oacross : ℕ) (γacross : GName) (ysacross : List Bool) (κcmds : Lft) (qcmds : Share) (mcmds bcmds ocmds : ℕ) (γcmds : GName) (yscmds : List ℕ) (κstems : Lft) (qstems : Share) (mstems bstems ostems : ℕ) (γstems : GName)
+      (ysstems : List Stem) (rd : Reading) (levels : ℕ) (st : St) → Is Y.the-row rd (machY rd ∷ []) → levels < 2 ^ 64 → Is S.the-row st (machS st ∷ []) → (levels < 100) × (Valid (xbank .now) × Ready st (memOf ysops ysps yscells ysedges ysacross yscmds ysstems))
+      → ent 𝓤 (mean 𝓤 H A ((‵ (flft κcode qcode) ⊛ ‵ (ShrSlice (named 0) κcode u8 .own xcode (sliceVal (xcode .ptr) (length (xcode .now)) ∷ []))) ⊛ ((‵ (flft κbank qbank) ⊛ ‵ (ShrSlice (named 0) κbank u8 .own xbank (sliceVal (xbank .ptr) (length (xbank .now)) ∷ []))) ⊛ ((‵ (flft κops qops) ⊛ ‵ (OwnR (Array f64 256) bops oops κops γops ysops)) ⊛ ((‵ (flft κps qps)
+      ⊛ ‵ (OwnR (Array f64 256) bps ops κps γps ysps)) ⊛ ((‵ (flft κcells qcells) ⊛ ‵ (OwnR (Array f64 17) bcells ocells κcells γcells yscells)) ⊛ ((‵ (flft κedges qedges) ⊛ ‵ (OwnR (Array f64 512) bedges oedges κedges γedges ysedges)) ⊛ ((‵ (flft κacross qacross) ⊛ ‵ (OwnR (Array bool 256) bacross oacross κacross γacross ysacross)) ⊛ ((‵ (flft κcmds qcmds)
+      ⊛ ‵ (Own u64 mcmds bcmds ocmds κcmds γcmds yscmds)) ⊛ (‵ (flft κstems qstems)
+      ⊛ ‵ (Own T.the-row mstems bstems ostems κstems γstems ysstems))))))))))) (C #type1·run·run (sliceVal (xcode .ptr) (length (xcode .now)) ∷ sliceVal (xbank .ptr) (length (xbank .now)) ∷ machY rd ∷ vint w64 levels ∷ machS st ∷ vptr bops oops ∷ vptr bps ops ∷ vptr bcells ocells ∷ vptr bedges oedges ∷ vptr bacross oacross ∷ sliceVal (bcmds, ocmds) mcmds ∷ sliceVal (bstems, ostems) mstems ∷ [])
+      (λ w. mean 𝓤 H A (GotAll 𝓤 N.the-row (Unit {0} × (Unit {0} × (Unit {0} × (Unit {0} × (Unit {0} × (List Float × (List Float × (List Float × (List Float × (List Bool × (List ℕ × (List Stem × Unit {0}))))))))))))
+      (λ (r : N.the-row .Denot) (lasts : (Unit {0} × (Unit {0} × (Unit {0} × (Unit {0} × (Unit {0} × (List Float × (List Float × (List Float × (List Float × (List Bool × (List ℕ × (List Stem × Unit {0}))))))))))))). MeetsFrom r (memOf (lasts .1 .1 .1 .1 .1 .0) (lasts .1 .1 .1 .1 .1 .1 .0) (lasts .1 .1 .1 .1 .1 .1 .1 .0) (lasts .1 .1 .1 .1 .1 .1 .1 .1 .0) (lasts .1 .1 .1 .1 .1 .1 .1 .1 .1 .0) (lasts .1 .1 .1 .1 .1 .1 .1 .1 .1 .1 .0) (lasts .1 .1 .1 .1 .1 .1 .1 .1 .1 .1 .1 .0)) (runD (xbank .now) rd levels (xcode .now) st (memOf ysops ysps yscells ysedges ysacross yscmds ysstems)))
+      (λ (lasts : (Unit {0} × (Unit {0} × (Unit {0} × (Unit {0} × (Unit {0} × (List Float × (List Float × (List Float × (List Float × (List Bool × (List ℕ × (List Stem × Unit {0}))))))))))))). (fsep ftrue (fsep ftrue (fsep ftrue (fsep ftrue (fsep ftrue (fsep (fres γops ((Array f64 256) .coded .code (lasts .1 .1 .1 .1 .1 .0))) (fsep (fres γps ((Array f64 256) .coded .code (lasts .1 .1 .1 .1 .1 .1 .0)))
+      (fsep (fres γcells ((Array f64 17) .coded .code (lasts .1 .1 .1 .1 .1 .1 .1 .0))) (fsep (fres γedges ((Array f64 512) .coded .code (lasts .1 .1 .1 .1 .1 .1 .1 .1 .0))) (fsep (fres γacross ((Array bool 256) .coded .code (lasts .1 .1 .1 .1 .1 .1 .1 .1 .1 .0))) (fsep (fsep (finally u64 γcmds (lasts .1 .1 .1 .1 .1 .1 .1 .1 .1 .1 .0)) (feq ℕ (length (lasts .1 .1 .1 .1 .1 .1 .1 .1 .1 .1 .0))
+      (length yscmds))) (fsep (fsep (finally T.the-row γstems (lasts .1 .1 .1 .1 .1 .1 .1 .1 .1 .1 .1 .0)) (feq ℕ (length (lasts .1 .1 .1 .1 .1 .1 .1 .1 .1 .1 .1 .0)) (length ysstems))) ftrue))))))))))))) (‵ (flft κcode qcode)
+      ⊛ (‵ (flft κbank qbank) ⊛ (‵ (flft κops qops) ⊛ (‵ (flft κps qps) ⊛ (‵ (flft κcells qcells) ⊛ (‵ (flft κedges qedges) ⊛ (‵ (flft κacross qacross) ⊛ (‵ (flft κcmds qcmds) ⊛ (‵ (flft κstems qstems) ⊛ ‵ ftrue))))))))) w)))
   run-as known κcode qcode xcode κbank qbank xbank κops qops bops oops γops ysops κps qps bps ops γps ysps κcells qcells bcells ocells γcells yscells κedges qedges bedges oedges γedges ysedges κacross qacross bacross oacross γacross ysacross κcmds qcmds mcmds bcmds ocmds γcmds yscmds κstems qstems mstems bstems ostems γstems ysstems rd levels st rd-fits levels-fits st-fits need =
-      let y : RunC 𝓤 H A mem run′ .Ghost = (((κcode, (κbank, (κops, (κps, (κcells, (κedges, (κacross, (κcmds, (κstems, tt))))))))), (qcode, (qbank, (qops, (qps, (qcells, (qedges, (qacross, (qcmds, (qstems, tt))))))))), tt, (xcode, (xbank, (rd, (levels, (st, (at-one (Array f64 256) bops oops γops ysops, (at-one (Array f64 256) bps ops γps ysps, (at-one (Array f64 17) bcells ocells γcells yscells, (at-one (Array f64 512) bedges oedges γedges ysedges, (at-one (Array bool 256) bacross oacross γacross ysacross, (at-list u64 mcmds bcmds ocmds γcmds yscmds, (at-list T.the-row mstems bstems ostems γstems ysstems, tt)))))))))))), (sliceVal (xcode .ptr) (length (xcode .now)) ∷ [], (sliceVal (xbank .ptr) (length (xbank .now)) ∷ [], (machY rd ∷ [], (vint w64 levels ∷ [], (machS st ∷ [], (vptr bops oops ∷ [], (vptr bps ops ∷ [], (vptr bcells ocells ∷ [], (vptr bedges oedges ∷ [], (vptr bacross oacross ∷ [], (sliceVal (bcmds, ocmds) mcmds ∷ [], (sliceVal (bstems, ostems) mstems ∷ [], tt))))))))))))), tt) in
-      via 𝓤 (RunC 𝓤 H A mem run′ .pre y) (qed W (((‵ (flft κcode qcode) ⊛ ‵ (ShrSlice (named 0) κcode u8 .own xcode (sliceVal (xcode .ptr) (length (xcode .now)) ∷ []))) ⊛ ((‵ (flft κbank qbank) ⊛ ‵ (ShrSlice (named 0) κbank u8 .own xbank (sliceVal (xbank .ptr) (length (xbank .now)) ∷ []))) ⊛ ((‵ (flft κops qops) ⊛ ‵ (OwnR (Array f64 256) bops oops κops γops ysops)) ⊛ ((‵ (flft κps qps) ⊛ ‵ (OwnR (Array f64 256) bps ops κps γps ysps)) ⊛ ((‵ (flft κcells qcells) ⊛ ‵ (OwnR (Array f64 17) bcells ocells κcells γcells yscells)) ⊛ ((‵ (flft κedges qedges) ⊛ ‵ (OwnR (Array f64 512) bedges oedges κedges γedges ysedges)) ⊛ ((‵ (flft κacross qacross) ⊛ ‵ (OwnR (Array bool 256) bacross oacross κacross γacross ysacross)) ⊛ ((‵ (flft κcmds qcmds) ⊛ ‵ (Own u64 mcmds bcmds ocmds κcmds γcmds yscmds)) ⊛ (‵ (flft κstems qstems) ⊛ ‵ (Own T.the-row mstems bstems ostems κstems γstems ysstems)))))))))) ∷ []) ∵ says ! need $ split ! $ move ! (1 ∷ []) $ split ! $ move ! (1 ∷ []) $ split ! $ move ! (1 ∷ []) $ split ! $ move ! (1 ∷ []) $ split ! $ move ! (1 ∷ []) $ split ! $ move ! (1 ∷ []) $ split ! $ move ! (1 ∷ []) $ split ! $ move ! (8 ∷ []) $ split ! $ move ! (9 ∷ []) $ split ! $ move ! (10 ∷ []) $ split ! $ move ! (11 ∷ []) $ split ! $ move ! (12 ∷ []) $ split ! $ move ! (13 ∷ []) $ split ! $ move ! (14 ∷ []) $ split ! $ move ! (14 ∷ []) $ split ! $ move ! (16 ∷ []) $ split ! $ nothing ! $ move ! (2 ∷ 0 ∷ []) $ fjoin ! $ move ! (3 ∷ 0 ∷ []) $ fjoin ! $ move ! (4 ∷ 0 ∷ []) $ fjoin ! $ move ! (5 ∷ 0 ∷ []) $ fjoin ! $ move ! (6 ∷ 0 ∷ []) $ fjoin ! $ move ! (7 ∷ 0 ∷ []) $ fjoin ! $ move ! (8 ∷ 0 ∷ []) $ fjoin ! $ owned ! S.the-row (Is S.the-row) (LL.makes S.the-type S′.the-plain 𝓤 H A) st _ st-fits $ fjoin ! $ owned ! usize (Is usize) (uint-makes 𝓤 H A W w64) levels _ (refl, levels-fits) $ fjoin ! $ owned ! Y.the-row (Is Y.the-row) (LL.makes Y.the-type Y′.the-plain 𝓤 H A) rd _ rd-fits $ fjoin ! $ move ! (9 ∷ 0 ∷ []) $ fjoin ! $ move ! (10 ∷ 0 ∷ []) $ fjoin ! $ nothing ! $ move ! (2 ∷ 0 ∷ []) $ join ! $ move ! (2 ∷ 0 ∷ []) $ join ! $ move ! (2 ∷ 0 ∷ []) $ join ! $ move ! (2 ∷ 0 ∷ []) $ join ! $ move ! (2 ∷ 0 ∷ []) $ join ! $ move ! (2 ∷ 0 ∷ []) $ join ! $ move ! (2 ∷ 0 ∷ []) $ join ! $ move ! (2 ∷ 0 ∷ []) $ join ! $ move ! (2 ∷ 0 ∷ []) $ join ! $ frame ! $ done !) (known y)
+      let y : RunC 𝓤 H A mem run′ .Ghost = (
+        (
+          (κcode, (κbank, (κops, (κps, (κcells, (κedges, (κacross, (κcmds, (κstems, tt))))))))),
+          (qcode, (qbank, (qops, (qps, (qcells, (qedges, (qacross, (qcmds, (qstems, tt))))))))),
+          tt,
+          (xcode, (xbank, (rd, (levels, (st, (at-one (Array f64 256) bops oops γops ysops, (at-one (Array f64 256) bps ops γps ysps, (at-one (Array f64 17) bcells ocells γcells yscells, (at-one (Array f64 512) bedges oedges γedges ysedges, (at-one (Array bool 256) bacross oacross γacross ysacross, (at-list u64 mcmds bcmds ocmds γcmds yscmds, (at-list T.the-row mstems bstems ostems γstems ysstems, tt)))))))))))),
+          (
+            sliceVal (xcode .ptr) (length (xcode .now)) ∷
+                [],
+            (sliceVal (xbank .ptr) (length (xbank .now)) ∷ [], (machY rd ∷ [], (vint w64 levels ∷ [], (machS st ∷ [], (vptr bops oops ∷ [], (vptr bps ops ∷ [], (vptr bcells ocells ∷ [], (vptr bedges oedges ∷ [], (vptr bacross oacross ∷ [], (sliceVal (bcmds, ocmds) mcmds ∷ [], (sliceVal (bstems, ostems) mstems ∷ [], tt))))))))))),
+          ),
+        ),
+        tt,
+      ) in
+      via 𝓤 (RunC 𝓤 H A mem run′ .pre y) (qed W (((‵ (flft κcode qcode) ⊛ ‵ (ShrSlice (named 0) κcode u8 .own xcode (sliceVal (xcode .ptr) (length (xcode .now)) ∷ []))) ⊛ ((‵ (flft κbank qbank) ⊛ ‵ (ShrSlice (named 0) κbank u8 .own xbank (sliceVal (xbank .ptr) (length (xbank .now)) ∷ []))) ⊛ ((‵ (flft κops qops) ⊛ ‵ (OwnR (Array f64 256) bops oops κops γops ysops)) ⊛ ((‵ (flft κps qps)
+      ⊛ ‵ (OwnR (Array f64 256) bps ops κps γps ysps)) ⊛ ((‵ (flft κcells qcells) ⊛ ‵ (OwnR (Array f64 17) bcells ocells κcells γcells yscells)) ⊛ ((‵ (flft κedges qedges) ⊛ ‵ (OwnR (Array f64 512) bedges oedges κedges γedges ysedges)) ⊛ ((‵ (flft κacross qacross) ⊛ ‵ (OwnR (Array bool 256) bacross oacross κacross γacross ysacross)) ⊛ ((‵ (flft κcmds qcmds)
+      ⊛ ‵ (Own u64 mcmds bcmds ocmds κcmds γcmds yscmds)) ⊛ (‵ (flft κstems qstems) ⊛ ‵ (Own T.the-row mstems bstems ostems κstems γstems ysstems)))))))))) ∷ []) ∵ says ! need $ split ! $ move ! (1 ∷ []) $ split ! $ move ! (1 ∷ []) $ split ! $ move ! (1 ∷ []) $ split ! $ move ! (1 ∷ []) $ split ! $ move ! (1 ∷ []) $ split ! $ move ! (1 ∷ []) $ split ! $ move ! (1 ∷ []) $ split ! $ move ! (8 ∷ []) $
+      split ! $ move ! (9 ∷ []) $ split ! $ move ! (10 ∷ []) $ split ! $ move ! (11 ∷ []) $ split ! $ move ! (12 ∷ []) $ split ! $ move ! (13 ∷ []) $ split ! $ move ! (14 ∷ []) $ split ! $ move ! (14 ∷ []) $ split ! $ move ! (16 ∷ []) $ split ! $ nothing ! $ move ! (2 ∷ 0 ∷ []) $ fjoin ! $ move ! (3 ∷ 0 ∷ []) $ fjoin ! $ move ! (4 ∷ 0 ∷ []) $ fjoin ! $ move ! (5 ∷ 0 ∷ []) $ fjoin ! $
+      move ! (6 ∷ 0 ∷ []) $ fjoin ! $ move ! (7 ∷ 0 ∷ []) $ fjoin ! $ move ! (8 ∷ 0 ∷ []) $ fjoin ! $ owned ! S.the-row (Is S.the-row) (LL.makes S.the-type S′.the-plain 𝓤 H A) st _ st-fits $ fjoin ! $ owned ! usize (Is usize) (uint-makes 𝓤 H A W w64) levels _ (refl, levels-fits) $ fjoin ! $ owned ! Y.the-row (Is Y.the-row) (LL.makes Y.the-type Y′.the-plain 𝓤 H A) rd _ rd-fits $ fjoin ! $
+      move ! (9 ∷ 0 ∷ []) $ fjoin ! $ move ! (10 ∷ 0 ∷ []) $ fjoin ! $ nothing ! $ move ! (2 ∷ 0 ∷ []) $ join ! $ move ! (2 ∷ 0 ∷ []) $ join ! $ move ! (2 ∷ 0 ∷ []) $ join ! $ move ! (2 ∷ 0 ∷ []) $ join ! $ move ! (2 ∷ 0 ∷ []) $ join ! $ move ! (2 ∷ 0 ∷ []) $ join ! $ move ! (2 ∷ 0 ∷ []) $ join ! $ move ! (2 ∷ 0 ∷ []) $ join ! $ move ! (2 ∷ 0 ∷ []) $ join ! $ frame ! $ done !) (known y)
 
   pub interpret-as : Triple 𝓤 (C #type1·interpret) (InterpretC 𝓤 H A mem run′) → (κcharstring : Lft) (qcharstring : Share) (xcharstring : RefT (List ℕ)) (κbank : Lft) (qbank : Share) (xbank : RefT (List ℕ)) (κops : Lft) (qops : Share) (bops oops : ℕ) (γops : GName) (ysops : List Float) (κps : Lft) (qps : Share) (bps ops : ℕ) (γps : GName) (ysps : List Float) (κcells : Lft) (qcells : Share) (bcells ocells : ℕ) (γcells : GName) (yscells : List Float) (κedges : Lft) (qedges : Share) (bedges oedges : ℕ) (γedges : GName) (ysedges : List Float) (κacross : Lft) (qacross : Share) (bacross oacross : ℕ) (γacross : GName) (ysacross : List Bool) (κcommands : Lft) (qcommands : Share) (mcommands bcommands ocommands : ℕ) (γcommands : GName) (yscommands : List ℕ) (κstems : Lft) (qstems : Share) (mstems bstems ostems : ℕ) (γstems : GName) (ysstems : List Stem) (rd : Reading) → Is Y.the-row rd (machY rd ∷ []) → Cleared ysops ysps yscells ysedges ysacross
-      → ent 𝓤 (mean 𝓤 H A ((‵ (flft κcharstring qcharstring) ⊛ ‵ (ShrSlice (named 0) κcharstring u8 .own xcharstring (sliceVal (xcharstring .ptr) (length (xcharstring .now)) ∷ []))) ⊛ ((‵ (flft κbank qbank) ⊛ ‵ (ShrSlice (named 0) κbank u8 .own xbank (sliceVal (xbank .ptr) (length (xbank .now)) ∷ []))) ⊛ ((‵ (flft κops qops) ⊛ ‵ (OwnR (Array f64 256) bops oops κops γops ysops)) ⊛ ((‵ (flft κps qps) ⊛ ‵ (OwnR (Array f64 256) bps ops κps γps ysps)) ⊛ ((‵ (flft κcells qcells) ⊛ ‵ (OwnR (Array f64 17) bcells ocells κcells γcells yscells)) ⊛ ((‵ (flft κedges qedges) ⊛ ‵ (OwnR (Array f64 512) bedges oedges κedges γedges ysedges)) ⊛ ((‵ (flft κacross qacross) ⊛ ‵ (OwnR (Array bool 256) bacross oacross κacross γacross ysacross)) ⊛ ((‵ (flft κcommands qcommands) ⊛ ‵ (Own u64 mcommands bcommands ocommands κcommands γcommands yscommands)) ⊛ (‵ (flft κstems qstems) ⊛ ‵ (Own T.the-row mstems bstems ostems κstems γstems ysstems))))))))))) (C #type1·interpret (sliceVal (xcharstring .ptr) (length (xcharstring .now)) ∷ sliceVal (xbank .ptr) (length (xbank .now)) ∷ machY rd ∷ vptr bops oops ∷ vptr bps ops ∷ vptr bcells ocells ∷ vptr bedges oedges ∷ vptr bacross oacross ∷ sliceVal (bcommands, ocommands) mcommands ∷ sliceVal (bstems, ostems) mstems ∷ []) (λ w. mean 𝓤 H A (GotAll 𝓤 I.the-row (Unit {0} × (Unit {0} × (Unit {0} × (List Float × (List Float × (List Float × (List Float × (List Bool × (List ℕ × (List Stem × Unit {0})))))))))) (λ (r : I.the-row .Denot) (lasts : (Unit {0} × (Unit {0} × (Unit {0} × (List Float × (List Float × (List Float × (List Float × (List Bool × (List ℕ × (List Stem × Unit {0}))))))))))). Leaves r (lasts .1 .1 .1 .1 .1 .1 .1 .1 .0) (lasts .1 .1 .1 .1 .1 .1 .1 .1 .1 .0) yscommands ysstems (outcome (sourceOf (xcharstring .now) (xbank .now)) rd (length ysstems) (length yscommands))) (λ (lasts : (Unit {0} × (Unit {0} × (Unit {0} × (List Float × (List Float × (List Float × (List Float × (List Bool × (List ℕ × (List Stem × Unit {0}))))))))))). (fsep ftrue (fsep ftrue (fsep ftrue (fsep (fres γops ((Array f64 256) .coded .code (lasts .1 .1 .1 .0))) (fsep (fres γps ((Array f64 256) .coded .code (lasts .1 .1 .1 .1 .0))) (fsep (fres γcells ((Array f64 17) .coded .code (lasts .1 .1 .1 .1 .1 .0))) (fsep (fres γedges ((Array f64 512) .coded .code (lasts .1 .1 .1 .1 .1 .1 .0))) (fsep (fres γacross ((Array bool 256) .coded .code (lasts .1 .1 .1 .1 .1 .1 .1 .0))) (fsep (fsep (finally u64 γcommands (lasts .1 .1 .1 .1 .1 .1 .1 .1 .0)) (feq ℕ (length (lasts .1 .1 .1 .1 .1 .1 .1 .1 .0)) (length yscommands))) (fsep (fsep (finally T.the-row γstems (lasts .1 .1 .1 .1 .1 .1 .1 .1 .1 .0)) (feq ℕ (length (lasts .1 .1 .1 .1 .1 .1 .1 .1 .1 .0)) (length ysstems))) ftrue))))))))))) (‵ (flft κcharstring qcharstring) ⊛ (‵ (flft κbank qbank) ⊛ (‵ (flft κops qops) ⊛ (‵ (flft κps qps) ⊛ (‵ (flft κcells qcells) ⊛ (‵ (flft κedges qedges) ⊛ (‵ (flft κacross qacross) ⊛ (‵ (flft κcommands qcommands) ⊛ (‵ (flft κstems qstems) ⊛ ‵ ftrue))))))))) w)))
+      → ent 𝓤 (mean 𝓤 H A ((‵ (flft κcharstring qcharstring) ⊛ ‵ (ShrSlice (named 0) κcharstring u8 .own xcharstring (sliceVal (xcharstring .ptr) (length (xcharstring .now)) ∷ []))) ⊛ ((‵ (flft κbank qbank) ⊛ ‵ (ShrSlice (named 0) κbank u8 .own xbank (sliceVal (xbank .ptr) (length (xbank .now)) ∷ []))) ⊛ ((‵ (flft κops qops) ⊛ ‵ (OwnR (Array f64 256) bops oops κops γops ysops)) ⊛ ((‵ (flft κps qps)
+      ⊛ ‵ (OwnR (Array f64 256) bps ops κps γps ysps)) ⊛ ((‵ (flft κcells qcells) ⊛ ‵ (OwnR (Array f64 17) bcells ocells κcells γcells yscells)) ⊛ ((‵ (flft κedges qedges) ⊛ ‵ (OwnR (Array f64 512) bedges oedges κedges γedges ysedges)) ⊛ ((‵ (flft κacross qacross) ⊛ ‵ (OwnR (Array bool 256) bacross oacross κacross γacross ysacross)) ⊛ ((‵ (flft κcommands qcommands)
+      ⊛ ‵ (Own u64 mcommands bcommands ocommands κcommands γcommands yscommands)) ⊛ (‵ (flft κstems qstems)
+      ⊛ ‵ (Own T.the-row mstems bstems ostems κstems γstems ysstems))))))))))) (C #type1·interpret (sliceVal (xcharstring .ptr) (length (xcharstring .now)) ∷ sliceVal (xbank .ptr) (length (xbank .now)) ∷ machY rd ∷ vptr bops oops ∷ vptr bps ops ∷ vptr bcells ocells ∷ vptr bedges oedges ∷ vptr bacross oacross ∷ sliceVal (bcommands, ocommands) mcommands ∷ sliceVal (bstems, ostems) mstems ∷ [])
+      (λ w. mean 𝓤 H A (GotAll 𝓤 I.the-row (Unit {0} × (Unit {0} × (Unit {0} × (List Float × (List Float × (List Float × (List Float × (List Bool × (List ℕ × (List Stem × Unit {0}))))))))))
+      (λ (r : I.the-row .Denot) (lasts : (Unit {0} × (Unit {0} × (Unit {0} × (List Float × (List Float × (List Float × (List Float × (List Bool × (List ℕ × (List Stem × Unit {0}))))))))))). Leaves r (lasts .1 .1 .1 .1 .1 .1 .1 .1 .0) (lasts .1 .1 .1 .1 .1 .1 .1 .1 .1 .0) yscommands ysstems (outcome (sourceOf (xcharstring .now) (xbank .now)) rd (length ysstems) (length yscommands)))
+      (λ (lasts : (Unit {0} × (Unit {0} × (Unit {0} × (List Float × (List Float × (List Float × (List Float × (List Bool × (List ℕ × (List Stem × Unit {0}))))))))))). (fsep ftrue (fsep ftrue (fsep ftrue (fsep (fres γops ((Array f64 256) .coded .code (lasts .1 .1 .1 .0))) (fsep (fres γps ((Array f64 256) .coded .code (lasts .1 .1 .1 .1 .0))) (fsep (fres γcells ((Array f64 17) .coded .code (lasts .1 .1 .1 .1 .1 .0))) (fsep (fres γedges ((Array f64 512) .coded .code (lasts .1 .1 .1 .1 .1 .1 .0))) (fsep (fres γacross ((Array bool 256) .coded .code (lasts .1 .1 .1 .1 .1 .1 .1 .0))) (fsep (fsep (finally u64 γcommands (lasts .1 .1 .1 .1 .1 .1 .1 .1 .0)) (feq ℕ (length (lasts .1 .1 .1 .1 .1 .1 .1 .1 .0)) (length yscommands))) (fsep (fsep (finally T.the-row γstems (lasts .1 .1 .1 .1 .1 .1 .1 .1 .1 .0)) (feq ℕ (length (lasts .1 .1 .1 .1 .1 .1 .1 .1 .1 .0)) (length ysstems))) ftrue))))))))))) (‵ (flft κcharstring qcharstring)
+      ⊛ (‵ (flft κbank qbank) ⊛ (‵ (flft κops qops) ⊛ (‵ (flft κps qps) ⊛ (‵ (flft κcells qcells) ⊛ (‵ (flft κedges qedges) ⊛ (‵ (flft κacross qacross) ⊛ (‵ (flft κcommands qcommands) ⊛ (‵ (flft κstems qstems) ⊛ ‵ ftrue))))))))) w)))
   interpret-as known κcharstring qcharstring xcharstring κbank qbank xbank κops qops bops oops γops ysops κps qps bps ops γps ysps κcells qcells bcells ocells γcells yscells κedges qedges bedges oedges γedges ysedges κacross qacross bacross oacross γacross ysacross κcommands qcommands mcommands bcommands ocommands γcommands yscommands κstems qstems mstems bstems ostems γstems ysstems rd rd-fits need =
-      let y : InterpretC 𝓤 H A mem run′ .Ghost = (((κcharstring, (κbank, (κops, (κps, (κcells, (κedges, (κacross, (κcommands, (κstems, tt))))))))), (qcharstring, (qbank, (qops, (qps, (qcells, (qedges, (qacross, (qcommands, (qstems, tt))))))))), tt, (xcharstring, (xbank, (rd, (at-one (Array f64 256) bops oops γops ysops, (at-one (Array f64 256) bps ops γps ysps, (at-one (Array f64 17) bcells ocells γcells yscells, (at-one (Array f64 512) bedges oedges γedges ysedges, (at-one (Array bool 256) bacross oacross γacross ysacross, (at-list u64 mcommands bcommands ocommands γcommands yscommands, (at-list T.the-row mstems bstems ostems γstems ysstems, tt)))))))))), (sliceVal (xcharstring .ptr) (length (xcharstring .now)) ∷ [], (sliceVal (xbank .ptr) (length (xbank .now)) ∷ [], (machY rd ∷ [], (vptr bops oops ∷ [], (vptr bps ops ∷ [], (vptr bcells ocells ∷ [], (vptr bedges oedges ∷ [], (vptr bacross oacross ∷ [], (sliceVal (bcommands, ocommands) mcommands ∷ [], (sliceVal (bstems, ostems) mstems ∷ [], tt))))))))))), tt) in
-      via 𝓤 (InterpretC 𝓤 H A mem run′ .pre y) (qed W (((‵ (flft κcharstring qcharstring) ⊛ ‵ (ShrSlice (named 0) κcharstring u8 .own xcharstring (sliceVal (xcharstring .ptr) (length (xcharstring .now)) ∷ []))) ⊛ ((‵ (flft κbank qbank) ⊛ ‵ (ShrSlice (named 0) κbank u8 .own xbank (sliceVal (xbank .ptr) (length (xbank .now)) ∷ []))) ⊛ ((‵ (flft κops qops) ⊛ ‵ (OwnR (Array f64 256) bops oops κops γops ysops)) ⊛ ((‵ (flft κps qps) ⊛ ‵ (OwnR (Array f64 256) bps ops κps γps ysps)) ⊛ ((‵ (flft κcells qcells) ⊛ ‵ (OwnR (Array f64 17) bcells ocells κcells γcells yscells)) ⊛ ((‵ (flft κedges qedges) ⊛ ‵ (OwnR (Array f64 512) bedges oedges κedges γedges ysedges)) ⊛ ((‵ (flft κacross qacross) ⊛ ‵ (OwnR (Array bool 256) bacross oacross κacross γacross ysacross)) ⊛ ((‵ (flft κcommands qcommands) ⊛ ‵ (Own u64 mcommands bcommands ocommands κcommands γcommands yscommands)) ⊛ (‵ (flft κstems qstems) ⊛ ‵ (Own T.the-row mstems bstems ostems κstems γstems ysstems)))))))))) ∷ []) ∵ says ! need $ split ! $ move ! (1 ∷ []) $ split ! $ move ! (1 ∷ []) $ split ! $ move ! (1 ∷ []) $ split ! $ move ! (1 ∷ []) $ split ! $ move ! (1 ∷ []) $ split ! $ move ! (1 ∷ []) $ split ! $ move ! (1 ∷ []) $ split ! $ move ! (8 ∷ []) $ split ! $ move ! (9 ∷ []) $ split ! $ move ! (10 ∷ []) $ split ! $ move ! (11 ∷ []) $ split ! $ move ! (12 ∷ []) $ split ! $ move ! (13 ∷ []) $ split ! $ move ! (14 ∷ []) $ split ! $ move ! (14 ∷ []) $ split ! $ move ! (16 ∷ []) $ split ! $ nothing ! $ move ! (2 ∷ 0 ∷ []) $ fjoin ! $ move ! (3 ∷ 0 ∷ []) $ fjoin ! $ move ! (4 ∷ 0 ∷ []) $ fjoin ! $ move ! (5 ∷ 0 ∷ []) $ fjoin ! $ move ! (6 ∷ 0 ∷ []) $ fjoin ! $ move ! (7 ∷ 0 ∷ []) $ fjoin ! $ move ! (8 ∷ 0 ∷ []) $ fjoin ! $ owned ! Y.the-row (Is Y.the-row) (LL.makes Y.the-type Y′.the-plain 𝓤 H A) rd _ rd-fits $ fjoin ! $ move ! (9 ∷ 0 ∷ []) $ fjoin ! $ move ! (10 ∷ 0 ∷ []) $ fjoin ! $ nothing ! $ move ! (2 ∷ 0 ∷ []) $ join ! $ move ! (2 ∷ 0 ∷ []) $ join ! $ move ! (2 ∷ 0 ∷ []) $ join ! $ move ! (2 ∷ 0 ∷ []) $ join ! $ move ! (2 ∷ 0 ∷ []) $ join ! $ move ! (2 ∷ 0 ∷ []) $ join ! $ move ! (2 ∷ 0 ∷ []) $ join ! $ move ! (2 ∷ 0 ∷ []) $ join ! $ move ! (2 ∷ 0 ∷ []) $ join ! $ frame ! $ done !) (known y)
+      let y : InterpretC 𝓤 H A mem run′ .Ghost = (
+        (
+          (κcharstring, (κbank, (κops, (κps, (κcells, (κedges, (κacross, (κcommands, (κstems, tt))))))))),
+          (qcharstring, (qbank, (qops, (qps, (qcells, (qedges, (qacross, (qcommands, (qstems, tt))))))))),
+          tt,
+          (xcharstring, (xbank, (rd, (at-one (Array f64 256) bops oops γops ysops, (at-one (Array f64 256) bps ops γps ysps, (at-one (Array f64 17) bcells ocells γcells yscells, (at-one (Array f64 512) bedges oedges γedges ysedges, (at-one (Array bool 256) bacross oacross γacross ysacross, (at-list u64 mcommands bcommands ocommands γcommands yscommands, (at-list T.the-row mstems bstems ostems γstems ysstems, tt)))))))))),
+          (
+            sliceVal (xcharstring .ptr) (length (xcharstring .now)) ∷
+                [],
+            (sliceVal (xbank .ptr) (length (xbank .now)) ∷ [], (machY rd ∷ [], (vptr bops oops ∷ [], (vptr bps ops ∷ [], (vptr bcells ocells ∷ [], (vptr bedges oedges ∷ [], (vptr bacross oacross ∷ [], (sliceVal (bcommands, ocommands) mcommands ∷ [], (sliceVal (bstems, ostems) mstems ∷ [], tt))))))))),
+          ),
+        ),
+        tt,
+      ) in
+      via 𝓤 (InterpretC 𝓤 H A mem run′ .pre y) (qed W (((‵ (flft κcharstring qcharstring) ⊛ ‵ (ShrSlice (named 0) κcharstring u8 .own xcharstring (sliceVal (xcharstring .ptr) (length (xcharstring .now)) ∷ []))) ⊛ ((‵ (flft κbank qbank) ⊛ ‵ (ShrSlice (named 0) κbank u8 .own xbank (sliceVal (xbank .ptr) (length (xbank .now)) ∷ []))) ⊛ ((‵ (flft κops qops)
+      ⊛ ‵ (OwnR (Array f64 256) bops oops κops γops ysops)) ⊛ ((‵ (flft κps qps) ⊛ ‵ (OwnR (Array f64 256) bps ops κps γps ysps)) ⊛ ((‵ (flft κcells qcells) ⊛ ‵ (OwnR (Array f64 17) bcells ocells κcells γcells yscells)) ⊛ ((‵ (flft κedges qedges) ⊛ ‵ (OwnR (Array f64 512) bedges oedges κedges γedges ysedges)) ⊛ ((‵ (flft κacross qacross)
+      ⊛ ‵ (OwnR (Array bool 256) bacross oacross κacross γacross ysacross)) ⊛ ((‵ (flft κcommands qcommands) ⊛ ‵ (Own u64 mcommands bcommands ocommands κcommands γcommands yscommands)) ⊛ (‵ (flft κstems qstems) ⊛ ‵ (Own T.the-row mstems bstems ostems κstems γstems ysstems)))))))))) ∷ []) ∵ says ! need $ split ! $ move ! (1 ∷ []) $ split ! $ move ! (1 ∷ []) $ split ! $ move ! (1 ∷ []) $ split ! $
+      move ! (1 ∷ []) $ split ! $ move ! (1 ∷ []) $ split ! $ move ! (1 ∷ []) $ split ! $ move ! (1 ∷ []) $ split ! $ move ! (8 ∷ []) $ split ! $ move ! (9 ∷ []) $ split ! $ move ! (10 ∷ []) $ split ! $ move ! (11 ∷ []) $ split ! $ move ! (12 ∷ []) $ split ! $ move ! (13 ∷ []) $ split ! $ move ! (14 ∷ []) $ split ! $ move ! (14 ∷ []) $ split ! $ move ! (16 ∷ []) $ split ! $ nothing ! $
+      move ! (2 ∷ 0 ∷ []) $ fjoin ! $ move ! (3 ∷ 0 ∷ []) $ fjoin ! $ move ! (4 ∷ 0 ∷ []) $ fjoin ! $ move ! (5 ∷ 0 ∷ []) $ fjoin ! $ move ! (6 ∷ 0 ∷ []) $ fjoin ! $ move ! (7 ∷ 0 ∷ []) $ fjoin ! $ move ! (8 ∷ 0 ∷ []) $ fjoin ! $ owned ! Y.the-row (Is Y.the-row) (LL.makes Y.the-type Y′.the-plain 𝓤 H A) rd _ rd-fits $ fjoin ! $ move ! (9 ∷ 0 ∷ []) $ fjoin ! $ move ! (10 ∷ 0 ∷ []) $ fjoin ! $ nothing ! $
+      move ! (2 ∷ 0 ∷ []) $ join ! $ move ! (2 ∷ 0 ∷ []) $ join ! $ move ! (2 ∷ 0 ∷ []) $ join ! $ move ! (2 ∷ 0 ∷ []) $ join ! $ move ! (2 ∷ 0 ∷ []) $ join ! $ move ! (2 ∷ 0 ∷ []) $ join ! $ move ! (2 ∷ 0 ∷ []) $ join ! $ move ! (2 ∷ 0 ∷ []) $ join ! $ move ! (2 ∷ 0 ∷ []) $ join ! $ frame ! $ done !) (known y)

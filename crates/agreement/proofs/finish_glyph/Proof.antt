@@ -13,24 +13,17 @@ use Rattle.agreement.proofs.refused.Reads as refused-reads
 use Rattle.agreement.proofs.wipe_bytes.Reads as wipe-bytes-reads
 use Rattle.type1_to_type2.proofs.Type2Glyph.charstring.Reads as charstring-reads
 
--- src/lib.rt:45:9
--- src/lib.rt:46:9
--- src/lib.rt:46:9
--- src/lib.rt:46:9
 returns : tie.Need-returns
 returns c =
     subst (λ (r : Type2Glyph). Finishes (c .before .before .before .before .before .before .before .before .before .args .glyph) (c .before .before .before .before .before .before .before .before .before .args .widths) (now (c .before .before .before .before .before .before .before .before .before .args .program)) (length (now (c .before .before .before .before .before .before .before .before .before .args .out))) r (c .before .before .before .wipe-bytes .last .0)) (sym (c .refused .ensures)) (away (c .before .before .before .before .before .before .before .before .before .args .glyph) (c .before .before .before .before .before .before .before .before .before .args .widths) (now (c .before .before .before .before .before .before .before .before .before .args .program)) (length (now (c .before .before .before .before .before .before .before .before .before .args .out))) _ (c .before .before .before .before .before .if1 .taken) (c .before .before .before .wipe-bytes .ensures))
 
--- src/lib.rt:48:9
--- src/lib.rt:50:9
--- src/lib.rt:50:9
--- src/lib.rt:50:9
 returns-2 : tie.Need-returns-2
 returns-2 c =
-    subst (λ (r : Type2Glyph). Finishes (c .before .before .before .before .before .before .before .before .before .before .before .args .glyph) (c .before .before .before .before .before .before .before .before .before .before .before .args .widths) (now (c .before .before .before .before .before .before .before .before .before .before .before .args .program)) (length (now (c .before .before .before .before .before .before .before .before .before .before .before .args .out))) r (c .before .before .before .before .before .charstring .last .1 .1 .1 .0)) (sym (c .refused2 .ensures)) (not-finished (c .before .before .before .before .before .before .before .before .before .before .before .args .glyph) (c .before .before .before .before .before .before .before .before .before .before .before .args .widths) (now (c .before .before .before .before .before .before .before .before .before .before .before .args .program)) (length (now (c .before .before .before .before .before .before .before .before .before .before .before .args .out))) (c .before .before .before .before .before .charstring .result) _ (c .before .before .before .before .before .before .before .if1 .left) (c .before .before .before .before .before .charstring .ensures .0) (c .before .before .before .before .before .charstring .ensures .1) (c .before .if2 .taken))
+    subst (λ (r : Type2Glyph). Finishes (c .before .before .before .before .before .before .before .before .before .before .before .args .glyph)
+    (c .before .before .before .before .before .before .before .before .before .before .before .args .widths) (now (c .before .before .before .before .before .before .before .before .before .before .before .args .program)) (length (now (c .before .before .before .before .before .before .before .before .before .before .before .args .out))) r (c .before .before .before .before .before .charstring .last .1 .1 .1 .0)) (sym (c .refused2 .ensures)) (not-finished (c .before .before .before .before .before .before .before .before .before .before .before .args .glyph)
+    (c .before .before .before .before .before .before .before .before .before .before .before .args .widths) (now (c .before .before .before .before .before .before .before .before .before .before .before .args .program)) (length (now (c .before .before .before .before .before .before .before .before .before .before .before .args .out)))
+    (c .before .before .before .before .before .charstring .result) _ (c .before .before .before .before .before .before .before .if1 .left) (c .before .before .before .before .before .charstring .ensures .0) (c .before .before .before .before .before .charstring .ensures .1) (c .before .if2 .taken))
 
--- src/lib.rt:41:1
--- src/lib.rt:41:1
 returns-3 : tie.Need-returns-3
 returns-3 c =
     is-finished (c .before .before .before .before .before .before .before .before .before .before .args .glyph) (c .before .before .before .before .before .before .before .before .before .before .args .widths) (now (c .before .before .before .before .before .before .before .before .before .before .args .program)) (length (now (c .before .before .before .before .before .before .before .before .before .before .args .out))) (c .before .before .before .before .charstring .result) _ (c .before .before .before .before .before .before .if1 .left) (c .before .before .before .before .charstring .ensures .0) (c .before .before .before .before .charstring .ensures .1) (c .if2 .left)

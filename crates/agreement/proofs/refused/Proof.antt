@@ -5,7 +5,6 @@ use Rattle.agreement.proofs.refused.Tie as tie
 use Rattle.agreement.proofs.refused.Reads as reads
 use Rattle.agreement.proofs.refused.Lts as lts
 
--- src/lib.rt:29:1
 returns : tie.Need-returns
 unfolding ofBits
 returns c = refl

@@ -130,10 +130,16 @@ module _ {M : Type 1} (𝓤 : URA M) (H : Heap 𝓤) (A : Atoms 𝓤) (mem : Mem
       via 𝓤 (StemStoreC 𝓤 H A mem run′ .pre y) (qed W ((‵ ftrue) ∷ []) ∵ nothing ! $ nothing ! $ join ! $ frame ! $ done !) (known y)
 
   pub run-charstring-as : Triple 𝓤 (C #type1·run-charstring) (RunCharstringC 𝓤 H A mem run′) → (κcharstring : Lft) (qcharstring : Share) (xcharstring : RefT (List ℕ)) (κbank : Lft) (qbank : Share) (xbank : RefT (List ℕ)) (κcommands : Lft) (qcommands : Share) (mcommands bcommands ocommands : ℕ) (γcommands : GName) (yscommands : List ℕ) (κstems : Lft) (qstems : Share) (mstems bstems ostems : ℕ) (γstems : GName) (ysstems : List Stem) (rd : Reading) → Is Y.the-row rd (machY rd ∷ [])
-      → ent 𝓤 (mean 𝓤 H A ((‵ (flft κcharstring qcharstring) ⊛ ‵ (ShrSlice (named 0) κcharstring u8 .own xcharstring (sliceVal (xcharstring .ptr) (length (xcharstring .now)) ∷ []))) ⊛ ((‵ (flft κbank qbank) ⊛ ‵ (ShrSlice (named 0) κbank u8 .own xbank (sliceVal (xbank .ptr) (length (xbank .now)) ∷ []))) ⊛ ((‵ (flft κcommands qcommands) ⊛ ‵ (Own u64 mcommands bcommands ocommands κcommands γcommands yscommands)) ⊛ (‵ (flft κstems qstems) ⊛ ‵ (Own T.the-row mstems bstems ostems κstems γstems ysstems)))))) (C #type1·run-charstring (sliceVal (xcharstring .ptr) (length (xcharstring .now)) ∷ sliceVal (xbank .ptr) (length (xbank .now)) ∷ machY rd ∷ sliceVal (bcommands, ocommands) mcommands ∷ sliceVal (bstems, ostems) mstems ∷ []) (λ w. mean 𝓤 H A (GotAll 𝓤 I.the-row (Unit {0} × (Unit {0} × (Unit {0} × (List ℕ × (List Stem × Unit {0}))))) (λ (r : I.the-row .Denot) (lasts : (Unit {0} × (Unit {0} × (Unit {0} × (List ℕ × (List Stem × Unit {0})))))). Leaves r (lasts .1 .1 .1 .0) (lasts .1 .1 .1 .1 .0) yscommands ysstems (outcome (sourceOf (xcharstring .now) (xbank .now)) rd (length ysstems) (length yscommands))) (λ (lasts : (Unit {0} × (Unit {0} × (Unit {0} × (List ℕ × (List Stem × Unit {0})))))). (fsep ftrue (fsep ftrue (fsep ftrue (fsep (fsep (finally u64 γcommands (lasts .1 .1 .1 .0)) (feq ℕ (length (lasts .1 .1 .1 .0)) (length yscommands))) (fsep (fsep (finally T.the-row γstems (lasts .1 .1 .1 .1 .0)) (feq ℕ (length (lasts .1 .1 .1 .1 .0)) (length ysstems))) ftrue)))))) (‵ (flft κcharstring qcharstring) ⊛ (‵ (flft κbank qbank) ⊛ (‵ (flft κcommands qcommands) ⊛ (‵ (flft κstems qstems) ⊛ ‵ ftrue)))) w)))
+      → ent 𝓤 (mean 𝓤 H A ((‵ (flft κcharstring qcharstring) ⊛ ‵ (ShrSlice (named 0) κcharstring u8 .own xcharstring (sliceVal (xcharstring .ptr) (length (xcharstring .now)) ∷ []))) ⊛ ((‵ (flft κbank qbank) ⊛ ‵ (ShrSlice (named 0) κbank u8 .own xbank (sliceVal (xbank .ptr) (length (xbank .now)) ∷ []))) ⊛ ((‵ (flft κcommands qcommands)
+      ⊛ ‵ (Own u64 mcommands bcommands ocommands κcommands γcommands yscommands)) ⊛ (‵ (flft κstems qstems)
+      ⊛ ‵ (Own T.the-row mstems bstems ostems κstems γstems ysstems)))))) (C #type1·run-charstring (sliceVal (xcharstring .ptr) (length (xcharstring .now)) ∷ sliceVal (xbank .ptr) (length (xbank .now)) ∷ machY rd ∷ sliceVal (bcommands, ocommands) mcommands ∷ sliceVal (bstems, ostems) mstems ∷ [])
+      (λ w. mean 𝓤 H A (GotAll 𝓤 I.the-row (Unit {0} × (Unit {0} × (Unit {0} × (List ℕ × (List Stem × Unit {0}))))) (λ (r : I.the-row .Denot) (lasts : (Unit {0} × (Unit {0} × (Unit {0} × (List ℕ × (List Stem × Unit {0})))))). Leaves r (lasts .1 .1 .1 .0) (lasts .1 .1 .1 .1 .0) yscommands ysstems (outcome (sourceOf (xcharstring .now) (xbank .now)) rd (length ysstems) (length yscommands)))
+      (λ (lasts : (Unit {0} × (Unit {0} × (Unit {0} × (List ℕ × (List Stem × Unit {0})))))). (fsep ftrue (fsep ftrue (fsep ftrue (fsep (fsep (finally u64 γcommands (lasts .1 .1 .1 .0)) (feq ℕ (length (lasts .1 .1 .1 .0)) (length yscommands))) (fsep (fsep (finally T.the-row γstems (lasts .1 .1 .1 .1 .0)) (feq ℕ (length (lasts .1 .1 .1 .1 .0)) (length ysstems))) ftrue)))))) (‵ (flft κcharstring qcharstring) ⊛ (‵ (flft κbank qbank) ⊛ (‵ (flft κcommands qcommands) ⊛ (‵ (flft κstems qstems) ⊛ ‵ ftrue)))) w)))
   run-charstring-as known κcharstring qcharstring xcharstring κbank qbank xbank κcommands qcommands mcommands bcommands ocommands γcommands yscommands κstems qstems mstems bstems ostems γstems ysstems rd rd-fits =
       let y : RunCharstringC 𝓤 H A mem run′ .Ghost = (((κcharstring, (κbank, (κcommands, (κstems, tt)))), (qcharstring, (qbank, (qcommands, (qstems, tt)))), tt, (xcharstring, (xbank, (rd, (at-list u64 mcommands bcommands ocommands γcommands yscommands, (at-list T.the-row mstems bstems ostems γstems ysstems, tt))))), (sliceVal (xcharstring .ptr) (length (xcharstring .now)) ∷ [], (sliceVal (xbank .ptr) (length (xbank .now)) ∷ [], (machY rd ∷ [], (sliceVal (bcommands, ocommands) mcommands ∷ [], (sliceVal (bstems, ostems) mstems ∷ [], tt)))))), tt) in
-      via 𝓤 (RunCharstringC 𝓤 H A mem run′ .pre y) (qed W (((‵ (flft κcharstring qcharstring) ⊛ ‵ (ShrSlice (named 0) κcharstring u8 .own xcharstring (sliceVal (xcharstring .ptr) (length (xcharstring .now)) ∷ []))) ⊛ ((‵ (flft κbank qbank) ⊛ ‵ (ShrSlice (named 0) κbank u8 .own xbank (sliceVal (xbank .ptr) (length (xbank .now)) ∷ []))) ⊛ ((‵ (flft κcommands qcommands) ⊛ ‵ (Own u64 mcommands bcommands ocommands κcommands γcommands yscommands)) ⊛ (‵ (flft κstems qstems) ⊛ ‵ (Own T.the-row mstems bstems ostems κstems γstems ysstems))))) ∷ []) ∵ split ! $ move ! (1 ∷ []) $ split ! $ move ! (1 ∷ []) $ split ! $ move ! (3 ∷ []) $ split ! $ move ! (4 ∷ []) $ split ! $ move ! (4 ∷ []) $ split ! $ move ! (6 ∷ []) $ split ! $ nothing ! $ move ! (2 ∷ 0 ∷ []) $ fjoin ! $ move ! (3 ∷ 0 ∷ []) $ fjoin ! $ owned ! Y.the-row (Is Y.the-row) (LL.makes Y.the-type Y′.the-plain 𝓤 H A) rd _ rd-fits $ fjoin ! $ move ! (4 ∷ 0 ∷ []) $ fjoin ! $ move ! (5 ∷ 0 ∷ []) $ fjoin ! $ nothing ! $ move ! (2 ∷ 0 ∷ []) $ join ! $ move ! (2 ∷ 0 ∷ []) $ join ! $ move ! (2 ∷ 0 ∷ []) $ join ! $ move ! (2 ∷ 0 ∷ []) $ join ! $ join ! $ frame ! $ done !) (known y)
+      via 𝓤 (RunCharstringC 𝓤 H A mem run′ .pre y) (qed W (((‵ (flft κcharstring qcharstring) ⊛ ‵ (ShrSlice (named 0) κcharstring u8 .own xcharstring (sliceVal (xcharstring .ptr) (length (xcharstring .now)) ∷ []))) ⊛ ((‵ (flft κbank qbank) ⊛ ‵ (ShrSlice (named 0) κbank u8 .own xbank (sliceVal (xbank .ptr) (length (xbank .now)) ∷ []))) ⊛ ((‵ (flft κcommands qcommands)
+      ⊛ ‵ (Own u64 mcommands bcommands ocommands κcommands γcommands yscommands)) ⊛ (‵ (flft κstems qstems) ⊛ ‵ (Own T.the-row mstems bstems ostems κstems γstems ysstems))))) ∷ []) ∵ split ! $ move ! (1 ∷ []) $ split ! $ move ! (1 ∷ []) $ split ! $ move ! (3 ∷ []) $ split ! $ move ! (4 ∷ []) $ split ! $ move ! (4 ∷ []) $ split ! $ move ! (6 ∷ []) $ split ! $ nothing ! $ move ! (2 ∷ 0 ∷ []) $ fjoin ! $
+      move ! (3 ∷ 0 ∷ []) $ fjoin ! $ owned ! Y.the-row (Is Y.the-row) (LL.makes Y.the-type Y′.the-plain 𝓤 H A) rd _ rd-fits $ fjoin ! $ move ! (4 ∷ 0 ∷ []) $ fjoin ! $ move ! (5 ∷ 0 ∷ []) $ fjoin ! $ nothing ! $ move ! (2 ∷ 0 ∷ []) $ join ! $ move ! (2 ∷ 0 ∷ []) $ join ! $ move ! (2 ∷ 0 ∷ []) $ join ! $ move ! (2 ∷ 0 ∷ []) $ join ! $ join ! $ frame ! $ done !) (known y)
 
 abbrev pub stayed : Stays (f.ended .signature .params) (f.ended .kept)
 stayed = (stay-none-slice (0 ∷ []) tt (plain (λ _. u8)) yes, (stay-none-slice (1 ∷ []) tt (plain (λ _. u8)) yes, (stay-none (λ _. Y.the-row) yes, (stay-none (λ _. usize) yes, (stay-slice (2 ∷ []) tt (plain (λ _. u64)), tt)))))
@@ -187,7 +193,18 @@ module _ {M : Type 1} (𝓤 : URA M) (H : Heap 𝓤) (A : Atoms 𝓤) (W : Given
         assigns ! (addr ! (from ! (stop !))) (from ! (stop !)) (init ! 9 refl (tt, tt)) $
         assigns ! (agg ! (and-then ! (load ! (from ! (stop !)) (look ! 9 refl)) (and-then ! (load ! (from ! (stop !)) (look ! 21 refl)) (no-more !)))) (from ! (stop !)) (init ! 7 refl (tt, (tt, (record { fits = records-fits }, tt)))) $
         -- `run_charstring`
-        move ! (1 ∷ []) $ use1 W (‵ (ShrSlice (named 0) κcharstring u8 .own xcharstring (sliceVal (xcharstring .ptr) (length (xcharstring .now)) ∷ [])) ⊛ ‵ (ShrSlice (named 0) κcharstring u8 .own xcharstring (sliceVal (xcharstring .ptr) (length (xcharstring .now)) ∷ []))) (shr-slice-copy 𝓤 H A W (named 0) κcharstring u8 .twice xcharstring (sliceVal (xcharstring .ptr) (length (xcharstring .now)) ∷ [])) $ split ! $ move ! (3 ∷ 1 ∷ []) $ join ! $ move ! (3 ∷ []) $ use1 W (‵ (ShrSlice (named 0) κbank u8 .own xbank (sliceVal (xbank .ptr) (length (xbank .now)) ∷ [])) ⊛ ‵ (ShrSlice (named 0) κbank u8 .own xbank (sliceVal (xbank .ptr) (length (xbank .now)) ∷ []))) (shr-slice-copy 𝓤 H A W (named 0) κbank u8 .twice xbank (sliceVal (xbank .ptr) (length (xbank .now)) ∷ [])) $ split ! $ move ! (5 ∷ 1 ∷ []) $ join ! $ move ! (5 ∷ 6 ∷ []) $ lend ! tt u64 mwords bwords owords yswords (refl) (λ νwords2 δwords2. move ! (17 ∷ 6 ∷ []) $ lend-front ! tt T.the-row 1024 records need tt (stem-room records need) tAt refl r1 (λ νstore2 δstore2 full. move ! (3 ∷ 0 ∷ []) $ join ! $ move ! (4 ∷ 0 ∷ []) $ join ! $ move ! (5 ∷ 0 ∷ []) $ join ! $ asks-all ! fm I.the-row (Is I.the-row) (shows 𝓤 H A I.the-row) (Unit {0} × (Unit {0} × (Unit {0} × (List ℕ × (List Stem × Unit {0}))))) (λ (r : I.the-row .Denot) (lasts : (Unit {0} × (Unit {0} × (Unit {0} × (List ℕ × (List Stem × Unit {0})))))). Leaves r (lasts .1 .1 .1 .0) (lasts .1 .1 .1 .1 .0) yswords (take records r1) (outcome (sourceOf (xcharstring .now) (xbank .now)) rd (length (take records r1)) (length yswords))) (λ (lasts : (Unit {0} × (Unit {0} × (Unit {0} × (List ℕ × (List Stem × Unit {0})))))). (fsep ftrue (fsep ftrue (fsep ftrue (fsep (fsep (finally u64 δwords2 (lasts .1 .1 .1 .0)) (feq ℕ (length (lasts .1 .1 .1 .0)) (length yswords))) (fsep (fsep (finally T.the-row δstore2 (lasts .1 .1 .1 .1 .0)) (feq ℕ (length (lasts .1 .1 .1 .1 .0)) (length (take records r1)))) ftrue)))))) (‵ (flft κcharstring qcharstring) ⊛ (‵ (flft κbank qbank) ⊛ (‵ (flft (νwords2 ∷ []) fullShare) ⊛ (‵ (flft (νstore2 ∷ []) fullShare) ⊛ ‵ ftrue)))) ((‵ (flft κcharstring qcharstring) ⊛ ‵ (ShrSlice (named 0) κcharstring u8 .own xcharstring (sliceVal (xcharstring .ptr) (length (xcharstring .now)) ∷ []))) ⊛ ((‵ (flft κbank qbank) ⊛ ‵ (ShrSlice (named 0) κbank u8 .own xbank (sliceVal (xbank .ptr) (length (xbank .now)) ∷ []))) ⊛ ((‵ (flft (νwords2 ∷ []) fullShare) ⊛ ‵ (Own u64 mwords bwords owords (νwords2 ∷ []) δwords2 yswords)) ⊛ (‵ (flft (νstore2 ∷ []) fullShare) ⊛ ‵ (Own T.the-row records l₆ 0 (νstore2 ∷ []) δstore2 (take records r1)))))) (sliceVal (xcharstring .ptr) (length (xcharstring .now)) ∷ sliceVal (xbank .ptr) (length (xbank .now)) ∷ machY rd ∷ sliceVal (bwords, owords) mwords ∷ sliceVal (l₆, 0) records ∷ []) (run-charstring-as 𝓤 H A mem run′ W C known-run-charstring κcharstring qcharstring xcharstring κbank qbank xbank (νwords2 ∷ []) fullShare mwords bwords owords δwords2 yswords (νstore2 ∷ []) fullShare records l₆ 0 δstore2 (take records r1) (rd) (rd-fits)) (and-then ! (load ! (from ! (stop !)) (look ! 25 refl)) (and-then ! (load ! (from ! (stop !)) (look ! 23 refl)) (and-then ! (load ! (from ! (stop !)) (look ! 21 refl)) (and-then ! (load ! (from ! (stop !)) (look ! 10 refl)) (and-then ! (load ! (from ! (stop !)) (look ! 6 refl)) (no-more !)))))) (λ w2 r2 zs2 e2 is2. land ! (from ! (stop !)) (init ! 29 refl (typedI 𝓤 H A W r2 _ is2)) $ rewrite ! 29 (λ (u : Val). ‵ (fat fullShare tIt l₀ 0 u)) (ap only (LL.tells I.the-type I′.the-laws r2 (w2 ∷ []) is2)) refl $ drop ! $ split ! $ move ! (1 ∷ []) $ split ! $ move ! (1 ∷ []) $ split ! $ move ! (1 ∷ []) $ split ! $ move ! (1 ∷ []) $ drop ! $ move ! (4 ∷ []) $ fsplit ! $ drop ! $ fsplit ! $ drop ! $ fsplit ! $ drop ! $ fsplit ! $ fsplit ! $ move ! (1 ∷ []) $ feqL ! (λ lwords2. move ! (1 ∷ []) $ fsplit ! $ fsplit ! $ move ! (1 ∷ []) $ feqL ! (λ lstore2. move ! (1 ∷ []) $ drop ! $
+        move ! (1 ∷ []) $ use1 W (‵ (ShrSlice (named 0) κcharstring u8 .own xcharstring (sliceVal (xcharstring .ptr) (length (xcharstring .now)) ∷ [])) ⊛ ‵ (ShrSlice (named 0) κcharstring u8 .own xcharstring (sliceVal (xcharstring .ptr) (length (xcharstring .now)) ∷ []))) (shr-slice-copy 𝓤 H A W (named 0) κcharstring u8 .twice xcharstring (sliceVal (xcharstring .ptr) (length (xcharstring .now)) ∷ [])) $
+        split ! $ move ! (3 ∷ 1 ∷ []) $ join ! $ move ! (3 ∷ []) $ use1 W (‵ (ShrSlice (named 0) κbank u8 .own xbank (sliceVal (xbank .ptr) (length (xbank .now)) ∷ [])) ⊛ ‵ (ShrSlice (named 0) κbank u8 .own xbank (sliceVal (xbank .ptr) (length (xbank .now)) ∷ []))) (shr-slice-copy 𝓤 H A W (named 0) κbank u8 .twice xbank (sliceVal (xbank .ptr) (length (xbank .now)) ∷ [])) $ split ! $ move ! (5 ∷ 1 ∷ []) $
+        join ! $ move ! (5 ∷ 6 ∷ []) $ lend ! tt u64 mwords bwords owords yswords (refl) (λ νwords2 δwords2. move ! (17 ∷ 6 ∷ []) $ lend-front ! tt T.the-row 1024 records need tt (stem-room records need) tAt refl r1 (λ νstore2 δstore2 full. move ! (3 ∷ 0 ∷ []) $ join ! $ move ! (4 ∷ 0 ∷ []) $ join ! $ move ! (5 ∷ 0 ∷ []) $ join ! $
+        asks-all ! fm I.the-row (Is I.the-row) (shows 𝓤 H A I.the-row) (Unit {0} × (Unit {0} × (Unit {0} × (List ℕ × (List Stem × Unit {0})))))
+        (λ (r : I.the-row .Denot) (lasts : (Unit {0} × (Unit {0} × (Unit {0} × (List ℕ × (List Stem × Unit {0})))))). Leaves r (lasts .1 .1 .1 .0) (lasts .1 .1 .1 .1 .0) yswords (take records r1) (outcome (sourceOf (xcharstring .now) (xbank .now)) rd (length (take records r1)) (length yswords)))
+        (λ (lasts : (Unit {0} × (Unit {0} × (Unit {0} × (List ℕ × (List Stem × Unit {0})))))). (fsep ftrue (fsep ftrue (fsep ftrue (fsep (fsep (finally u64 δwords2 (lasts .1 .1 .1 .0)) (feq ℕ (length (lasts .1 .1 .1 .0)) (length yswords))) (fsep (fsep (finally T.the-row δstore2 (lasts .1 .1 .1 .1 .0)) (feq ℕ (length (lasts .1 .1 .1 .1 .0)) (length (take records r1)))) ftrue)))))) (‵ (flft κcharstring qcharstring)
+        ⊛ (‵ (flft κbank qbank) ⊛ (‵ (flft (νwords2 ∷ []) fullShare) ⊛ (‵ (flft (νstore2 ∷ []) fullShare) ⊛ ‵ ftrue)))) ((‵ (flft κcharstring qcharstring) ⊛ ‵ (ShrSlice (named 0) κcharstring u8 .own xcharstring (sliceVal (xcharstring .ptr) (length (xcharstring .now)) ∷ []))) ⊛ ((‵ (flft κbank qbank) ⊛ ‵ (ShrSlice (named 0) κbank u8 .own xbank (sliceVal (xbank .ptr) (length (xbank .now)) ∷ [])))
+        ⊛ ((‵ (flft (νwords2 ∷ []) fullShare) ⊛ ‵ (Own u64 mwords bwords owords (νwords2 ∷ []) δwords2 yswords)) ⊛ (‵ (flft (νstore2 ∷ []) fullShare)
+        ⊛ ‵ (Own T.the-row records l₆ 0 (νstore2 ∷ []) δstore2 (take records r1)))))) (sliceVal (xcharstring .ptr) (length (xcharstring .now)) ∷ sliceVal (xbank .ptr) (length (xbank .now)) ∷ machY rd ∷ sliceVal (bwords, owords) mwords ∷ sliceVal (l₆, 0) records ∷ []) (run-charstring-as 𝓤 H A mem run′ W C known-run-charstring κcharstring qcharstring xcharstring κbank qbank xbank (νwords2 ∷
+        []) fullShare mwords bwords owords δwords2 yswords (νstore2 ∷ []) fullShare records l₆ 0 δstore2 (take records r1) (rd) (rd-fits)) (and-then ! (load ! (from ! (stop !)) (look ! 25 refl)) (and-then ! (load ! (from ! (stop !)) (look ! 23 refl)) (and-then ! (load ! (from ! (stop !)) (look ! 21 refl)) (and-then ! (load ! (from ! (stop !)) (look ! 10 refl))
+        (and-then ! (load ! (from ! (stop !)) (look ! 6 refl)) (no-more !)))))) (λ w2 r2 zs2 e2 is2. land ! (from ! (stop !)) (init ! 29 refl (typedI 𝓤 H A W r2 _ is2)) $ rewrite ! 29 (λ (u : Val). ‵ (fat fullShare tIt l₀ 0 u)) (ap only (LL.tells I.the-type I′.the-laws r2 (w2 ∷ []) is2)) refl $ drop ! $ split ! $ move ! (1 ∷ []) $ split ! $ move ! (1 ∷ []) $ split ! $ move ! (1 ∷ []) $ split ! $
+        move ! (1 ∷ []) $ drop ! $ move ! (4 ∷ []) $ fsplit ! $ drop ! $ fsplit ! $ drop ! $ fsplit ! $ drop ! $ fsplit ! $ fsplit ! $ move ! (1 ∷ []) $ feqL ! (λ lwords2. move ! (1 ∷ []) $ fsplit ! $ fsplit ! $ move ! (1 ∷ []) $ feqL ! (λ lstore2. move ! (1 ∷ []) $ drop ! $
         move ! (3 ∷ 8 ∷ 1 ∷ []) $ returned ! tt u64 mwords bwords owords νwords2 δwords2 yswords (zs2 .1 .1 .1 .0) (refl) lwords2 fitwords (move ! (3 ∷ 6 ∷ 2 ∷ 7 ∷ []) $ front-back ! tt T.the-row 1024 records need tAt refl r1 (zs2 .1 .1 .1 .1 .0) full (λ vstore istore. owned ! I.the-row (Is I.the-row) (LL.makes I.the-type I′.the-plain 𝓤 H A) r2 _ (mineI r2 w2 is2) $
         returns ! (look ! 29 refl) $ move ! (0 ∷ 7 ∷ 5 ∷ 6 ∷ 4 ∷ 2 ∷ 3 ∷ 8 ∷ 9 ∷ 10 ∷ 11 ∷ 12 ∷ 13 ∷ 14 ∷ 15 ∷ 16 ∷ 17 ∷ 1 ∷ 18 ∷ 19 ∷ 20 ∷ 21 ∷ 22 ∷ 23 ∷ 24 ∷ 25 ∷ 26 ∷ 27 ∷ 28 ∷ 29 ∷ 30 ∷ []) $
         leave ! (_ ∷ _ ∷ _ ∷ _ ∷ _ ∷ _ ∷ _ ∷ []) (filled _ _ _ ∷ filled _ _ _ ∷ filled _ _ _ ∷ filled _ _ _ ∷ filled _ _ _ ∷ filled _ _ _ ∷ filled _ _ _ ∷ filled _ _ _ ∷ filled _ _ _ ∷ filled _ _ _ ∷ filled _ _ _ ∷ filled _ _ _ ∷ []) $ keep ! (0 ∷ 1 ∷ 2 ∷ 3 ∷ 4 ∷ 5 ∷ 6 ∷ []) $ by ! (exits r2 (machI r2) (zs2 .1 .1 .1 .0) (told (sourceOf (xcharstring .now) (xbank .now)) rd records (length yswords) yswords (zs2 .1 .1 .1 .0) r1 (zs2 .1 .1 .1 .1 .0) r2 need full e2) (lwords2))))))))))))))))))))))

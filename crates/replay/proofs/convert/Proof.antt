@@ -165,10 +165,19 @@ module _ {M : Type 1} (𝓤 : URA M) (H : Heap 𝓤) (A : Atoms 𝓤) (mem : Mem
       via 𝓤 (StemStoreC 𝓤 H A mem run′ .pre y) (qed W ((‵ ftrue) ∷ []) ∵ nothing ! $ nothing ! $ join ! $ frame ! $ done !) (known y)
 
   pub convert-charstring-transformed-as : Triple 𝓤 (C #type1-to-type2·convert-charstring-transformed) (ConvertCharstringTransformedC 𝓤 H A mem run′) → (κcharstring : Lft) (qcharstring : Share) (xcharstring : RefT (List ℕ)) (κbank : Lft) (qbank : Share) (xbank : RefT (List ℕ)) (κstems : Lft) (qstems : Share) (mstems bstems ostems : ℕ) (γstems : GName) (ysstems : List Stem) (κcommands : Lft) (qcommands : Share) (mcommands bcommands ocommands : ℕ) (γcommands : GName) (yscommands : List ℕ) (κout : Lft) (qout : Share) (mout bout oout : ℕ) (γout : GName) (ysout : List ℕ) (rd : Reading) (matrix : Matrix) → Is Y.the-row rd (machY rd ∷ []) → Is Z.the-row matrix (machZ matrix ∷ [])
-      → ent 𝓤 (mean 𝓤 H A ((‵ (flft κcharstring qcharstring) ⊛ ‵ (ShrSlice (named 0) κcharstring u8 .own xcharstring (sliceVal (xcharstring .ptr) (length (xcharstring .now)) ∷ []))) ⊛ ((‵ (flft κbank qbank) ⊛ ‵ (ShrSlice (named 0) κbank u8 .own xbank (sliceVal (xbank .ptr) (length (xbank .now)) ∷ []))) ⊛ ((‵ (flft κstems qstems) ⊛ ‵ (Own T.the-row mstems bstems ostems κstems γstems ysstems)) ⊛ ((‵ (flft κcommands qcommands) ⊛ ‵ (Own u64 mcommands bcommands ocommands κcommands γcommands yscommands)) ⊛ (‵ (flft κout qout) ⊛ ‵ (Own u8 mout bout oout κout γout ysout))))))) (C #type1-to-type2·convert-charstring-transformed (sliceVal (xcharstring .ptr) (length (xcharstring .now)) ∷ sliceVal (xbank .ptr) (length (xbank .now)) ∷ machY rd ∷ machZ matrix ∷ sliceVal (bstems, ostems) mstems ∷ sliceVal (bcommands, ocommands) mcommands ∷ sliceVal (bout, oout) mout ∷ []) (λ w. mean 𝓤 H A (GotAll 𝓤 G.the-row (Unit {0} × (Unit {0} × (Unit {0} × (Unit {0} × (List Stem × (List ℕ × (List ℕ × Unit {0}))))))) (λ (r : G.the-row .Denot) (lasts : (Unit {0} × (Unit {0} × (Unit {0} × (Unit {0} × (List Stem × (List ℕ × (List ℕ × Unit {0})))))))). ConvertsFrom (sourceOf (xcharstring .now) (xbank .now)) rd matrix (roomsOf ysstems yscommands ysout) r (lasts .1 .1 .1 .1 .0) (lasts .1 .1 .1 .1 .1 .0) (lasts .1 .1 .1 .1 .1 .1 .0)) (λ (lasts : (Unit {0} × (Unit {0} × (Unit {0} × (Unit {0} × (List Stem × (List ℕ × (List ℕ × Unit {0})))))))). (fsep ftrue (fsep ftrue (fsep ftrue (fsep ftrue (fsep (fsep (finally T.the-row γstems (lasts .1 .1 .1 .1 .0)) (feq ℕ (length (lasts .1 .1 .1 .1 .0)) (length ysstems))) (fsep (fsep (finally u64 γcommands (lasts .1 .1 .1 .1 .1 .0)) (feq ℕ (length (lasts .1 .1 .1 .1 .1 .0)) (length yscommands))) (fsep (fsep (finally u8 γout (lasts .1 .1 .1 .1 .1 .1 .0)) (feq ℕ (length (lasts .1 .1 .1 .1 .1 .1 .0)) (length ysout))) ftrue)))))))) (‵ (flft κcharstring qcharstring) ⊛ (‵ (flft κbank qbank) ⊛ (‵ (flft κstems qstems) ⊛ (‵ (flft κcommands qcommands) ⊛ (‵ (flft κout qout) ⊛ ‵ ftrue))))) w)))
+      → ent 𝓤 (mean 𝓤 H A ((‵ (flft κcharstring qcharstring) ⊛ ‵ (ShrSlice (named 0) κcharstring u8 .own xcharstring (sliceVal (xcharstring .ptr) (length (xcharstring .now)) ∷ []))) ⊛ ((‵ (flft κbank qbank) ⊛ ‵ (ShrSlice (named 0) κbank u8 .own xbank (sliceVal (xbank .ptr) (length (xbank .now)) ∷ []))) ⊛ ((‵ (flft κstems qstems) ⊛ ‵ (Own T.the-row mstems bstems ostems κstems γstems ysstems))
+      ⊛ ((‵ (flft κcommands qcommands) ⊛ ‵ (Own u64 mcommands bcommands ocommands κcommands γcommands yscommands)) ⊛ (‵ (flft κout qout)
+      ⊛ ‵ (Own u8 mout bout oout κout γout ysout))))))) (C #type1-to-type2·convert-charstring-transformed (sliceVal (xcharstring .ptr) (length (xcharstring .now)) ∷ sliceVal (xbank .ptr) (length (xbank .now)) ∷ machY rd ∷ machZ matrix ∷ sliceVal (bstems, ostems) mstems ∷ sliceVal (bcommands, ocommands) mcommands ∷ sliceVal (bout, oout) mout ∷ [])
+      (λ w. mean 𝓤 H A (GotAll 𝓤 G.the-row (Unit {0} × (Unit {0} × (Unit {0} × (Unit {0} × (List Stem × (List ℕ × (List ℕ × Unit {0})))))))
+      (λ (r : G.the-row .Denot) (lasts : (Unit {0} × (Unit {0} × (Unit {0} × (Unit {0} × (List Stem × (List ℕ × (List ℕ × Unit {0})))))))). ConvertsFrom (sourceOf (xcharstring .now) (xbank .now)) rd matrix (roomsOf ysstems yscommands ysout) r (lasts .1 .1 .1 .1 .0) (lasts .1 .1 .1 .1 .1 .0) (lasts .1 .1 .1 .1 .1 .1 .0))
+      (λ (lasts : (Unit {0} × (Unit {0} × (Unit {0} × (Unit {0} × (List Stem × (List ℕ × (List ℕ × Unit {0})))))))). (fsep ftrue (fsep ftrue (fsep ftrue (fsep ftrue (fsep (fsep (finally T.the-row γstems (lasts .1 .1 .1 .1 .0)) (feq ℕ (length (lasts .1 .1 .1 .1 .0)) (length ysstems))) (fsep (fsep (finally u64 γcommands (lasts .1 .1 .1 .1 .1 .0)) (feq ℕ (length (lasts .1 .1 .1 .1 .1 .0)) (length yscommands))) (fsep (fsep (finally u8 γout (lasts .1 .1 .1 .1 .1 .1 .0)) (feq ℕ (length (lasts .1 .1 .1 .1 .1 .1 .0)) (length ysout))) ftrue)))))))) (‵ (flft κcharstring qcharstring)
+      ⊛ (‵ (flft κbank qbank) ⊛ (‵ (flft κstems qstems) ⊛ (‵ (flft κcommands qcommands) ⊛ (‵ (flft κout qout) ⊛ ‵ ftrue))))) w)))
   convert-charstring-transformed-as known κcharstring qcharstring xcharstring κbank qbank xbank κstems qstems mstems bstems ostems γstems ysstems κcommands qcommands mcommands bcommands ocommands γcommands yscommands κout qout mout bout oout γout ysout rd matrix rd-fits matrix-fits =
       let y : ConvertCharstringTransformedC 𝓤 H A mem run′ .Ghost = (((κcharstring, (κbank, (κstems, (κcommands, (κout, tt))))), (qcharstring, (qbank, (qstems, (qcommands, (qout, tt))))), tt, (xcharstring, (xbank, (rd, (matrix, (at-list T.the-row mstems bstems ostems γstems ysstems, (at-list u64 mcommands bcommands ocommands γcommands yscommands, (at-list u8 mout bout oout γout ysout, tt))))))), (sliceVal (xcharstring .ptr) (length (xcharstring .now)) ∷ [], (sliceVal (xbank .ptr) (length (xbank .now)) ∷ [], (machY rd ∷ [], (machZ matrix ∷ [], (sliceVal (bstems, ostems) mstems ∷ [], (sliceVal (bcommands, ocommands) mcommands ∷ [], (sliceVal (bout, oout) mout ∷ [], tt)))))))), tt) in
-      via 𝓤 (ConvertCharstringTransformedC 𝓤 H A mem run′ .pre y) (qed W (((‵ (flft κcharstring qcharstring) ⊛ ‵ (ShrSlice (named 0) κcharstring u8 .own xcharstring (sliceVal (xcharstring .ptr) (length (xcharstring .now)) ∷ []))) ⊛ ((‵ (flft κbank qbank) ⊛ ‵ (ShrSlice (named 0) κbank u8 .own xbank (sliceVal (xbank .ptr) (length (xbank .now)) ∷ []))) ⊛ ((‵ (flft κstems qstems) ⊛ ‵ (Own T.the-row mstems bstems ostems κstems γstems ysstems)) ⊛ ((‵ (flft κcommands qcommands) ⊛ ‵ (Own u64 mcommands bcommands ocommands κcommands γcommands yscommands)) ⊛ (‵ (flft κout qout) ⊛ ‵ (Own u8 mout bout oout κout γout ysout)))))) ∷ []) ∵ split ! $ move ! (1 ∷ []) $ split ! $ move ! (1 ∷ []) $ split ! $ move ! (1 ∷ []) $ split ! $ move ! (4 ∷ []) $ split ! $ move ! (5 ∷ []) $ split ! $ move ! (6 ∷ []) $ split ! $ move ! (6 ∷ []) $ split ! $ move ! (8 ∷ []) $ split ! $ nothing ! $ move ! (2 ∷ 0 ∷ []) $ fjoin ! $ move ! (3 ∷ 0 ∷ []) $ fjoin ! $ move ! (4 ∷ 0 ∷ []) $ fjoin ! $ owned ! Z.the-row (Is Z.the-row) (LL.makes Z.the-type Z′.the-plain 𝓤 H A) matrix _ matrix-fits $ fjoin ! $ owned ! Y.the-row (Is Y.the-row) (LL.makes Y.the-type Y′.the-plain 𝓤 H A) rd _ rd-fits $ fjoin ! $ move ! (5 ∷ 0 ∷ []) $ fjoin ! $ move ! (6 ∷ 0 ∷ []) $ fjoin ! $ nothing ! $ move ! (2 ∷ 0 ∷ []) $ join ! $ move ! (2 ∷ 0 ∷ []) $ join ! $ move ! (2 ∷ 0 ∷ []) $ join ! $ move ! (2 ∷ 0 ∷ []) $ join ! $ move ! (2 ∷ 0 ∷ []) $ join ! $ join ! $ frame ! $ done !) (known y)
+      via 𝓤 (ConvertCharstringTransformedC 𝓤 H A mem run′ .pre y) (qed W (((‵ (flft κcharstring qcharstring) ⊛ ‵ (ShrSlice (named 0) κcharstring u8 .own xcharstring (sliceVal (xcharstring .ptr) (length (xcharstring .now)) ∷ []))) ⊛ ((‵ (flft κbank qbank) ⊛ ‵ (ShrSlice (named 0) κbank u8 .own xbank (sliceVal (xbank .ptr) (length (xbank .now)) ∷ []))) ⊛ ((‵ (flft κstems qstems)
+      ⊛ ‵ (Own T.the-row mstems bstems ostems κstems γstems ysstems)) ⊛ ((‵ (flft κcommands qcommands) ⊛ ‵ (Own u64 mcommands bcommands ocommands κcommands γcommands yscommands)) ⊛ (‵ (flft κout qout) ⊛ ‵ (Own u8 mout bout oout κout γout ysout)))))) ∷ []) ∵ split ! $ move ! (1 ∷ []) $ split ! $ move ! (1 ∷ []) $ split ! $ move ! (1 ∷ []) $ split ! $ move ! (4 ∷ []) $ split ! $ move ! (5 ∷ []) $
+      split ! $ move ! (6 ∷ []) $ split ! $ move ! (6 ∷ []) $ split ! $ move ! (8 ∷ []) $ split ! $ nothing ! $ move ! (2 ∷ 0 ∷ []) $ fjoin ! $ move ! (3 ∷ 0 ∷ []) $ fjoin ! $ move ! (4 ∷ 0 ∷ []) $ fjoin ! $ owned ! Z.the-row (Is Z.the-row) (LL.makes Z.the-type Z′.the-plain 𝓤 H A) matrix _ matrix-fits $ fjoin ! $ owned ! Y.the-row (Is Y.the-row) (LL.makes Y.the-type Y′.the-plain 𝓤 H A) rd _ rd-fits $
+      fjoin ! $ move ! (5 ∷ 0 ∷ []) $ fjoin ! $ move ! (6 ∷ 0 ∷ []) $ fjoin ! $ nothing ! $ move ! (2 ∷ 0 ∷ []) $ join ! $ move ! (2 ∷ 0 ∷ []) $ join ! $ move ! (2 ∷ 0 ∷ []) $ join ! $ move ! (2 ∷ 0 ∷ []) $ join ! $ move ! (2 ∷ 0 ∷ []) $ join ! $ join ! $ frame ! $ done !) (known y)
 
   pub with-records-as : Triple 𝓤 (C #replay·with-records) (WithRecordsC 𝓤 H A mem run′) → (answer : Type2Glyph) (stems : List Stem) → Is G.the-row answer (machG answer ∷ []) → Is (Array T.the-row 512) stems (machA stems ∷ [])
       → ent 𝓤 (mean 𝓤 H A (‵ ftrue)) (C #replay·with-records (machG answer ∷ machA stems ∷ []) (λ w. mean 𝓤 H A (GotAll 𝓤 E.the-row (Unit {0} × (Unit {0} × Unit {0})) (λ (r : E.the-row .Denot) (lasts : (Unit {0} × (Unit {0} × Unit {0}))). r ≡ afterConverting answer stems) (λ (lasts : (Unit {0} × (Unit {0} × Unit {0}))). (fsep ftrue (fsep ftrue ftrue))) (‵ ftrue) w)))
@@ -233,7 +242,19 @@ module _ {M : Type 1} (𝓤 : URA M) (H : Heap 𝓤) (A : Atoms 𝓤) (W : Given
         assigns ! (addr ! (from ! (fld ! refl (hop ! (look-in ! 27 (sub ! 0 refl (whole !))) (stop !))))) (from ! (stop !)) (init ! 11 refl (tt, tt)) $
         assigns ! (agg ! (and-then ! (load ! (from ! (stop !)) (look ! 11 refl)) (and-then ! (load ! (from ! (fld ! refl (stop !))) (look-in ! 27 (sub ! 1 refl (whole !)))) (no-more !)))) (from ! (stop !)) (init ! 9 refl (tt, (tt, (record { fits = fitout .0 }, tt)))) $
         -- `convert_charstring_transformed`
-        move ! (1 ∷ []) $ use1 W (‵ (ShrSlice (named 0) κcharstring u8 .own xcharstring (sliceVal (xcharstring .ptr) (length (xcharstring .now)) ∷ [])) ⊛ ‵ (ShrSlice (named 0) κcharstring u8 .own xcharstring (sliceVal (xcharstring .ptr) (length (xcharstring .now)) ∷ []))) (shr-slice-copy 𝓤 H A W (named 0) κcharstring u8 .twice xcharstring (sliceVal (xcharstring .ptr) (length (xcharstring .now)) ∷ [])) $ split ! $ move ! (3 ∷ 1 ∷ []) $ join ! $ move ! (3 ∷ []) $ use1 W (‵ (ShrSlice (named 0) κbank u8 .own xbank (sliceVal (xbank .ptr) (length (xbank .now)) ∷ [])) ⊛ ‵ (ShrSlice (named 0) κbank u8 .own xbank (sliceVal (xbank .ptr) (length (xbank .now)) ∷ []))) (shr-slice-copy 𝓤 H A W (named 0) κbank u8 .twice xbank (sliceVal (xbank .ptr) (length (xbank .now)) ∷ [])) $ split ! $ move ! (5 ∷ 1 ∷ []) $ join ! $ move ! (25 ∷ 4 ∷ []) $ lend-array ! tt T.the-row 512 tt (lit< tt, lit< tt) tAt refl r1 (λ νstore2 δstore2. move ! (6 ∷ 7 ∷ []) $ lend ! tt u64 mwords bwords owords yswords (refl) (λ νwords2 δwords2. move ! (8 ∷ 9 ∷ []) $ lend ! tt u8 mout bout oout ysout (refl) (λ νout2 δout2. move ! (2 ∷ 0 ∷ []) $ join ! $ move ! (3 ∷ 0 ∷ []) $ join ! $ move ! (4 ∷ 0 ∷ []) $ join ! $ move ! (5 ∷ 0 ∷ []) $ join ! $ asks-all ! fm G.the-row (Is G.the-row) (shows 𝓤 H A G.the-row) (Unit {0} × (Unit {0} × (Unit {0} × (Unit {0} × (List Stem × (List ℕ × (List ℕ × Unit {0}))))))) (λ (r : G.the-row .Denot) (lasts : (Unit {0} × (Unit {0} × (Unit {0} × (Unit {0} × (List Stem × (List ℕ × (List ℕ × Unit {0})))))))). ConvertsFrom (sourceOf (xcharstring .now) (xbank .now)) rd matrix (roomsOf r1 yswords ysout) r (lasts .1 .1 .1 .1 .0) (lasts .1 .1 .1 .1 .1 .0) (lasts .1 .1 .1 .1 .1 .1 .0)) (λ (lasts : (Unit {0} × (Unit {0} × (Unit {0} × (Unit {0} × (List Stem × (List ℕ × (List ℕ × Unit {0})))))))). (fsep ftrue (fsep ftrue (fsep ftrue (fsep ftrue (fsep (fsep (finally T.the-row δstore2 (lasts .1 .1 .1 .1 .0)) (feq ℕ (length (lasts .1 .1 .1 .1 .0)) (length r1))) (fsep (fsep (finally u64 δwords2 (lasts .1 .1 .1 .1 .1 .0)) (feq ℕ (length (lasts .1 .1 .1 .1 .1 .0)) (length yswords))) (fsep (fsep (finally u8 δout2 (lasts .1 .1 .1 .1 .1 .1 .0)) (feq ℕ (length (lasts .1 .1 .1 .1 .1 .1 .0)) (length ysout))) ftrue)))))))) (‵ (flft κcharstring qcharstring) ⊛ (‵ (flft κbank qbank) ⊛ (‵ (flft (νstore2 ∷ []) fullShare) ⊛ (‵ (flft (νwords2 ∷ []) fullShare) ⊛ (‵ (flft (νout2 ∷ []) fullShare) ⊛ ‵ ftrue))))) ((‵ (flft κcharstring qcharstring) ⊛ ‵ (ShrSlice (named 0) κcharstring u8 .own xcharstring (sliceVal (xcharstring .ptr) (length (xcharstring .now)) ∷ []))) ⊛ ((‵ (flft κbank qbank) ⊛ ‵ (ShrSlice (named 0) κbank u8 .own xbank (sliceVal (xbank .ptr) (length (xbank .now)) ∷ []))) ⊛ ((‵ (flft (νstore2 ∷ []) fullShare) ⊛ ‵ (Own T.the-row 512 l₇ 0 (νstore2 ∷ []) δstore2 r1)) ⊛ ((‵ (flft (νwords2 ∷ []) fullShare) ⊛ ‵ (Own u64 mwords bwords owords (νwords2 ∷ []) δwords2 yswords)) ⊛ (‵ (flft (νout2 ∷ []) fullShare) ⊛ ‵ (Own u8 mout bout oout (νout2 ∷ []) δout2 ysout)))))) (sliceVal (xcharstring .ptr) (length (xcharstring .now)) ∷ sliceVal (xbank .ptr) (length (xbank .now)) ∷ machY rd ∷ machZ matrix ∷ sliceVal (l₇, 0) 512 ∷ sliceVal (bwords, owords) mwords ∷ sliceVal (bout, oout) mout ∷ []) (convert-charstring-transformed-as 𝓤 H A mem run′ W C known-convert-charstring-transformed κcharstring qcharstring xcharstring κbank qbank xbank (νstore2 ∷ []) fullShare 512 l₇ 0 δstore2 r1 (νwords2 ∷ []) fullShare mwords bwords owords δwords2 yswords (νout2 ∷ []) fullShare mout bout oout δout2 ysout (rd) (matrix) (rd-fits) (matrix-fits)) (and-then ! (load ! (from ! (stop !)) (look ! 33 refl)) (and-then ! (load ! (from ! (stop !)) (look ! 31 refl)) (and-then ! (load ! (from ! (stop !)) (look ! 29 refl)) (and-then ! (load ! (from ! (stop !)) (look ! 27 refl)) (and-then ! (load ! (from ! (stop !)) (look ! 14 refl)) (and-then ! (load ! (from ! (stop !)) (look ! 10 refl)) (and-then ! (load ! (from ! (stop !)) (look ! 6 refl)) (no-more !)))))))) (λ w2 r2 zs2 e2 is2. land ! (from ! (stop !)) (init ! 22 refl (typedG 𝓤 H A W r2 _ is2)) $ rewrite ! 22 (λ (u : Val). ‵ (fat fullShare tGt l₈ 0 u)) (ap only (LL.tells G.the-type G′.the-laws r2 (w2 ∷ []) is2)) refl $ drop ! $ split ! $ move ! (1 ∷ []) $ split ! $ move ! (1 ∷ []) $ split ! $ move ! (1 ∷ []) $ split ! $ move ! (1 ∷ []) $ split ! $ move ! (1 ∷ []) $ drop ! $ move ! (5 ∷ []) $ fsplit ! $ drop ! $ fsplit ! $ drop ! $ fsplit ! $ drop ! $ fsplit ! $ drop ! $ fsplit ! $ fsplit ! $ move ! (1 ∷ []) $ feqL ! (λ lstore2. move ! (1 ∷ []) $ fsplit ! $ fsplit ! $ move ! (1 ∷ []) $ feqL ! (λ lwords2. move ! (1 ∷ []) $ fsplit ! $ fsplit ! $ move ! (1 ∷ []) $ feqL ! (λ lout2. move ! (1 ∷ []) $ drop ! $
+        move ! (1 ∷ []) $ use1 W (‵ (ShrSlice (named 0) κcharstring u8 .own xcharstring (sliceVal (xcharstring .ptr) (length (xcharstring .now)) ∷ [])) ⊛ ‵ (ShrSlice (named 0) κcharstring u8 .own xcharstring (sliceVal (xcharstring .ptr) (length (xcharstring .now)) ∷ []))) (shr-slice-copy 𝓤 H A W (named 0) κcharstring u8 .twice xcharstring (sliceVal (xcharstring .ptr) (length (xcharstring .now)) ∷ [])) $
+        split ! $ move ! (3 ∷ 1 ∷ []) $ join ! $ move ! (3 ∷ []) $ use1 W (‵ (ShrSlice (named 0) κbank u8 .own xbank (sliceVal (xbank .ptr) (length (xbank .now)) ∷ [])) ⊛ ‵ (ShrSlice (named 0) κbank u8 .own xbank (sliceVal (xbank .ptr) (length (xbank .now)) ∷ []))) (shr-slice-copy 𝓤 H A W (named 0) κbank u8 .twice xbank (sliceVal (xbank .ptr) (length (xbank .now)) ∷ [])) $ split ! $ move ! (5 ∷ 1 ∷ []) $
+        join ! $ move ! (25 ∷ 4 ∷ []) $ lend-array ! tt T.the-row 512 tt (lit< tt, lit< tt) tAt refl r1 (λ νstore2 δstore2. move ! (6 ∷ 7 ∷ []) $ lend ! tt u64 mwords bwords owords yswords (refl) (λ νwords2 δwords2. move ! (8 ∷ 9 ∷ []) $ lend ! tt u8 mout bout oout ysout (refl) (λ νout2 δout2. move ! (2 ∷ 0 ∷ []) $ join ! $ move ! (3 ∷ 0 ∷ []) $ join ! $ move ! (4 ∷ 0 ∷ []) $ join ! $
+        move ! (5 ∷ 0 ∷ []) $ join ! $ asks-all ! fm G.the-row (Is G.the-row) (shows 𝓤 H A G.the-row) (Unit {0} × (Unit {0} × (Unit {0} × (Unit {0} × (List Stem × (List ℕ × (List ℕ × Unit {0})))))))
+        (λ (r : G.the-row .Denot) (lasts : (Unit {0} × (Unit {0} × (Unit {0} × (Unit {0} × (List Stem × (List ℕ × (List ℕ × Unit {0})))))))). ConvertsFrom (sourceOf (xcharstring .now) (xbank .now)) rd matrix (roomsOf r1 yswords ysout) r (lasts .1 .1 .1 .1 .0) (lasts .1 .1 .1 .1 .1 .0) (lasts .1 .1 .1 .1 .1 .1 .0))
+        (λ (lasts : (Unit {0} × (Unit {0} × (Unit {0} × (Unit {0} × (List Stem × (List ℕ × (List ℕ × Unit {0})))))))). (fsep ftrue (fsep ftrue (fsep ftrue (fsep ftrue (fsep (fsep (finally T.the-row δstore2 (lasts .1 .1 .1 .1 .0)) (feq ℕ (length (lasts .1 .1 .1 .1 .0)) (length r1))) (fsep (fsep (finally u64 δwords2 (lasts .1 .1 .1 .1 .1 .0)) (feq ℕ (length (lasts .1 .1 .1 .1 .1 .0)) (length yswords))) (fsep (fsep (finally u8 δout2 (lasts .1 .1 .1 .1 .1 .1 .0)) (feq ℕ (length (lasts .1 .1 .1 .1 .1 .1 .0)) (length ysout))) ftrue)))))))) (‵ (flft κcharstring qcharstring)
+        ⊛ (‵ (flft κbank qbank) ⊛ (‵ (flft (νstore2 ∷ []) fullShare) ⊛ (‵ (flft (νwords2 ∷ []) fullShare) ⊛ (‵ (flft (νout2 ∷ []) fullShare) ⊛ ‵ ftrue))))) ((‵ (flft κcharstring qcharstring) ⊛ ‵ (ShrSlice (named 0) κcharstring u8 .own xcharstring (sliceVal (xcharstring .ptr) (length (xcharstring .now)) ∷ []))) ⊛ ((‵ (flft κbank qbank)
+        ⊛ ‵ (ShrSlice (named 0) κbank u8 .own xbank (sliceVal (xbank .ptr) (length (xbank .now)) ∷ []))) ⊛ ((‵ (flft (νstore2 ∷ []) fullShare) ⊛ ‵ (Own T.the-row 512 l₇ 0 (νstore2 ∷ []) δstore2 r1)) ⊛ ((‵ (flft (νwords2 ∷ []) fullShare) ⊛ ‵ (Own u64 mwords bwords owords (νwords2 ∷ []) δwords2 yswords)) ⊛ (‵ (flft (νout2 ∷ []) fullShare)
+        ⊛ ‵ (Own u8 mout bout oout (νout2 ∷ []) δout2 ysout)))))) (sliceVal (xcharstring .ptr) (length (xcharstring .now)) ∷ sliceVal (xbank .ptr) (length (xbank .now)) ∷ machY rd ∷ machZ matrix ∷ sliceVal (l₇, 0) 512 ∷ sliceVal (bwords, owords) mwords ∷ sliceVal (bout, oout) mout ∷
+        []) (convert-charstring-transformed-as 𝓤 H A mem run′ W C known-convert-charstring-transformed κcharstring qcharstring xcharstring κbank qbank xbank (νstore2 ∷ []) fullShare 512 l₇ 0 δstore2 r1 (νwords2 ∷ []) fullShare mwords bwords owords δwords2 yswords (νout2 ∷ []) fullShare mout bout oout δout2 ysout (rd) (matrix) (rd-fits) (matrix-fits))
+        (and-then ! (load ! (from ! (stop !)) (look ! 33 refl)) (and-then ! (load ! (from ! (stop !)) (look ! 31 refl)) (and-then ! (load ! (from ! (stop !)) (look ! 29 refl)) (and-then ! (load ! (from ! (stop !)) (look ! 27 refl)) (and-then ! (load ! (from ! (stop !)) (look ! 14 refl)) (and-then ! (load ! (from ! (stop !)) (look ! 10 refl))
+        (and-then ! (load ! (from ! (stop !)) (look ! 6 refl)) (no-more !)))))))) (λ w2 r2 zs2 e2 is2. land ! (from ! (stop !)) (init ! 22 refl (typedG 𝓤 H A W r2 _ is2)) $ rewrite ! 22 (λ (u : Val). ‵ (fat fullShare tGt l₈ 0 u)) (ap only (LL.tells G.the-type G′.the-laws r2 (w2 ∷ []) is2)) refl $ drop ! $ split ! $ move ! (1 ∷ []) $ split ! $ move ! (1 ∷ []) $ split ! $ move ! (1 ∷ []) $ split ! $
+        move ! (1 ∷ []) $ split ! $ move ! (1 ∷ []) $ drop ! $ move ! (5 ∷ []) $ fsplit ! $ drop ! $ fsplit ! $ drop ! $ fsplit ! $ drop ! $ fsplit ! $ drop ! $ fsplit ! $ fsplit ! $ move ! (1 ∷ []) $ feqL ! (λ lstore2. move ! (1 ∷ []) $ fsplit ! $ fsplit ! $ move ! (1 ∷ []) $ feqL ! (λ lwords2. move ! (1 ∷ []) $ fsplit ! $ fsplit ! $ move ! (1 ∷ []) $ feqL ! (λ lout2. move ! (1 ∷ []) $ drop ! $
         move ! (5 ∷ 10 ∷ 2 ∷ []) $ array-back ! tt T.the-row 512 tAt refl (zs2 .1 .1 .1 .1 .0) (λ vstore istore. move ! (4 ∷ 8 ∷ 2 ∷ []) $ returned ! tt u64 mwords bwords owords νwords2 δwords2 yswords (zs2 .1 .1 .1 .1 .1 .0) (refl) lwords2 fitwords (move ! (4 ∷ 7 ∷ 3 ∷ []) $ returned ! tt u8 mout bout oout νout2 δout2 ysout (zs2 .1 .1 .1 .1 .1 .1 .0) (refl) lout2 fitout (rewrite ! 4 (λ (u : Val). ‵ (fat fullShare tAt l₇ 0 u)) (tellsA (zs2 .1 .1 .1 .1 .0) vstore istore) refl $
         assigns ! (of-opd ! (load ! (from ! (stop !)) (look ! 4 refl))) (from ! (stop !)) (store ! 21 refl (typedA 𝓤 H A W (zs2 .1 .1 .1 .1 .0) _ (mineA (zs2 .1 .1 .1 .1 .0) vstore istore))) $
         -- `with_records`

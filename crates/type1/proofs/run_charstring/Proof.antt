@@ -165,8 +165,28 @@ module _ {M : Type 1} (𝓤 : URA M) (H : Heap 𝓤) (A : Atoms 𝓤) (W : Given
         assigns ! (addr ! (from ! (fld ! refl (hop ! (look-in ! 46 (sub ! 0 refl (whole !))) (stop !))))) (from ! (stop !)) (init ! 25 refl (tt, tt)) $
         assigns ! (agg ! (and-then ! (load ! (from ! (stop !)) (look ! 25 refl)) (and-then ! (load ! (from ! (fld ! refl (stop !))) (look-in ! 46 (sub ! 1 refl (whole !)))) (no-more !)))) (from ! (stop !)) (init ! 23 refl (tt, (tt, (record { fits = fitstems .0 }, tt)))) $
         -- `interpret`
-        move ! (15 ∷ []) $ use1 W (‵ (ShrSlice (named 0) κcharstring u8 .own xcharstring (sliceVal (xcharstring .ptr) (length (xcharstring .now)) ∷ [])) ⊛ ‵ (ShrSlice (named 0) κcharstring u8 .own xcharstring (sliceVal (xcharstring .ptr) (length (xcharstring .now)) ∷ []))) (shr-slice-copy 𝓤 H A W (named 0) κcharstring u8 .twice xcharstring (sliceVal (xcharstring .ptr) (length (xcharstring .now)) ∷ [])) $ split ! $ move ! (17 ∷ 1 ∷ []) $ join ! $ move ! (17 ∷ []) $ use1 W (‵ (ShrSlice (named 0) κbank u8 .own xbank (sliceVal (xbank .ptr) (length (xbank .now)) ∷ [])) ⊛ ‵ (ShrSlice (named 0) κbank u8 .own xbank (sliceVal (xbank .ptr) (length (xbank .now)) ∷ []))) (shr-slice-copy 𝓤 H A W (named 0) κbank u8 .twice xbank (sliceVal (xbank .ptr) (length (xbank .now)) ∷ [])) $ split ! $ move ! (19 ∷ 1 ∷ []) $ join ! $ move ! (16 ∷ 17 ∷ []) $ lend-ref ! tt (Array f64 256) l₆ 0 (replicate 256 nought) (λ νops1 δops1. move ! (15 ∷ 16 ∷ []) $ lend-ref ! tt (Array f64 256) l₇ 0 (replicate 256 nought) (λ νps1 δps1. move ! (14 ∷ 15 ∷ []) $ lend-ref ! tt (Array f64 17) l₈ 0 (replicate 17 nought) (λ νcells1 δcells1. move ! (13 ∷ 14 ∷ []) $ lend-ref ! tt (Array f64 512) l₉ 0 (replicate 512 nought) (λ νedges1 δedges1. move ! (12 ∷ 13 ∷ []) $ lend-ref ! tt (Array bool 256) l₁₀ 0 (replicate 256 false) (λ νacross1 δacross1. move ! (19 ∷ 20 ∷ []) $ lend ! tt u64 mcommands bcommands ocommands yscommands (refl) (λ νcommands1 δcommands1. move ! (21 ∷ 22 ∷ []) $ lend ! tt T.the-row mstems bstems ostems ysstems (refl) (λ νstems1 δstems1. move ! (2 ∷ 0 ∷ []) $ join ! $ move ! (3 ∷ 0 ∷ []) $ join ! $ move ! (4 ∷ 0 ∷ []) $ join ! $ move ! (5 ∷ 0 ∷ []) $ join ! $ move ! (6 ∷ 0 ∷ []) $ join ! $ move ! (7 ∷ 0 ∷ []) $ join ! $ move ! (8 ∷ 0 ∷ []) $ join ! $ move ! (9 ∷ 0 ∷ []) $ join ! $ asks-all ! fm I.the-row (Is I.the-row) (shows 𝓤 H A I.the-row) (Unit {0} × (Unit {0} × (Unit {0} × (List Float × (List Float × (List Float × (List Float × (List Bool × (List ℕ × (List Stem × Unit {0})))))))))) (λ (r : I.the-row .Denot) (lasts : (Unit {0} × (Unit {0} × (Unit {0} × (List Float × (List Float × (List Float × (List Float × (List Bool × (List ℕ × (List Stem × Unit {0}))))))))))). Leaves r (lasts .1 .1 .1 .1 .1 .1 .1 .1 .0) (lasts .1 .1 .1 .1 .1 .1 .1 .1 .1 .0) yscommands ysstems (outcome (sourceOf (xcharstring .now) (xbank .now)) rd (length ysstems) (length yscommands))) (λ (lasts : (Unit {0} × (Unit {0} × (Unit {0} × (List Float × (List Float × (List Float × (List Float × (List Bool × (List ℕ × (List Stem × Unit {0}))))))))))). (fsep ftrue (fsep ftrue (fsep ftrue (fsep (fres δops1 ((Array f64 256) .coded .code (lasts .1 .1 .1 .0))) (fsep (fres δps1 ((Array f64 256) .coded .code (lasts .1 .1 .1 .1 .0))) (fsep (fres δcells1 ((Array f64 17) .coded .code (lasts .1 .1 .1 .1 .1 .0))) (fsep (fres δedges1 ((Array f64 512) .coded .code (lasts .1 .1 .1 .1 .1 .1 .0))) (fsep (fres δacross1 ((Array bool 256) .coded .code (lasts .1 .1 .1 .1 .1 .1 .1 .0))) (fsep (fsep (finally u64 δcommands1 (lasts .1 .1 .1 .1 .1 .1 .1 .1 .0)) (feq ℕ (length (lasts .1 .1 .1 .1 .1 .1 .1 .1 .0)) (length yscommands))) (fsep (fsep (finally T.the-row δstems1 (lasts .1 .1 .1 .1 .1 .1 .1 .1 .1 .0)) (feq ℕ (length (lasts .1 .1 .1 .1 .1 .1 .1 .1 .1 .0)) (length ysstems))) ftrue))))))))))) (‵ (flft κcharstring qcharstring) ⊛ (‵ (flft κbank qbank) ⊛ (‵ (flft (νops1 ∷ []) fullShare) ⊛ (‵ (flft (νps1 ∷ []) fullShare) ⊛ (‵ (flft (νcells1 ∷ []) fullShare) ⊛ (‵ (flft (νedges1 ∷ []) fullShare) ⊛ (‵ (flft (νacross1 ∷ []) fullShare) ⊛ (‵ (flft (νcommands1 ∷ []) fullShare) ⊛ (‵ (flft (νstems1 ∷ []) fullShare) ⊛ ‵ ftrue))))))))) ((‵ (flft κcharstring qcharstring) ⊛ ‵ (ShrSlice (named 0) κcharstring u8 .own xcharstring (sliceVal (xcharstring .ptr) (length (xcharstring .now)) ∷ []))) ⊛ ((‵ (flft κbank qbank) ⊛ ‵ (ShrSlice (named 0) κbank u8 .own xbank (sliceVal (xbank .ptr) (length (xbank .now)) ∷ []))) ⊛ ((‵ (flft (νops1 ∷ []) fullShare) ⊛ ‵ (OwnR (Array f64 256) l₆ 0 (νops1 ∷ []) δops1 (replicate 256 nought))) ⊛ ((‵ (flft (νps1 ∷ []) fullShare) ⊛ ‵ (OwnR (Array f64 256) l₇ 0 (νps1 ∷ []) δps1 (replicate 256 nought))) ⊛ ((‵ (flft (νcells1 ∷ []) fullShare) ⊛ ‵ (OwnR (Array f64 17) l₈ 0 (νcells1 ∷ []) δcells1 (replicate 17 nought))) ⊛ ((‵ (flft (νedges1 ∷ []) fullShare) ⊛ ‵ (OwnR (Array f64 512) l₉ 0 (νedges1 ∷ []) δedges1 (replicate 512 nought))) ⊛ ((‵ (flft (νacross1 ∷ []) fullShare) ⊛ ‵ (OwnR (Array bool 256) l₁₀ 0 (νacross1 ∷ []) δacross1 (replicate 256 false))) ⊛ ((‵ (flft (νcommands1 ∷ []) fullShare) ⊛ ‵ (Own u64 mcommands bcommands ocommands (νcommands1 ∷ []) δcommands1 yscommands)) ⊛ (‵ (flft (νstems1 ∷ []) fullShare) ⊛ ‵ (Own T.the-row mstems bstems ostems (νstems1 ∷ []) δstems1 ysstems)))))))))) (sliceVal (xcharstring .ptr) (length (xcharstring .now)) ∷ sliceVal (xbank .ptr) (length (xbank .now)) ∷ machY rd ∷ vptr l₆ 0 ∷ vptr l₇ 0 ∷ vptr l₈ 0 ∷ vptr l₉ 0 ∷ vptr l₁₀ 0 ∷ sliceVal (bcommands, ocommands) mcommands ∷ sliceVal (bstems, ostems) mstems ∷ []) (interpret-as 𝓤 H A mem run′ W C known-interpret κcharstring qcharstring xcharstring κbank qbank xbank (νops1 ∷ []) fullShare l₆ 0 δops1 (replicate 256 nought) (νps1 ∷ []) fullShare l₇ 0 δps1 (replicate 256 nought) (νcells1 ∷ []) fullShare l₈ 0 δcells1 (replicate 17 nought) (νedges1 ∷ []) fullShare l₉ 0 δedges1 (replicate 512 nought) (νacross1 ∷ []) fullShare l₁₀ 0 δacross1 (replicate 256 false) (νcommands1 ∷ []) fullShare mcommands bcommands ocommands δcommands1 yscommands (νstems1 ∷ []) fullShare mstems bstems ostems δstems1 ysstems (rd) (rd-fits) cleared) (and-then ! (load ! (from ! (stop !)) (look ! 46 refl)) (and-then ! (load ! (from ! (stop !)) (look ! 44 refl)) (and-then ! (load ! (from ! (stop !)) (look ! 42 refl)) (and-then ! (load ! (from ! (stop !)) (look ! 31 refl)) (and-then ! (load ! (from ! (stop !)) (look ! 29 refl)) (and-then ! (load ! (from ! (stop !)) (look ! 27 refl)) (and-then ! (load ! (from ! (stop !)) (look ! 25 refl)) (and-then ! (load ! (from ! (stop !)) (look ! 23 refl)) (and-then ! (load ! (from ! (stop !)) (look ! 19 refl)) (and-then ! (load ! (from ! (stop !)) (look ! 15 refl)) (no-more !))))))))))) (λ w1 r1 zs1 e1 is1. land ! (from ! (stop !)) (init ! 50 refl (typedI 𝓤 H A W r1 _ is1)) $ rewrite ! 50 (λ (u : Val). ‵ (fat fullShare tIt l₀ 0 u)) (ap only (LL.tells I.the-type I′.the-laws r1 (w1 ∷ []) is1)) refl $ drop ! $ split ! $ move ! (1 ∷ []) $ split ! $ move ! (1 ∷ []) $ split ! $ move ! (1 ∷ []) $ split ! $ move ! (1 ∷ []) $ split ! $ move ! (1 ∷ []) $ split ! $ move ! (1 ∷ []) $ split ! $ move ! (1 ∷ []) $ split ! $ move ! (1 ∷ []) $ split ! $ move ! (1 ∷ []) $ drop ! $ move ! (9 ∷ []) $ fsplit ! $ drop ! $ fsplit ! $ drop ! $ fsplit ! $ drop ! $ fsplit ! $ move ! (1 ∷ []) $ fsplit ! $ move ! (1 ∷ []) $ fsplit ! $ move ! (1 ∷ []) $ fsplit ! $ move ! (1 ∷ []) $ fsplit ! $ move ! (1 ∷ []) $ fsplit ! $ fsplit ! $ move ! (1 ∷ []) $ feqL ! (λ lcommands1. move ! (1 ∷ []) $ fsplit ! $ fsplit ! $ move ! (1 ∷ []) $ feqL ! (λ lstems1. move ! (1 ∷ []) $ drop ! $
-        move ! (13 ∷ 22 ∷ 6 ∷ []) $ returned-ref ! tt (Array f64 256) l₆ 0 νops1 δops1 (replicate 256 nought) (zs1 .1 .1 .1 .0) (move ! (13 ∷ 21 ∷ 7 ∷ []) $ returned-ref ! tt (Array f64 256) l₇ 0 νps1 δps1 (replicate 256 nought) (zs1 .1 .1 .1 .1 .0) (move ! (13 ∷ 20 ∷ 8 ∷ []) $ returned-ref ! tt (Array f64 17) l₈ 0 νcells1 δcells1 (replicate 17 nought) (zs1 .1 .1 .1 .1 .1 .0) (move ! (13 ∷ 19 ∷ 9 ∷ []) $ returned-ref ! tt (Array f64 512) l₉ 0 νedges1 δedges1 (replicate 512 nought) (zs1 .1 .1 .1 .1 .1 .1 .0) (move ! (13 ∷ 18 ∷ 10 ∷ []) $ returned-ref ! tt (Array bool 256) l₁₀ 0 νacross1 δacross1 (replicate 256 false) (zs1 .1 .1 .1 .1 .1 .1 .1 .0) (move ! (13 ∷ 17 ∷ 11 ∷ []) $ returned ! tt u64 mcommands bcommands ocommands νcommands1 δcommands1 yscommands (zs1 .1 .1 .1 .1 .1 .1 .1 .1 .0) (refl) lcommands1 fitcommands (move ! (13 ∷ 16 ∷ 12 ∷ []) $ returned ! tt T.the-row mstems bstems ostems νstems1 δstems1 ysstems (zs1 .1 .1 .1 .1 .1 .1 .1 .1 .1 .0) (refl) lstems1 fitstems (move ! (12 ∷ 13 ∷ 22 ∷ []) $ local-back ! tt (Array f64 256) refl (zs1 .1 .1 .1 .0) (λ vops. move ! (11 ∷ 12 ∷ 20 ∷ []) $ local-back ! tt (Array f64 256) refl (zs1 .1 .1 .1 .1 .0) (λ vps. move ! (10 ∷ 11 ∷ 18 ∷ []) $ local-back ! tt (Array f64 17) refl (zs1 .1 .1 .1 .1 .1 .0) (λ vcells. move ! (9 ∷ 10 ∷ 16 ∷ []) $ local-back ! tt (Array f64 512) refl (zs1 .1 .1 .1 .1 .1 .1 .0) (λ vedges. move ! (8 ∷ 9 ∷ 14 ∷ []) $ local-back ! tt (Array bool 256) refl (zs1 .1 .1 .1 .1 .1 .1 .1 .0) (λ vacross. owned ! I.the-row (Is I.the-row) (LL.makes I.the-type I′.the-plain 𝓤 H A) r1 _ (mineI r1 w1 is1) $
+        move ! (15 ∷ []) $ use1 W (‵ (ShrSlice (named 0) κcharstring u8 .own xcharstring (sliceVal (xcharstring .ptr) (length (xcharstring .now)) ∷ [])) ⊛ ‵ (ShrSlice (named 0) κcharstring u8 .own xcharstring (sliceVal (xcharstring .ptr) (length (xcharstring .now)) ∷ []))) (shr-slice-copy 𝓤 H A W (named 0) κcharstring u8 .twice xcharstring (sliceVal (xcharstring .ptr) (length (xcharstring .now)) ∷ [])) $
+        split ! $ move ! (17 ∷ 1 ∷ []) $ join ! $ move ! (17 ∷ []) $ use1 W (‵ (ShrSlice (named 0) κbank u8 .own xbank (sliceVal (xbank .ptr) (length (xbank .now)) ∷ [])) ⊛ ‵ (ShrSlice (named 0) κbank u8 .own xbank (sliceVal (xbank .ptr) (length (xbank .now)) ∷ []))) (shr-slice-copy 𝓤 H A W (named 0) κbank u8 .twice xbank (sliceVal (xbank .ptr) (length (xbank .now)) ∷ [])) $ split ! $
+        move ! (19 ∷ 1 ∷ []) $ join ! $ move ! (16 ∷ 17 ∷ []) $ lend-ref ! tt (Array f64 256) l₆ 0 (replicate 256 nought) (λ νops1 δops1. move ! (15 ∷ 16 ∷ []) $ lend-ref ! tt (Array f64 256) l₇ 0 (replicate 256 nought) (λ νps1 δps1. move ! (14 ∷ 15 ∷ []) $ lend-ref ! tt (Array f64 17) l₈ 0 (replicate 17 nought) (λ νcells1 δcells1. move ! (13 ∷ 14 ∷ []) $
+        lend-ref ! tt (Array f64 512) l₉ 0 (replicate 512 nought) (λ νedges1 δedges1. move ! (12 ∷ 13 ∷ []) $ lend-ref ! tt (Array bool 256) l₁₀ 0 (replicate 256 false) (λ νacross1 δacross1. move ! (19 ∷ 20 ∷ []) $ lend ! tt u64 mcommands bcommands ocommands yscommands (refl) (λ νcommands1 δcommands1. move ! (21 ∷ 22 ∷ []) $
+        lend ! tt T.the-row mstems bstems ostems ysstems (refl) (λ νstems1 δstems1. move ! (2 ∷ 0 ∷ []) $ join ! $ move ! (3 ∷ 0 ∷ []) $ join ! $ move ! (4 ∷ 0 ∷ []) $ join ! $ move ! (5 ∷ 0 ∷ []) $ join ! $ move ! (6 ∷ 0 ∷ []) $ join ! $ move ! (7 ∷ 0 ∷ []) $ join ! $ move ! (8 ∷ 0 ∷ []) $ join ! $ move ! (9 ∷ 0 ∷ []) $ join ! $
+        asks-all ! fm I.the-row (Is I.the-row) (shows 𝓤 H A I.the-row) (Unit {0} × (Unit {0} × (Unit {0} × (List Float × (List Float × (List Float × (List Float × (List Bool × (List ℕ × (List Stem × Unit {0}))))))))))
+        (λ (r : I.the-row .Denot) (lasts : (Unit {0} × (Unit {0} × (Unit {0} × (List Float × (List Float × (List Float × (List Float × (List Bool × (List ℕ × (List Stem × Unit {0}))))))))))). Leaves r (lasts .1 .1 .1 .1 .1 .1 .1 .1 .0) (lasts .1 .1 .1 .1 .1 .1 .1 .1 .1 .0) yscommands ysstems (outcome (sourceOf (xcharstring .now) (xbank .now)) rd (length ysstems) (length yscommands)))
+        (λ (lasts : (Unit {0} × (Unit {0} × (Unit {0} × (List Float × (List Float × (List Float × (List Float × (List Bool × (List ℕ × (List Stem × Unit {0}))))))))))). (fsep ftrue (fsep ftrue (fsep ftrue (fsep (fres δops1 ((Array f64 256) .coded .code (lasts .1 .1 .1 .0))) (fsep (fres δps1 ((Array f64 256) .coded .code (lasts .1 .1 .1 .1 .0))) (fsep (fres δcells1 ((Array f64 17) .coded .code (lasts .1 .1 .1 .1 .1 .0))) (fsep (fres δedges1 ((Array f64 512) .coded .code (lasts .1 .1 .1 .1 .1 .1 .0))) (fsep (fres δacross1 ((Array bool 256) .coded .code (lasts .1 .1 .1 .1 .1 .1 .1 .0))) (fsep (fsep (finally u64 δcommands1 (lasts .1 .1 .1 .1 .1 .1 .1 .1 .0)) (feq ℕ (length (lasts .1 .1 .1 .1 .1 .1 .1 .1 .0)) (length yscommands))) (fsep (fsep (finally T.the-row δstems1 (lasts .1 .1 .1 .1 .1 .1 .1 .1 .1 .0)) (feq ℕ (length (lasts .1 .1 .1 .1 .1 .1 .1 .1 .1 .0)) (length ysstems))) ftrue))))))))))) (‵ (flft κcharstring qcharstring)
+        ⊛ (‵ (flft κbank qbank) ⊛ (‵ (flft (νops1 ∷ []) fullShare) ⊛ (‵ (flft (νps1 ∷ []) fullShare) ⊛ (‵ (flft (νcells1 ∷ []) fullShare) ⊛ (‵ (flft (νedges1 ∷ []) fullShare) ⊛ (‵ (flft (νacross1 ∷ []) fullShare) ⊛ (‵ (flft (νcommands1 ∷ []) fullShare) ⊛ (‵ (flft (νstems1 ∷ []) fullShare) ⊛ ‵ ftrue))))))))) ((‵ (flft κcharstring qcharstring)
+        ⊛ ‵ (ShrSlice (named 0) κcharstring u8 .own xcharstring (sliceVal (xcharstring .ptr) (length (xcharstring .now)) ∷ []))) ⊛ ((‵ (flft κbank qbank) ⊛ ‵ (ShrSlice (named 0) κbank u8 .own xbank (sliceVal (xbank .ptr) (length (xbank .now)) ∷ []))) ⊛ ((‵ (flft (νops1 ∷ []) fullShare) ⊛ ‵ (OwnR (Array f64 256) l₆ 0 (νops1 ∷ []) δops1 (replicate 256 nought))) ⊛ ((‵ (flft (νps1 ∷ []) fullShare)
+        ⊛ ‵ (OwnR (Array f64 256) l₇ 0 (νps1 ∷ []) δps1 (replicate 256 nought))) ⊛ ((‵ (flft (νcells1 ∷ []) fullShare) ⊛ ‵ (OwnR (Array f64 17) l₈ 0 (νcells1 ∷ []) δcells1 (replicate 17 nought))) ⊛ ((‵ (flft (νedges1 ∷ []) fullShare) ⊛ ‵ (OwnR (Array f64 512) l₉ 0 (νedges1 ∷ []) δedges1 (replicate 512 nought))) ⊛ ((‵ (flft (νacross1 ∷ []) fullShare)
+        ⊛ ‵ (OwnR (Array bool 256) l₁₀ 0 (νacross1 ∷ []) δacross1 (replicate 256 false))) ⊛ ((‵ (flft (νcommands1 ∷ []) fullShare) ⊛ ‵ (Own u64 mcommands bcommands ocommands (νcommands1 ∷ []) δcommands1 yscommands)) ⊛ (‵ (flft (νstems1 ∷ []) fullShare)
+        ⊛ ‵ (Own T.the-row mstems bstems ostems (νstems1 ∷ []) δstems1 ysstems)))))))))) (sliceVal (xcharstring .ptr) (length (xcharstring .now)) ∷ sliceVal (xbank .ptr) (length (xbank .now)) ∷ machY rd ∷ vptr l₆ 0 ∷ vptr l₇ 0 ∷ vptr l₈ 0 ∷ vptr l₉ 0 ∷ vptr l₁₀ 0 ∷ sliceVal (bcommands, ocommands) mcommands ∷ sliceVal (bstems, ostems) mstems ∷
+        []) (interpret-as 𝓤 H A mem run′ W C known-interpret κcharstring qcharstring xcharstring κbank qbank xbank (νops1 ∷ []) fullShare l₆ 0 δops1 (replicate 256 nought) (νps1 ∷ []) fullShare l₇ 0 δps1 (replicate 256 nought) (νcells1 ∷ []) fullShare l₈ 0 δcells1 (replicate 17 nought) (νedges1 ∷ []) fullShare l₉ 0 δedges1 (replicate 512 nought) (νacross1 ∷
+        []) fullShare l₁₀ 0 δacross1 (replicate 256 false) (νcommands1 ∷ []) fullShare mcommands bcommands ocommands δcommands1 yscommands (νstems1 ∷ []) fullShare mstems bstems ostems δstems1 ysstems (rd) (rd-fits) cleared) (and-then ! (load ! (from ! (stop !)) (look ! 46 refl)) (and-then ! (load ! (from ! (stop !)) (look ! 44 refl)) (and-then ! (load ! (from ! (stop !)) (look ! 42 refl))
+        (and-then ! (load ! (from ! (stop !)) (look ! 31 refl)) (and-then ! (load ! (from ! (stop !)) (look ! 29 refl)) (and-then ! (load ! (from ! (stop !)) (look ! 27 refl)) (and-then ! (load ! (from ! (stop !)) (look ! 25 refl)) (and-then ! (load ! (from ! (stop !)) (look ! 23 refl)) (and-then ! (load ! (from ! (stop !)) (look ! 19 refl))
+        (and-then ! (load ! (from ! (stop !)) (look ! 15 refl)) (no-more !))))))))))) (λ w1 r1 zs1 e1 is1. land ! (from ! (stop !)) (init ! 50 refl (typedI 𝓤 H A W r1 _ is1)) $ rewrite ! 50 (λ (u : Val). ‵ (fat fullShare tIt l₀ 0 u)) (ap only (LL.tells I.the-type I′.the-laws r1 (w1 ∷ []) is1)) refl $ drop ! $ split ! $ move ! (1 ∷ []) $ split ! $ move ! (1 ∷ []) $ split ! $ move ! (1 ∷ []) $ split ! $
+        move ! (1 ∷ []) $ split ! $ move ! (1 ∷ []) $ split ! $ move ! (1 ∷ []) $ split ! $ move ! (1 ∷ []) $ split ! $ move ! (1 ∷ []) $ split ! $ move ! (1 ∷ []) $ drop ! $ move ! (9 ∷ []) $ fsplit ! $ drop ! $ fsplit ! $ drop ! $ fsplit ! $ drop ! $ fsplit ! $ move ! (1 ∷ []) $ fsplit ! $ move ! (1 ∷ []) $ fsplit ! $ move ! (1 ∷ []) $ fsplit ! $ move ! (1 ∷ []) $ fsplit ! $ move ! (1 ∷ []) $ fsplit ! $ fsplit ! $ move ! (1 ∷ []) $ feqL ! (λ lcommands1. move ! (1 ∷ []) $ fsplit ! $ fsplit ! $ move ! (1 ∷ []) $ feqL ! (λ lstems1. move ! (1 ∷ []) $ drop ! $
+        move ! (13 ∷ 22 ∷ 6 ∷ []) $ returned-ref ! tt (Array f64 256) l₆ 0 νops1 δops1 (replicate 256 nought) (zs1 .1 .1 .1 .0) (move ! (13 ∷ 21 ∷ 7 ∷ []) $ returned-ref ! tt (Array f64 256) l₇ 0 νps1 δps1 (replicate 256 nought) (zs1 .1 .1 .1 .1 .0) (move ! (13 ∷ 20 ∷ 8 ∷ []) $ returned-ref ! tt (Array f64 17) l₈ 0 νcells1 δcells1 (replicate 17 nought) (zs1 .1 .1 .1 .1 .1 .0) (move ! (13 ∷ 19 ∷ 9 ∷ []) $
+        returned-ref ! tt (Array f64 512) l₉ 0 νedges1 δedges1 (replicate 512 nought) (zs1 .1 .1 .1 .1 .1 .1 .0) (move ! (13 ∷ 18 ∷ 10 ∷ []) $ returned-ref ! tt (Array bool 256) l₁₀ 0 νacross1 δacross1 (replicate 256 false) (zs1 .1 .1 .1 .1 .1 .1 .1 .0) (move ! (13 ∷ 17 ∷ 11 ∷ []) $
+        returned ! tt u64 mcommands bcommands ocommands νcommands1 δcommands1 yscommands (zs1 .1 .1 .1 .1 .1 .1 .1 .1 .0) (refl) lcommands1 fitcommands (move ! (13 ∷ 16 ∷ 12 ∷ []) $ returned ! tt T.the-row mstems bstems ostems νstems1 δstems1 ysstems (zs1 .1 .1 .1 .1 .1 .1 .1 .1 .1 .0) (refl) lstems1 fitstems (move ! (12 ∷ 13 ∷ 22 ∷ []) $
+        local-back ! tt (Array f64 256) refl (zs1 .1 .1 .1 .0) (λ vops. move ! (11 ∷ 12 ∷ 20 ∷ []) $ local-back ! tt (Array f64 256) refl (zs1 .1 .1 .1 .1 .0) (λ vps. move ! (10 ∷ 11 ∷ 18 ∷ []) $ local-back ! tt (Array f64 17) refl (zs1 .1 .1 .1 .1 .1 .0) (λ vcells. move ! (9 ∷ 10 ∷ 16 ∷ []) $ local-back ! tt (Array f64 512) refl (zs1 .1 .1 .1 .1 .1 .1 .0) (λ vedges. move ! (8 ∷ 9 ∷ 14 ∷ []) $ local-back ! tt (Array bool 256) refl (zs1 .1 .1 .1 .1 .1 .1 .1 .0) (λ vacross. owned ! I.the-row (Is I.the-row) (LL.makes I.the-type I′.the-plain 𝓤 H A) r1 _ (mineI r1 w1 is1) $
         returns ! (look ! 47 refl) $ forget ! 47 refl $ forget ! 45 refl $ forget ! 43 refl $ forget ! 41 refl $ forget ! 39 refl $ forget ! 37 refl $ forget ! 5 refl $ forget ! 4 refl $ forget ! 3 refl $ forget ! 2 refl $ forget ! 1 refl $ forget ! 30 refl $ forget ! 28 refl $ forget ! 26 refl $ forget ! 24 refl $ forget ! 22 refl $ forget ! 20 refl $ forget ! 18 refl $ forget ! 16 refl $ forget ! 14 refl $
         move ! (47 ∷ 48 ∷ []) $ free1 ! $ move ! (45 ∷ 46 ∷ []) $ free1 ! $ move ! (43 ∷ 44 ∷ []) $ free1 ! $ move ! (41 ∷ 42 ∷ []) $ free1 ! $ move ! (39 ∷ 40 ∷ []) $ free1 ! $ move ! (37 ∷ 38 ∷ []) $ free1 ! $ move ! (5 ∷ 36 ∷ []) $ free1 ! $ move ! (4 ∷ 34 ∷ []) $ free1 ! $ move ! (3 ∷ 32 ∷ []) $ free1 ! $ move ! (2 ∷ 30 ∷ []) $ free1 ! $ move ! (1 ∷ 28 ∷ []) $ free1 ! $ move ! (25 ∷ 26 ∷ []) $ free1 ! $ move ! (23 ∷ 24 ∷ []) $ free1 ! $ move ! (21 ∷ 22 ∷ []) $ free1 ! $ move ! (19 ∷ 20 ∷ []) $ free1 ! $ move ! (17 ∷ 18 ∷ []) $ free1 ! $ move ! (15 ∷ 16 ∷ []) $ free1 ! $ move ! (13 ∷ 14 ∷ []) $ free1 ! $ move ! (11 ∷ 12 ∷ []) $ free1 ! $ move ! (9 ∷ 10 ∷ []) $ free1 ! $ free0 ! $ keep ! (0 ∷ 8 ∷ 6 ∷ 7 ∷ 5 ∷ 3 ∷ 4 ∷ 1 ∷ 2 ∷ []) $ by ! (exits r1 (machI r1) (zs1 .1 .1 .1 .1 .1 .1 .1 .1 .0) (zs1 .1 .1 .1 .1 .1 .1 .1 .1 .1 .0) (e1) (lcommands1) (lstems1)))))))))))))))))))))))))))))))))))))))))))))))))
 

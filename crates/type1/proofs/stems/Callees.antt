@@ -126,7 +126,9 @@ module _ {M : Type 1} (𝓤 : URA M) (H : Heap 𝓤) (A : Atoms 𝓤) (mem : Mem
       via 𝓤 (LastFromC 𝓤 H A mem run′ .pre y) (qed W ((‵ ftrue) ∷ []) ∵ says ! need $ nothing ! $ owned ! S.the-row (Is S.the-row) (LL.makes S.the-type S′.the-plain 𝓤 H A) st _ st-fits $ fjoin ! $ nothing ! $ move ! (2 ∷ []) $ put-away ! $ frame ! $ done !) (known y)
 
   pub all-same-as : Triple 𝓤 (C #type1·stems·all-same) (AllSameC 𝓤 H A mem run′) → (κedges : Lft) (qedges : Share) (xedges : RefT (List Float)) (κacross : Lft) (qacross : Share) (xacross : RefT (List Bool)) (κstems : Lft) (qstems : Share) (mstems bstems ostems : ℕ) (γstems : GName) (ysstems : List Stem) (first : ℕ) (n : ℕ) → first < 2 ^ 64 → n < 2 ^ 64 → (n ≤ 256) × (first + n ≤ length ysstems)
-      → ent 𝓤 (mean 𝓤 H A ((‵ (flft κedges qedges) ⊛ ‵ (ShrRef (named 0) κedges (Array f64 512) .own xedges (vptr (xedges .ptr .0) (xedges .ptr .1) ∷ []))) ⊛ ((‵ (flft κacross qacross) ⊛ ‵ (ShrRef (named 0) κacross (Array bool 256) .own xacross (vptr (xacross .ptr .0) (xacross .ptr .1) ∷ []))) ⊛ (‵ (flft κstems qstems) ⊛ ‵ (Own T.the-row mstems bstems ostems κstems γstems ysstems))))) (C #type1·stems·all-same (vint w64 first ∷ vint w64 n ∷ vptr (xedges .ptr .0) (xedges .ptr .1) ∷ vptr (xacross .ptr .0) (xacross .ptr .1) ∷ sliceVal (bstems, ostems) mstems ∷ []) (λ w. mean 𝓤 H A (GotAll 𝓤 bool (Unit {0} × (Unit {0} × (Unit {0} × (Unit {0} × (List Stem × Unit {0}))))) (λ (r : bool .Denot) (lasts : (Unit {0} × (Unit {0} × (Unit {0} × (Unit {0} × (List Stem × Unit {0})))))). (r ≡ sameStems (take n (drop first ysstems)) (stemsAt 0 n (xedges .now) (xacross .now))) × (lasts .1 .1 .1 .1 .0 ≡ ysstems)) (λ (lasts : (Unit {0} × (Unit {0} × (Unit {0} × (Unit {0} × (List Stem × Unit {0})))))). (fsep ftrue (fsep ftrue (fsep ftrue (fsep ftrue (fsep (fsep (finally T.the-row γstems (lasts .1 .1 .1 .1 .0)) (feq ℕ (length (lasts .1 .1 .1 .1 .0)) (length ysstems))) ftrue)))))) (‵ (flft κedges qedges) ⊛ (‵ (flft κacross qacross) ⊛ (‵ (flft κstems qstems) ⊛ ‵ ftrue))) w)))
+      → ent 𝓤 (mean 𝓤 H A ((‵ (flft κedges qedges) ⊛ ‵ (ShrRef (named 0) κedges (Array f64 512) .own xedges (vptr (xedges .ptr .0) (xedges .ptr .1) ∷ []))) ⊛ ((‵ (flft κacross qacross) ⊛ ‵ (ShrRef (named 0) κacross (Array bool 256) .own xacross (vptr (xacross .ptr .0) (xacross .ptr .1) ∷ []))) ⊛ (‵ (flft κstems qstems)
+      ⊛ ‵ (Own T.the-row mstems bstems ostems κstems γstems ysstems))))) (C #type1·stems·all-same (vint w64 first ∷ vint w64 n ∷ vptr (xedges .ptr .0) (xedges .ptr .1) ∷ vptr (xacross .ptr .0) (xacross .ptr .1) ∷ sliceVal (bstems, ostems) mstems ∷ []) (λ w. mean 𝓤 H A (GotAll 𝓤 bool (Unit {0} × (Unit {0} × (Unit {0} × (Unit {0} × (List Stem × Unit {0})))))
+      (λ (r : bool .Denot) (lasts : (Unit {0} × (Unit {0} × (Unit {0} × (Unit {0} × (List Stem × Unit {0})))))). (r ≡ sameStems (take n (drop first ysstems)) (stemsAt 0 n (xedges .now) (xacross .now))) × (lasts .1 .1 .1 .1 .0 ≡ ysstems)) (λ (lasts : (Unit {0} × (Unit {0} × (Unit {0} × (Unit {0} × (List Stem × Unit {0})))))). (fsep ftrue (fsep ftrue (fsep ftrue (fsep ftrue (fsep (fsep (finally T.the-row γstems (lasts .1 .1 .1 .1 .0)) (feq ℕ (length (lasts .1 .1 .1 .1 .0)) (length ysstems))) ftrue)))))) (‵ (flft κedges qedges) ⊛ (‵ (flft κacross qacross) ⊛ (‵ (flft κstems qstems) ⊛ ‵ ftrue))) w)))
   all-same-as known κedges qedges xedges κacross qacross xacross κstems qstems mstems bstems ostems γstems ysstems first n first-fits n-fits need =
       let y : AllSameC 𝓤 H A mem run′ .Ghost = (((κedges, (κacross, (κstems, tt))), (qedges, (qacross, (qstems, tt))), tt, (first, (n, (xedges, (xacross, (at-list T.the-row mstems bstems ostems γstems ysstems, tt))))), (vint w64 first ∷ [], (vint w64 n ∷ [], (vptr (xedges .ptr .0) (xedges .ptr .1) ∷ [], (vptr (xacross .ptr .0) (xacross .ptr .1) ∷ [], (sliceVal (bstems, ostems) mstems ∷ [], tt)))))), tt) in
       via 𝓤 (AllSameC 𝓤 H A mem run′ .pre y) (qed W (((‵ (flft κedges qedges) ⊛ ‵ (ShrRef (named 0) κedges (Array f64 512) .own xedges (vptr (xedges .ptr .0) (xedges .ptr .1) ∷ []))) ⊛ ((‵ (flft κacross qacross) ⊛ ‵ (ShrRef (named 0) κacross (Array bool 256) .own xacross (vptr (xacross .ptr .0) (xacross .ptr .1) ∷ []))) ⊛ (‵ (flft κstems qstems) ⊛ ‵ (Own T.the-row mstems bstems ostems κstems γstems ysstems)))) ∷ []) ∵ says ! need $ split ! $ move ! (1 ∷ []) $ split ! $ move ! (2 ∷ []) $ split ! $ move ! (2 ∷ []) $ split ! $ move ! (4 ∷ []) $ split ! $ nothing ! $ move ! (2 ∷ 0 ∷ []) $ fjoin ! $ move ! (3 ∷ 0 ∷ []) $ fjoin ! $ move ! (4 ∷ 0 ∷ []) $ fjoin ! $ owned ! usize (Is usize) (uint-makes 𝓤 H A W w64) n _ (refl, n-fits) $ fjoin ! $ owned ! usize (Is usize) (uint-makes 𝓤 H A W w64) first _ (refl, first-fits) $ fjoin ! $ nothing ! $ move ! (2 ∷ 0 ∷ []) $ join ! $ move ! (2 ∷ 0 ∷ []) $ join ! $ move ! (2 ∷ 0 ∷ []) $ join ! $ frame ! $ done !) (known y)

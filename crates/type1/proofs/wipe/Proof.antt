@@ -123,7 +123,10 @@ module _ {M : Type 1} (𝓤 : URA M) (H : Heap 𝓤) (A : Atoms 𝓤) (W : Given
         assigns ! (addr ! (from ! (fld ! refl (hop ! (look-in ! 14 (sub ! 0 refl (whole !))) (stop !))))) (from ! (stop !)) (init ! 4 refl (tt, tt)) $
         assigns ! (agg ! (and-then ! (load ! (from ! (stop !)) (look ! 4 refl)) (and-then ! (load ! (from ! (fld ! refl (stop !))) (look-in ! 14 (sub ! 1 refl (whole !)))) (no-more !)))) (from ! (stop !)) (init ! 2 refl (tt, (tt, (record { fits = fitstems .0 }, tt)))) $
         -- `clear`
-        lend ! tt T.the-row mstems bstems ostems zs (held .1 .1 .0) (λ νstems1 δstems1. asks-all ! fm Nothing (Is Nothing) (shows 𝓤 H A Nothing) (List Stem × (Unit {0} × Unit {0})) (λ (r : Nothing .Denot) (lasts : (List Stem × (Unit {0} × Unit {0}))). lasts .0 ≡ set zs i zeroStem) (λ (lasts : (List Stem × (Unit {0} × Unit {0}))). (fsep (fsep (finally T.the-row δstems1 (lasts .0)) (feq ℕ (length (lasts .0)) (length zs))) (fsep ftrue ftrue))) (‵ (flft (νstems1 ∷ []) fullShare) ⊛ ‵ ftrue) (‵ (flft (νstems1 ∷ []) fullShare) ⊛ ‵ (Own T.the-row mstems bstems ostems (νstems1 ∷ []) δstems1 zs)) (sliceVal (bstems, ostems) mstems ∷ vint w64 i ∷ []) (clear-as 𝓤 H A mem run′ W C known-clear (νstems1 ∷ []) fullShare mstems bstems ostems δstems1 zs (i) (held .0) (subst (λ (k : ℕ). i < k) (sym (held .1 .1 .0)) small)) (and-then ! (load ! (from ! (stop !)) (look ! 2 refl)) (and-then ! (load ! (from ! (stop !)) (look ! 12 refl)) (no-more !))) (λ w1 r1 zs1 e1 is1. land ! (from ! (stop !)) (init ! 8 refl (nothing-lawful 𝓤 H A W .typed r1 _ is1 .0)) $ drop ! $ split ! $ move ! (1 ∷ []) $ drop ! $ move ! (1 ∷ []) $ fsplit ! $ fsplit ! $ move ! (1 ∷ []) $ feqL ! (λ lstems1. move ! (1 ∷ []) $ fsplit ! $ drop ! $ drop ! $
+        lend ! tt T.the-row mstems bstems ostems zs (held .1 .1 .0) (λ νstems1 δstems1. asks-all ! fm Nothing (Is Nothing) (shows 𝓤 H A Nothing) (List Stem × (Unit {0} × Unit {0})) (λ (r : Nothing .Denot) (lasts : (List Stem × (Unit {0} × Unit {0}))). lasts .0 ≡ set zs i zeroStem)
+        (λ (lasts : (List Stem × (Unit {0} × Unit {0}))). (fsep (fsep (finally T.the-row δstems1 (lasts .0)) (feq ℕ (length (lasts .0)) (length zs))) (fsep ftrue ftrue))) (‵ (flft (νstems1 ∷ []) fullShare) ⊛ ‵ ftrue) (‵ (flft (νstems1 ∷ []) fullShare)
+        ⊛ ‵ (Own T.the-row mstems bstems ostems (νstems1 ∷ []) δstems1 zs)) (sliceVal (bstems, ostems) mstems ∷ vint w64 i ∷ []) (clear-as 𝓤 H A mem run′ W C known-clear (νstems1 ∷ []) fullShare mstems bstems ostems δstems1 zs (i) (held .0) (subst (λ (k : ℕ). i < k) (sym (held .1 .1 .0)) small)) (and-then ! (load ! (from ! (stop !)) (look ! 2 refl))
+        (and-then ! (load ! (from ! (stop !)) (look ! 12 refl)) (no-more !))) (λ w1 r1 zs1 e1 is1. land ! (from ! (stop !)) (init ! 8 refl (nothing-lawful 𝓤 H A W .typed r1 _ is1 .0)) $ drop ! $ split ! $ move ! (1 ∷ []) $ drop ! $ move ! (1 ∷ []) $ fsplit ! $ fsplit ! $ move ! (1 ∷ []) $ feqL ! (λ lstems1. move ! (1 ∷ []) $ fsplit ! $ drop ! $ drop ! $
         move ! (1 ∷ 2 ∷ 0 ∷ []) $ returned ! tt T.the-row mstems bstems ostems νstems1 δstems1 zs (zs1 .0) (held .1 .1 .0) lstems1 fitstems (
         assigns-last ! (bin ! (load ! (from ! (stop !)) (look ! 12 refl)) (lit ! tt) (record { fits = (next-fits i mstems small (fitstems .0)) })) (from ! (stop !)) (store ! 12 refl (tt, record { fits = (next-fits i mstems small (fitstems .0)) })) $ forget ! 10 refl $ forget ! 8 refl $ forget ! 6 refl $ forget ! 4 refl $ forget ! 2 refl $ keep ! (0 ∷ 1 ∷ 2 ∷ 3 ∷ 4 ∷ 5 ∷ 6 ∷ 7 ∷ 8 ∷ 9 ∷ 10 ∷ 11 ∷ 12 ∷ 13 ∷ 14 ∷ 15 ∷ 16 ∷ 17 ∷ []) $ by ! (go (i + 1) (zs1 .0) (grows i) ((next-fits i mstems small (fitstems .0)), (omega (arith, small), (lstems1 ∙ held .1 .1 .0, stored-one ysstems zeroStem 0 (replicate mstems zeroStem) i i zs (zs1 .0) zeroStem (omega (arith, small)) (subst (λ (k : ℕ). i < k) (sym (length-replicate mstems zeroStem)) small) (omega arith) (held .1 .1 .1) (sym (getD-replicate mstems i zeroStem zeroStem small)) e1))))))))
 

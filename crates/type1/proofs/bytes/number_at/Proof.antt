@@ -5,52 +5,22 @@ use borrow.Author.Needs.{needs}
 use Rattle.type1.proofs.bytes.number_at.Statement.{statement}
 use Rattle.type1.proofs.bytes.number_at.Tie as tie
 
--- src/lib.rt:204:16
--- src/lib.rt:203:9
 returns : tie.Need-returns
 returns c =
     one-num _ _ _ _ _ _ (c .one-byte .ensures) (c .before .before .before .pre .0) (c .before .if1 .taken) (c .before .before .before .pre .1)
 
--- src/lib.rt:211:12
--- src/lib.rt:212:13
 returns-2 : tie.Need-returns-2
 returns-2 c =
     two-cut _ _ _ _ _ _ (c .before .before .if1 .left) (c .before .if2 .taken) (omega arith) (c .before .before .before .before .pre .1)
 
--- src/lib.rt:219:17
--- src/lib.rt:221:29
--- src/lib.rt:221:16
--- src/lib.rt:222:19
--- src/lib.rt:223:18
--- src/lib.rt:220:9
 returns-3 : tie.Need-returns-3
 returns-3 c =
     two-num _ _ _ _ _ _ _ _ _ (c .before .two-bytes .ensures) (c .before .before .before .before .before .before .if1 .left) (c .before .before .before .before .before .if2 .taken) (omega arith) refl (c .before .before .byte-of .ensures) (c .next-key .ensures)
 
--- src/lib.rt:227:8
--- src/lib.rt:228:9
 returns-4 : tie.Need-returns-4
 returns-4 c =
     five-cut _ _ _ _ _ _ (c .before .if2 .left) (c .if4 .taken) (c .before .before .before .before .pre .1)
 
--- src/lib.rt:235:14
--- src/lib.rt:236:19
--- src/lib.rt:236:14
--- src/lib.rt:237:19
--- src/lib.rt:237:14
--- src/lib.rt:238:19
--- src/lib.rt:238:14
--- src/lib.rt:239:9
--- src/lib.rt:240:9
--- src/lib.rt:241:9
--- src/lib.rt:243:9
--- src/lib.rt:244:9
--- src/lib.rt:245:9
--- src/lib.rt:246:9
--- src/lib.rt:242:9
--- src/lib.rt:250:15
--- src/lib.rt:251:14
--- src/lib.rt:198:1
 returns-5 : tie.Need-returns-5
 returns-5 c =
     five-num _ _ _ _ _ _ _ _ _ _ _ _ _ _ _ _ _ _ (c .before .four-bytes .ensures) (c .before .before .before .before .before .before .before .before .before .before .before .before .before .before .if2 .left) (c .before .before .before .before .before .before .before .before .before .before .before .before .before .if4 .left) refl refl refl refl (c .before .before .before .before .before .byte-of2 .ensures) (c .before .before .before .before .byte-of3 .ensures) (c .before .before .before .byte-of4 .ensures) (c .before .before .byte-of5 .ensures) (c .before .before .before .before .before .before .before .before .next-key2 .ensures) (c .before .before .before .before .before .before .before .next-key3 .ensures) (c .before .before .before .before .before .before .next-key4 .ensures) (c .next-key5 .ensures)

@@ -5,28 +5,14 @@ use borrow.Author.Needs.{needs}
 use Rattle.type1.proofs.bytes.operator_at.Statement.{statement}
 use Rattle.type1.proofs.bytes.operator_at.Tie as tie
 
--- src/lib.rt:275:44
--- src/lib.rt:275:9
--- src/lib.rt:275:9
 returns : tie.Need-returns
 returns c =
     plain-op _ _ _ _ _ _ _ _ (c .found .ensures) (c .before .wide .ensures) (c .before .before .before .before .pre .0) (c .before .before .if1 .taken) (c .before .before .before .before .pre .1)
 
--- src/lib.rt:277:8
--- src/lib.rt:278:9
--- src/lib.rt:278:9
 returns-2 : tie.Need-returns-2
 returns-2 c =
     cut-op _ _ _ _ _ _ _ (c .found2 .ensures) (c .before .before .if1 .left) (omega arith) (c .before .before .before .before .pre .1)
 
--- src/lib.rt:280:13
--- src/lib.rt:281:9
--- src/lib.rt:282:15
--- src/lib.rt:282:28
--- src/lib.rt:282:57
--- src/lib.rt:282:51
--- src/lib.rt:282:5
--- src/lib.rt:270:1
 returns-3 : tie.Need-returns-3
 returns-3 c =
     escape-op _ _ _ _ _ _ _ _ _ _ _ (c .found3 .ensures) (c .before .wide2 .ensures) (c .before .before .before .before .before .before .if1 .left) (omega arith) refl (c .before .before .before .byte-of .ensures) (c .before .before .next-key .ensures)

@@ -54,7 +54,9 @@ add-entries c =
 
 loop-again-2 : tie.Need-loop-again-2 Inv-loop μ-loop
 loop-again-2 c =
-    listed _ _ _ _ _ _ _ _ _ _ _ _ _ _ _ _ (c .before .before .before .before .before .before .before .before .before .before .before .before .before .before .before .loop .inv) _ _ _ (search needs) refl (c .before .before .before .before .before .before .before .before .before .before .before .before .byte-of .ensures) (c .before .before .before .before .before .before .before .before .before .next-key2 .ensures) _ _ (quick-is (c .before .before .before .before .before .before .before .before .before .before .before .before .before .before .before .before .before .before .args .st .changed) _ _ (c .before .before .before .before .before .before .before .before .is-quick .ensures) (not-false _ (c .before .before .before .before .before .before .before .if3 .left)) .0) (quick-is (c .before .before .before .before .before .before .before .before .before .before .before .before .before .before .before .before .before .before .args .st .changed) _ _ (c .before .before .before .before .before .before .before .before .is-quick .ensures) (not-false _ (c .before .before .before .before .before .before .before .if3 .left)) .1) (c .before .before .before .before .before .before .before .before .before .before .before .if1 .taken) (c .before .before .before .before .draw .ensures) (not-false _ (c .if4 .left))
+    listed _ _ _ _ _ _ _ _ _ _ _ _ _ _ _ _ (c .before .before .before .before .before .before .before .before .before .before .before .before .before .before .before .loop .inv) _ _ _ (search needs) refl (c .before .before .before .before .before .before .before .before .before .before .before .before .byte-of .ensures)
+    (c .before .before .before .before .before .before .before .before .before .next-key2 .ensures) _ _ (quick-is (c .before .before .before .before .before .before .before .before .before .before .before .before .before .before .before .before .before .before .args .st .changed) _ _ (c .before .before .before .before .before .before .before .before .is-quick .ensures) (not-false _ (c .before .before .before .before .before .before .before .if3 .left)) .0) (quick-is (c .before .before .before .before .before .before .before .before .before .before .before .before .before .before .before .before .before .before .args .st .changed) _ _ (c .before .before .before .before .before .before .before .before .is-quick .ensures) (not-false _ (c .before .before .before .before .before .before .before .if3 .left)) .1)
+    (c .before .before .before .before .before .before .before .before .before .before .before .if1 .taken) (c .before .before .before .before .draw .ensures) (not-false _ (c .if4 .left))
 
 number-at-requires : tie.Need-number-at-requires Inv-loop μ-loop
 number-at-requires c κs =

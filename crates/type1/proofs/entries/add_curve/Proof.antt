@@ -6,41 +6,26 @@ use borrow.Author.Needs.{needs}
 use Rattle.type1.proofs.entries.add_curve.Statement.{statement}
 use Rattle.type1.proofs.entries.add_curve.Tie as tie
 
--- src/lib.rt:390:9
--- src/lib.rt:391:9
--- src/lib.rt:391:9
 returns : tie.Need-returns
 returns c =
     adds-none _ _ _ _ _ _ _ (c .not-drawn .ensures) refl
 
--- src/lib.rt:393:9
--- src/lib.rt:394:9
--- src/lib.rt:394:9
 returns-2 : tie.Need-returns-2
 returns-2 c =
     adds-none _ _ _ _ _ _ _ (c .not-drawn2 .ensures) refl
 
--- src/lib.rt:396:9
--- src/lib.rt:397:9
--- src/lib.rt:397:9
 returns-3 : tie.Need-returns-3
 returns-3 c =
     adds-none _ _ _ _ _ _ _ (c .not-drawn3 .ensures) refl
 
--- src/lib.rt:399:8
 store-curve-requires : tie.Need-store-curve-requires
 store-curve-requires c κs =
     (c .before .before .before .before .before .before .before .before .pre, (true-of _ _ (c .before .before .before .before .before .before .finite-point .ensures) (not-false _ (c .before .before .before .before .before .if1 .left)), (true-of _ _ (c .before .before .before .before .finite-point2 .ensures) (not-false _ (c .before .before .before .if2 .left)), true-of _ _ (c .before .before .finite-point3 .ensures) (not-false _ (c .before .if3 .left)))))
 
--- src/lib.rt:400:9
--- src/lib.rt:400:9
 returns-4 : tie.Need-returns-4
 returns-4 c =
     curve-added _ _ _ _ _ _ _ _ _ _ _ _ _ _ _ _ _ _ (refl, (refl, (refl, (refl, (refl, refl))))) (three-all _ _ _ (sym (c .before .before .before .before .before .before .before .before .before .before .finite-point .ensures) ∙ not-false _ (c .before .before .before .before .before .before .before .before .before .if1 .left)) (sym (c .before .before .before .before .before .before .before .before .finite-point2 .ensures) ∙ not-false _ (c .before .before .before .before .before .before .before .if2 .left)) (sym (c .before .before .before .before .before .before .finite-point3 .ensures) ∙ not-false _ (c .before .before .before .before .before .if3 .left))) (c .before .before .before .store-curve .ensures) (c .if4 .taken)
 
--- src/lib.rt:406:5
--- src/lib.rt:369:1
--- src/lib.rt:369:1
 returns-5 : tie.Need-returns-5
 returns-5 c =
     adds-none _ _ _ _ _ _ _ (c .not-drawn4 .ensures) (c .before .before .before .before .store-curve .ensures .full (c .before .if4 .left) .0)

@@ -8,27 +8,18 @@ use borrow.Author.Needs.{needs}
 use Rattle.type1.proofs.entries.add_line.Statement.{statement}
 use Rattle.type1.proofs.entries.add_line.Tie as tie
 
--- src/lib.rt:355:9
--- src/lib.rt:356:9
--- src/lib.rt:356:9
 returns : tie.Need-returns
 returns c =
     adds-none _ _ _ _ _ _ _ (c .not-drawn .ensures) refl
 
--- src/lib.rt:358:8
 store-point-requires : tie.Need-store-point-requires
 store-point-requires c κs =
     (c .before .before .before .before .pre, ((lit< tt, lit< tt), finite-both (add binary64 (c .before .before .before .before .args .x) (c .before .before .before .before .args .dx)) (add binary64 (c .before .before .before .before .args .y) (c .before .before .before .before .args .dy)) _ (c .before .before .finite-point .ensures) (not-false _ (c .before .if1 .left))))
 
--- src/lib.rt:359:9
--- src/lib.rt:359:9
 returns-2 : tie.Need-returns-2
 returns-2 c =
     line-added _ _ _ _ _ _ _ _ (sym (c .before .before .before .before .before .before .finite-point .ensures) ∙ not-false _ (c .before .before .before .before .before .if1 .left)) (c .before .before .before .store-point .ensures) (c .if2 .taken)
 
--- src/lib.rt:365:5
--- src/lib.rt:349:1
--- src/lib.rt:349:1
 returns-3 : tie.Need-returns-3
 returns-3 c =
     adds-none _ _ _ _ _ _ _ (c .not-drawn2 .ensures) (c .before .before .before .before .store-point .ensures .full (c .before .if2 .left) .0)

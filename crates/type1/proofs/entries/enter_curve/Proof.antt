@@ -4,18 +4,10 @@ use borrow.Author.Needs.{needs}
 use Rattle.type1.proofs.entries.enter_curve.Statement.{statement}
 use Rattle.type1.proofs.entries.enter_curve.Tie as tie
 
--- src/lib.rt:621:8
--- src/lib.rt:623:21
--- src/lib.rt:624:9
--- src/lib.rt:624:9
--- src/lib.rt:624:9
 returns : tie.Need-returns
 returns c =
     (λ m s room H. entered-so _ _ _ _ _ _ (c .before .before .before .before .store-curve .ensures) (c .before .if1 .taken) (c .made .ensures) m s room H, plain-more _ _ _ (c .made .ensures))
 
--- src/lib.rt:626:5
--- src/lib.rt:604:1
--- src/lib.rt:604:1
 returns-2 : tie.Need-returns-2
 returns-2 c =
     (λ m s room H. entered-not _ _ _ _ _ _ (c .before .before .before .before .store-curve .ensures) (c .before .if1 .left) (c .made2 .ensures) m s room H, plain-same _ _ 17 (c .made2 .ensures))

@@ -43,16 +43,41 @@ add-put-point-5 c =
     omega (arith, c .before .before .before .before .before .before .before .before .before .before .before .before .before .before .before .before .before .before .pre .0, c .before .before .before .before .before .before .before .before .before .before .before .before .before .before .before .before .if1 .left, c .before .before .before .before .before .before .before .before .before .before .before .before .before .before .before .before .before .before .good .1 .1 .1 .1 .1 .1 .1 .1)
 
 put-point-requires-5 : tie.Need-put-point-requires-5
-put-point-requires-5 c κs =
-    (omega (arith, c .before .before .before .before .before .before .before .before .before .before .before .before .before .before .before .before .before .before .before .pre .0, c .before .before .before .before .before .before .before .before .before .before .before .before .before .before .before .before .before .if1 .left, length-set (c .before .before .before .before .before .before .before .before .before .before .before .before .before .before .before .before .before .before .before .args .cmds .now) (14 * c .before .before .before .before .before .before .before .before .before .before .before .before .before .before .before .before .before .before .before .args .st .entries) 4, c .before .before .before .before .before .before .before .before .before .before .before .before .before .before .cmds .given, c .before .before .before .before .before .before .before .before .before .before .cmds2 .given, c .before .before .before .before .before .before .cmds3 .given, c .before .before .cmds4 .given), c .before .before .before .before .before .before .before .before .before .before .before .before .before .before .before .before .before .before .before .pre .1 .1 .0 .1 .0)
+put-point-requires-5 c κs = (
+  omega (
+    arith,
+    c .before .before .before .before .before .before .before .before .before .before .before .before .before .before .before .before .before .before .before .pre .0,
+    c .before .before .before .before .before .before .before .before .before .before .before .before .before .before .before .before .before .if1 .left,
+    length-set (c .before .before .before .before .before .before .before .before .before .before .before .before .before .before .before .before .before .before .before .args .cmds .now)
+        (14 * c .before .before .before .before .before .before .before .before .before .before .before .before .before .before .before .before .before .before .before .args .st .entries) 4,
+    c .before .before .before .before .before .before .before .before .before .before .before .before .before .before .cmds .given,
+    c .before .before .before .before .before .before .before .before .before .before .cmds2 .given,
+    c .before .before .before .before .before .before .cmds3 .given,
+    c .before .before .cmds4 .given,
+  ),
+  c .before .before .before .before .before .before .before .before .before .before .before .before .before .before .before .before .before .before .before .pre .1 .1 .0 .1 .0,
+)
 
 add-put-point-6 : tie.Need-add-put-point-6
 add-put-point-6 c =
     omega (arith, c .before .before .before .before .before .before .before .before .before .before .before .before .before .before .before .before .before .before .before .before .before .before .pre .0, c .before .before .before .before .before .before .before .before .before .before .before .before .before .before .before .before .before .before .before .before .if1 .left, c .before .before .before .before .before .before .before .before .before .before .before .before .before .before .before .before .before .before .before .before .before .before .good .1 .1 .1 .1 .1 .1 .1 .1)
 
 put-point-requires-6 : tie.Need-put-point-requires-6
-put-point-requires-6 c κs =
-    (omega (arith, c .before .before .before .before .before .before .before .before .before .before .before .before .before .before .before .before .before .before .before .before .before .before .before .pre .0, c .before .before .before .before .before .before .before .before .before .before .before .before .before .before .before .before .before .before .before .before .before .if1 .left, length-set (c .before .before .before .before .before .before .before .before .before .before .before .before .before .before .before .before .before .before .before .before .before .before .before .args .cmds .now) (14 * c .before .before .before .before .before .before .before .before .before .before .before .before .before .before .before .before .before .before .before .before .before .before .before .args .st .entries) 4, c .before .before .before .before .before .before .before .before .before .before .before .before .before .before .before .before .before .before .cmds .given, c .before .before .before .before .before .before .before .before .before .before .before .before .before .before .cmds2 .given, c .before .before .before .before .before .before .before .before .before .before .cmds3 .given, c .before .before .before .before .before .before .cmds4 .given, c .before .before .cmds5 .given), c .before .before .before .before .before .before .before .before .before .before .before .before .before .before .before .before .before .before .before .before .before .before .before .pre .1 .1 .0 .1 .1)
+put-point-requires-6 c κs = (
+  omega (
+    arith,
+    c .before .before .before .before .before .before .before .before .before .before .before .before .before .before .before .before .before .before .before .before .before .before .before .pre .0,
+    c .before .before .before .before .before .before .before .before .before .before .before .before .before .before .before .before .before .before .before .before .before .if1 .left,
+    length-set (c .before .before .before .before .before .before .before .before .before .before .before .before .before .before .before .before .before .before .before .before .before .before .before .args .cmds .now)
+        (14 * c .before .before .before .before .before .before .before .before .before .before .before .before .before .before .before .before .before .before .before .before .before .before .before .args .st .entries) 4,
+    c .before .before .before .before .before .before .before .before .before .before .before .before .before .before .before .before .before .before .cmds .given,
+    c .before .before .before .before .before .before .before .before .before .before .before .before .before .before .cmds2 .given,
+    c .before .before .before .before .before .before .before .before .before .before .cmds3 .given,
+    c .before .before .before .before .before .before .cmds4 .given,
+    c .before .before .cmds5 .given,
+  ),
+  c .before .before .before .before .before .before .before .before .before .before .before .before .before .before .before .before .before .before .before .before .before .before .before .pre .1 .1 .0 .1 .1,
+)
 
 float-to-bits-cmds : tie.Need-float-to-bits-cmds
 float-to-bits-cmds c =
@@ -68,7 +93,19 @@ mul-cmds-2 c =
 
 slice-write-cmds-2 : tie.Need-slice-write-cmds-2
 slice-write-cmds-2 c =
-    omega (arith, c .before .before .before .before .before .before .before .before .before .before .before .before .before .before .before .before .before .before .before .before .before .before .before .before .before .before .pre .0, c .before .before .before .before .before .before .before .before .before .before .before .before .before .before .before .before .before .before .before .before .before .before .before .before .if1 .left, length-set (c .before .before .before .before .before .before .before .before .before .before .before .before .before .before .before .before .before .before .before .before .before .before .before .before .before .before .args .cmds .now) (14 * c .before .before .before .before .before .before .before .before .before .before .before .before .before .before .before .before .before .before .before .before .before .before .before .before .before .before .args .st .entries) 4, c .before .before .before .before .before .before .before .before .before .before .before .before .before .before .before .before .before .before .before .before .before .cmds .given, c .before .before .before .before .before .before .before .before .before .before .before .before .before .before .before .before .before .cmds2 .given, c .before .before .before .before .before .before .before .before .before .before .before .before .before .cmds3 .given, c .before .before .before .before .before .before .before .before .before .cmds4 .given, c .before .before .before .before .before .cmds5 .given, c .before .cmds6 .given)
+    omega (
+      arith,
+      c .before .before .before .before .before .before .before .before .before .before .before .before .before .before .before .before .before .before .before .before .before .before .before .before .before .before .pre .0,
+      c .before .before .before .before .before .before .before .before .before .before .before .before .before .before .before .before .before .before .before .before .before .before .before .before .if1 .left,
+      length-set (c .before .before .before .before .before .before .before .before .before .before .before .before .before .before .before .before .before .before .before .before .before .before .before .before .before .before .args .cmds .now)
+          (14 * c .before .before .before .before .before .before .before .before .before .before .before .before .before .before .before .before .before .before .before .before .before .before .before .before .before .before .args .st .entries) 4,
+      c .before .before .before .before .before .before .before .before .before .before .before .before .before .before .before .before .before .before .before .before .before .cmds .given,
+      c .before .before .before .before .before .before .before .before .before .before .before .before .before .before .before .before .before .cmds2 .given,
+      c .before .before .before .before .before .before .before .before .before .before .before .before .before .cmds3 .given,
+      c .before .before .before .before .before .before .before .before .before .cmds4 .given,
+      c .before .before .before .before .before .cmds5 .given,
+      c .before .cmds6 .given,
+    )
 
 add-s : tie.Need-add-s
 add-s c =
@@ -76,11 +113,20 @@ add-s c =
 
 same-length : tie.Need-same-length
 same-length c =
-    flex-length (14 * c .before .before .before .before .before .before .before .before .before .before .before .before .before .before .before .before .before .before .before .before .before .before .before .before .before .before .before .args .st .entries) (toBits binary64 (c .before .before .before .before .before .before .before .before .before .before .before .before .before .before .before .before .before .before .before .before .before .before .before .before .before .before .before .args .height)) (c .before .before .before .before .before .before .before .before .before .before .before .before .before .before .before .before .before .before .before .before .before .before .before .before .before .before .before .args .cmds .now) _ _ _ _ _ _ (c .before .before .before .before .before .before .before .before .before .before .before .before .before .before .before .before .before .before .before .before .before .before .before .before .before .before .before .args .p1) _ _ _ _ _ (c .before .before .before .before .before .before .before .before .before .before .before .before .before .before .before .before .before .before .before .before .before .before .before .put-point .ensures) (c .before .before .before .before .before .before .before .before .before .before .before .before .before .before .before .before .before .before .before .put-point2 .ensures) (c .before .before .before .before .before .before .before .before .before .before .before .before .before .before .before .put-point3 .ensures) (c .before .before .before .before .before .before .before .before .before .before .before .put-point4 .ensures) (c .before .before .before .before .before .before .before .put-point5 .ensures) (c .before .before .before .put-point6 .ensures)
+    flex-length (14 * c .before .before .before .before .before .before .before .before .before .before .before .before .before .before .before .before .before .before .before .before .before .before .before .before .before .before .before .args .st .entries) (toBits binary64 (c .before .before .before .before .before .before .before .before .before .before .before .before .before .before .before .before .before .before .before .before .before .before .before .before .before .before .before .args .height))
+    (c .before .before .before .before .before .before .before .before .before .before .before .before .before .before .before .before .before .before .before .before .before .before .before .before .before .before .before .args .cmds .now) _ _ _ _ _ _ (c .before .before .before .before .before .before .before .before .before .before .before .before .before .before .before .before .before .before .before .before .before .before .before .before .before .before .before .args .p1) _ _ _ _ _ (c .before .before .before .before .before .before .before .before .before .before .before .before .before .before .before .before .before .before .before .before .before .before .before .put-point .ensures)
+    (c .before .before .before .before .before .before .before .before .before .before .before .before .before .before .before .before .before .before .before .put-point2 .ensures) (c .before .before .before .before .before .before .before .before .before .before .before .before .before .before .before .put-point3 .ensures) (c .before .before .before .before .before .before .before .before .before .before .before .put-point4 .ensures) (c .before .before .before .before .before .before .before .put-point5 .ensures) (c .before .before .before .put-point6 .ensures)
 
 returns-2 : tie.Need-returns-2
-returns-2 c =
-    (λ m s room H. flex-entered _ _ s H room _ (c .made2 .ensures) (c .before .before .before .before .before .before .before .before .before .before .before .before .before .before .before .before .before .before .before .before .before .before .before .before .before .if1 .left) _ _ _ _ _ _ _ _ _ _ _ _ _ (c .before .before .before .before .before .before .before .before .before .before .before .before .before .before .before .before .before .before .before .before .before .before .before .put-point .ensures) (c .before .before .before .before .before .before .before .before .before .before .before .before .before .before .before .before .before .before .before .put-point2 .ensures) (c .before .before .before .before .before .before .before .before .before .before .before .before .before .before .before .put-point3 .ensures) (c .before .before .before .before .before .before .before .before .before .before .before .put-point4 .ensures) (c .before .before .before .before .before .before .before .put-point5 .ensures) (c .before .before .before .put-point6 .ensures) (c .before .before .before .before .before .before .before .before .before .before .before .before .before .before .before .before .before .before .before .before .before .before .before .before .before .before .before .pre .1 .0) (c .before .before .before .before .before .before .before .before .before .before .before .before .before .before .before .before .before .before .before .before .before .before .before .before .before .before .before .pre .1 .1 .0) (subst T (sym (c .before .before .before .before .before .before .before .before .before .before .before .before .before .before .before .before .before .before .before .before .before .before .before .before .before .before .before .good .1 .1 .1 .1 .1 .1 .0 .1)) tt), plain-more _ _ _ (c .made2 .ensures))
+returns-2 c = (
+  λ m s room H. flex-entered _ _ s H room _ (c .made2 .ensures)
+      (c .before .before .before .before .before .before .before .before .before .before .before .before .before .before .before .before .before .before .before .before .before .before .before .before .before .if1 .left) _ _ _ _ _ _ _ _ _ _ _ _ _ (c .before .before .before .before .before .before .before .before .before .before .before .before .before .before .before .before .before .before .before .before .before .before .before .put-point .ensures)
+      (c .before .before .before .before .before .before .before .before .before .before .before .before .before .before .before .before .before .before .before .put-point2 .ensures) (c .before .before .before .before .before .before .before .before .before .before .before .before .before .before .before .put-point3 .ensures)
+      (c .before .before .before .before .before .before .before .before .before .before .before .put-point4 .ensures) (c .before .before .before .before .before .before .before .put-point5 .ensures) (c .before .before .before .put-point6 .ensures)
+      (c .before .before .before .before .before .before .before .before .before .before .before .before .before .before .before .before .before .before .before .before .before .before .before .before .before .before .before .pre .1 .0)
+      (c .before .before .before .before .before .before .before .before .before .before .before .before .before .before .before .before .before .before .before .before .before .before .before .before .before .before .before .pre .1 .1 .0) (subst T (sym (c .before .before .before .before .before .before .before .before .before .before .before .before .before .before .before .before .before .before .before .before .before .before .before .before .before .before .before .good .1 .1 .1 .1 .1 .1 .0 .1)) tt),
+  plain-more _ _ _ (c .made2 .ensures),
+)
 
 pub enter-flex-spec : {M : Type 1} → statement M
 enter-flex-spec =

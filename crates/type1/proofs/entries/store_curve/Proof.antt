@@ -10,92 +10,61 @@ use borrow.Author.Needs.{needs}
 use Rattle.type1.proofs.entries.store_curve.Statement.{statement}
 use Rattle.type1.proofs.entries.store_curve.Tie as tie
 
--- src/lib.rt:334:14
--- src/lib.rt:335:8
--- src/lib.rt:336:9
 returns : tie.Need-returns
 returns c =
     stores-none _ _ _ (c .if1 .taken)
 
--- src/lib.rt:338:5
--- src/lib.rt:338:5
--- src/lib.rt:339:20
 float-to-bits-cmds : tie.Need-float-to-bits-cmds
 float-to-bits-cmds c =
     no-nan _ (and-l (finite (c .before .args .px)) (finite (c .before .args .py)) (c .before .pre .1 .0))
 
--- src/lib.rt:339:10
--- src/lib.rt:339:5
--- src/lib.rt:339:5
 slice-write-cmds-2 : tie.Need-slice-write-cmds-2
 slice-write-cmds-2 c =
     simp length-set (omega arith)
 
--- src/lib.rt:340:20
 float-to-bits-cmds-2 : tie.Need-float-to-bits-cmds-2
 float-to-bits-cmds-2 c =
     no-nan _ (and-r (finite (c .before .args .px)) (finite (c .before .args .py)) (c .before .pre .1 .0))
 
--- src/lib.rt:340:10
--- src/lib.rt:340:5
--- src/lib.rt:340:5
 slice-write-cmds-3 : tie.Need-slice-write-cmds-3
 slice-write-cmds-3 c =
     simp length-set (omega arith)
 
--- src/lib.rt:341:20
 float-to-bits-cmds-3 : tie.Need-float-to-bits-cmds-3
 float-to-bits-cmds-3 c =
     no-nan _ (and-l (finite (c .before .args .qx)) (finite (c .before .args .qy)) (c .before .pre .1 .1 .0))
 
--- src/lib.rt:341:10
--- src/lib.rt:341:5
--- src/lib.rt:341:5
 slice-write-cmds-4 : tie.Need-slice-write-cmds-4
 slice-write-cmds-4 c =
     simp length-set (omega arith)
 
--- src/lib.rt:342:20
 float-to-bits-cmds-4 : tie.Need-float-to-bits-cmds-4
 float-to-bits-cmds-4 c =
     no-nan _ (and-r (finite (c .before .args .qx)) (finite (c .before .args .qy)) (c .before .pre .1 .1 .0))
 
--- src/lib.rt:342:10
--- src/lib.rt:342:5
--- src/lib.rt:342:5
 slice-write-cmds-5 : tie.Need-slice-write-cmds-5
 slice-write-cmds-5 c =
     simp length-set (omega arith)
 
--- src/lib.rt:343:20
 float-to-bits-cmds-5 : tie.Need-float-to-bits-cmds-5
 float-to-bits-cmds-5 c =
     no-nan _ (and-l (finite (c .before .args .rx)) (finite (c .before .args .ry)) (c .before .pre .1 .1 .1))
 
--- src/lib.rt:343:10
--- src/lib.rt:343:5
--- src/lib.rt:343:5
 slice-write-cmds-6 : tie.Need-slice-write-cmds-6
 slice-write-cmds-6 c =
     simp length-set (omega arith)
 
--- src/lib.rt:344:20
 float-to-bits-cmds-6 : tie.Need-float-to-bits-cmds-6
 float-to-bits-cmds-6 c =
     no-nan _ (and-r (finite (c .before .args .rx)) (finite (c .before .args .ry)) (c .before .pre .1 .1 .1))
 
--- src/lib.rt:344:10
--- src/lib.rt:344:5
--- src/lib.rt:344:5
 slice-write-cmds-7 : tie.Need-slice-write-cmds-7
 slice-write-cmds-7 c =
     simp length-set (omega arith)
 
--- src/lib.rt:320:1
 same-length : tie.Need-same-length
 same-length c = simp length-set
 
--- src/lib.rt:320:1
 returns-2 : tie.Need-returns-2
 returns-2 c =
     stores-curve _ _ (c .before .pre .0) (c .if1 .left) _ _ _ _ _ _ (subst T (sym (c .before .good .0 .1)) tt) (subst T (sym (c .before .good .1 .0 .1)) tt) (subst T (sym (c .before .good .1 .1 .0 .1)) tt) (subst T (sym (c .before .good .1 .1 .1 .0 .1)) tt) (subst T (sym (c .before .good .1 .1 .1 .1 .0 .1)) tt) (subst T (sym (c .before .good .1 .1 .1 .1 .1 .0 .1)) tt)

@@ -8,41 +8,26 @@ use borrow.Author.Needs.{needs}
 use Rattle.type1.proofs.entries.store_point.Statement.{statement}
 use Rattle.type1.proofs.entries.store_point.Tie as tie
 
--- src/lib.rt:309:14
--- src/lib.rt:310:8
--- src/lib.rt:311:9
 returns : tie.Need-returns
 returns c =
     stores-none _ _ _ (c .if1 .taken)
 
--- src/lib.rt:313:5
--- src/lib.rt:313:5
--- src/lib.rt:314:20
 float-to-bits-cmds : tie.Need-float-to-bits-cmds
 float-to-bits-cmds c =
     no-nan _ (c .before .pre .1 .1 .0)
 
--- src/lib.rt:314:10
--- src/lib.rt:314:5
--- src/lib.rt:314:5
 slice-write-cmds-2 : tie.Need-slice-write-cmds-2
 slice-write-cmds-2 c =
     simp length-set (omega arith)
 
--- src/lib.rt:315:20
 float-to-bits-cmds-2 : tie.Need-float-to-bits-cmds-2
 float-to-bits-cmds-2 c =
     no-nan _ (c .before .pre .1 .1 .1)
 
--- src/lib.rt:315:10
--- src/lib.rt:315:5
--- src/lib.rt:315:5
 slice-write-cmds-3 : tie.Need-slice-write-cmds-3
 slice-write-cmds-3 c =
     simp length-set (omega arith)
 
--- src/lib.rt:303:1
--- src/lib.rt:303:1
 returns-2 : tie.Need-returns-2
 returns-2 c =
     stores-point _ _ (c .before .pre .0) (c .if1 .left) _ _ _ (subst T (sym (c .before .good .1 .0 .1)) tt) (subst T (sym (c .before .good .1 .1 .0 .1)) tt) (c .before .pre .1 .0 .0) (c .before .pre .1 .0 .1)

@@ -6,9 +6,6 @@ use borrow.Author.Needs.{needs}
 use Rattle.type1.proofs.operators.closepath.Statement.{statement}
 use Rattle.type1.proofs.operators.closepath.Tie as tie
 
--- src/lib.rt:189:9
--- src/lib.rt:191:5
--- src/lib.rt:186:1
 returns : tie.Need-returns
 returns c =
     c .made .ensures ∙ ap (λ (u : St). ranOf (withOpened false u) 0) (c .before .cleared .ensures)

@@ -7,38 +7,21 @@ use borrow.Author.Needs.{needs}
 use Rattle.type1.proofs.operators.div.Statement.{statement}
 use Rattle.type1.proofs.operators.div.Tie as tie
 
--- src/lib.rt:203:9
--- src/lib.rt:203:9
 returns : tie.Need-returns
 unfolding divD
 returns c =
     (λ m s H. too-few _ _ s H 2 _ _ (c .made .ensures) (c .before .if1 .taken), groups-kept _ _ 7 (c .made .ensures))
 
--- src/lib.rt:205:17
--- src/lib.rt:205:13
--- src/lib.rt:205:13
--- src/lib.rt:207:9
--- src/lib.rt:207:9
 returns-2 : tie.Need-returns-2
 unfolding ofBits
 returns-2 c =
     (λ m s H. div-zero _ _ s H (c .before .before .before .if1 .left) _ (c .made2 .ensures) (c .before .if2 .taken), groups-kept _ _ 10 (c .made2 .ensures))
 
--- src/lib.rt:209:13
--- src/lib.rt:209:13
--- src/lib.rt:210:9
--- src/lib.rt:211:9
--- src/lib.rt:211:9
 returns-3 : tie.Need-returns-3
 unfolding ofBits
 returns-3 c =
     (λ m s H. div-infinite _ _ s H (c .before .before .before .before .before .before .if1 .left) (c .before .before .before .before .if2 .left) _ (c .made3 .ensures) (sym (c .before .before .is-finite .ensures) ∙ not-true _ (c .before .if3 .taken)), groups-kept _ _ 14 (c .made3 .ensures))
 
--- src/lib.rt:213:5
--- src/lib.rt:213:5
--- src/lib.rt:215:18
--- src/lib.rt:217:5
--- src/lib.rt:195:1
 returns-4 : tie.Need-returns-4
 unfolding ofBits
 returns-4 c =

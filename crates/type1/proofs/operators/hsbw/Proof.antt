@@ -11,21 +11,11 @@ use borrow.Author.Needs.{needs}
 use Rattle.type1.proofs.operators.hsbw.Statement.{statement}
 use Rattle.type1.proofs.operators.hsbw.Tie as tie
 
--- src/lib.rt:155:9
--- src/lib.rt:155:9
 returns : tie.Need-returns
 unfolding operate
 returns c =
     (λ m s o room words H. too-few _ _ s H 2 _ _ (c .made .ensures) (c .before .if1 .taken), groups-kept _ _ 7 (c .made .ensures))
 
--- src/lib.rt:157:18
--- src/lib.rt:157:18
--- src/lib.rt:157:39
--- src/lib.rt:157:35
--- src/lib.rt:157:35
--- src/lib.rt:157:47
--- src/lib.rt:157:5
--- src/lib.rt:147:1
 returns-2 : tie.Need-returns-2
 unfolding operate ofBits
 returns-2 c =

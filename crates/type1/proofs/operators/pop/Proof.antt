@@ -3,27 +3,14 @@ use borrow.Author.Needs.{needs}
 use Rattle.type1.proofs.operators.pop.Statement.{statement}
 use Rattle.type1.proofs.operators.pop.Tie as tie
 
--- src/lib.rt:229:9
--- src/lib.rt:229:9
 returns : tie.Need-returns
 returns c =
     (λ m s room words H. pop-none _ _ s H room words _ (c .made .ensures) (c .before .if1 .taken), groups-kept _ _ 11 (c .made .ensures))
 
--- src/lib.rt:233:9
--- src/lib.rt:233:9
 returns-2 : tie.Need-returns-2
 returns-2 c =
     (λ m s room words H. pop-full _ _ s H room words (c .before .before .if1 .left) _ (c .made2 .ensures) (c .before .if2 .taken), groups-kept _ _ 15 (c .made2 .ensures))
 
--- src/lib.rt:235:17
--- src/lib.rt:235:14
--- src/lib.rt:235:14
--- src/lib.rt:235:5
--- src/lib.rt:235:5
--- src/lib.rt:237:20
--- src/lib.rt:238:18
--- src/lib.rt:239:5
--- src/lib.rt:221:1
 returns-3 : tie.Need-returns-3
 returns-3 c =
     (λ m s room words H. pop-done _ _ s H room words (c .before .before .before .if1 .left) _ (c .made3 .ensures) (c .before .before .if2 .left), groups-kept _ _ 0 (c .made3 .ensures))

@@ -7,24 +7,11 @@ use borrow.Author.Needs.{needs}
 use Rattle.type1.proofs.operators.sbw.Statement.{statement}
 use Rattle.type1.proofs.operators.sbw.Tie as tie
 
--- src/lib.rt:225:9
--- src/lib.rt:225:9
 returns : tie.Need-returns
 unfolding operate
 returns c =
     (λ m s o room words H. too-few _ _ s H 4 _ _ (c .made .ensures) (c .before .if1 .taken), groups-kept _ _ 7 (c .made .ensures))
 
--- src/lib.rt:227:18
--- src/lib.rt:227:18
--- src/lib.rt:227:34
--- src/lib.rt:227:30
--- src/lib.rt:227:30
--- src/lib.rt:227:46
--- src/lib.rt:227:42
--- src/lib.rt:227:42
--- src/lib.rt:227:54
--- src/lib.rt:227:5
--- src/lib.rt:217:1
 returns-2 : tie.Need-returns-2
 unfolding operate
 returns-2 c =

@@ -6,12 +6,6 @@ use borrow.Author.Needs.{needs}
 use Rattle.type1.proofs.operators.side_bearing.Statement.{statement}
 use Rattle.type1.proofs.operators.side_bearing.Tie as tie
 
--- src/lib.rt:179:5
--- src/lib.rt:180:5
--- src/lib.rt:181:5
--- src/lib.rt:182:10
--- src/lib.rt:182:5
--- src/lib.rt:174:1
 returns : tie.Need-returns
 returns c =
     (λ m s H. bearing-set _ _ s H _ _ _ _ _ (c .made .ensures) (c .before .at-point .ensures), ap (λ (q : Ran). q .st .groups) (c .made .ensures) ∙ ap (λ (u : St). u .groups) (c .before .at-point .ensures))

@@ -10,76 +10,60 @@ use borrow.Author.Needs.{needs}
 use Rattle.type1.proofs.operators.stems3.Statement.{statement}
 use Rattle.type1.proofs.operators.stems3.Tie as tie
 
--- src/lib.rt:284:9
--- src/lib.rt:284:9
 returns : tie.Need-returns
 unfolding stems3
 returns c =
     (λ m s room words H. too-few _ _ s H 6 _ _ (c .made .ensures) (c .before .if1 .taken), groups-kept _ _ 7 (c .made .ensures))
 
--- src/lib.rt:288:16
--- src/lib.rt:288:16
--- src/lib.rt:289:13
--- src/lib.rt:289:9
--- src/lib.rt:289:9
--- src/lib.rt:290:9
--- src/lib.rt:286:9
 add-stem-requires : tie.Need-add-stem-requires
 add-stem-requires c κs =
     subst (λ (u : St). u .hints ≤ 256) (sym (c .before .before .cleared .ensures)) (c .before .before .before .before .before .before .pre .1)
 
--- src/lib.rt:295:9
 returns-2 : tie.Need-returns-2
 returns-2 c =
     (λ m s room words H. first-stops _ _ s H _ _ _ (c .before .before .before .before .before .before .before .before .if1 .left) _ _ (c .before .before .add-stem .ensures .0 (withOps (c .before .before .before .before .before .before .before .before .before .args .ops .now) m) _ room words (from-cleared _ _ _ s H (c .before .before .before .before .before .cleared .ensures))) (c .if2 .taken), c .before .before .add-stem .ensures .1 .1 ∙ ap (λ (u : St). u .groups) (c .before .before .before .before .before .cleared .ensures))
 
--- src/lib.rt:299:20
--- src/lib.rt:299:16
--- src/lib.rt:299:16
--- src/lib.rt:300:13
--- src/lib.rt:300:9
--- src/lib.rt:300:9
--- src/lib.rt:297:9
--- src/lib.rt:306:9
 returns-3 : tie.Need-returns-3
-returns-3 c =
-    (λ m s room words H. second-stops _ _ s H _ _ _ (c .before .before .before .before .before .before .before .before .before .before .before .before .before .before .before .if1 .left) _ _ _ _ (c .before .before .before .before .before .before .before .before .before .add-stem .ensures .0 (withOps (c .before .before .before .before .before .before .before .before .before .before .before .before .before .before .before .before .args .ops .now) m) _ room words (from-cleared _ _ _ s H (c .before .before .before .before .before .before .before .before .before .before .before .before .cleared .ensures))) (c .before .before .before .before .before .before .before .if2 .left) (λ v K. c .before .before .add-stem2 .ensures .0 (withOps (c .before .before .before .before .before .before .before .before .before .before .before .before .before .before .before .before .args .ops .now) m) v room words K) (c .if3 .taken), c .before .before .add-stem2 .ensures .1 .1 ∙ c .before .before .before .before .before .before .before .before .before .add-stem .ensures .1 .1 ∙ ap (λ (u : St). u .groups) (c .before .before .before .before .before .before .before .before .before .before .before .before .cleared .ensures))
+returns-3 c = (
+  λ m s room words H. second-stops _ _ s H _ _ _ (c .before .before .before .before .before .before .before .before .before .before .before .before .before .before .before .if1 .left) _ _ _ _ (c .before .before .before .before .before .before .before .before .before .add-stem .ensures .0 (withOps (c .before .before .before .before .before .before .before .before .before .before .before .before .before .before .before .before .args .ops .now) m) _ room words (from-cleared _ _ _ s H (c .before .before .before .before .before .before .before .before .before .before .before .before .cleared .ensures)))
+      (c .before .before .before .before .before .before .before .if2 .left) (λ v K. c .before .before .add-stem2 .ensures .0 (withOps (c .before .before .before .before .before .before .before .before .before .before .before .before .before .before .before .before .args .ops .now) m) v room words K) (c .if3 .taken),
+  c .before .before .add-stem2 .ensures .1 .1
+      ∙ c .before .before .before .before .before .before .before .before .before .add-stem .ensures .1 .1 ∙ ap (λ (u : St). u .groups) (c .before .before .before .before .before .before .before .before .before .before .before .before .cleared .ensures),
+)
 
--- src/lib.rt:310:20
 sub-t14-2 : tie.Need-sub-t14-2
 sub-t14-2 c =
     omega (arith, c .before .before .before .before .before .before .before .before .before .before .before .before .before .before .before .if1 .left, c .before .before .before .before .before .before .before .before .before .before .before .before .before .before .before .before .pre .0)
 
--- src/lib.rt:310:16
 mul-t15-3 : tie.Need-mul-t15-3
 mul-t15-3 c =
     omega (arith, c .before .before .before .before .before .before .before .before .before .before .before .before .before .before .before .if1 .left, c .before .before .before .before .before .before .before .before .before .before .before .before .before .before .before .before .pre .0)
 
--- src/lib.rt:310:16
 element-copy-out-t19-2 : tie.Need-element-copy-out-t19-2
 element-copy-out-t19-2 c =
     omega (arith, c .before .before .before .before .before .before .before .before .before .before .before .before .before .before .before .if1 .left, c .before .before .before .before .before .before .before .before .before .before .before .before .before .before .before .before .pre .0)
 
--- src/lib.rt:311:13
 sub-t21-2 : tie.Need-sub-t21-2
 sub-t21-2 c =
     omega (arith, c .before .before .before .before .before .before .before .before .before .before .before .before .before .before .before .before .if1 .left, c .before .before .before .before .before .before .before .before .before .before .before .before .before .before .before .before .before .pre .0)
 
--- src/lib.rt:311:9
 mul-t20-2 : tie.Need-mul-t20-2
 mul-t20-2 c =
     omega (arith, c .before .before .before .before .before .before .before .before .before .before .before .before .before .before .before .before .if1 .left, c .before .before .before .before .before .before .before .before .before .before .before .before .before .before .before .before .before .pre .0)
 
--- src/lib.rt:311:9
 element-copy-out-t18-2 : tie.Need-element-copy-out-t18-2
 element-copy-out-t18-2 c =
     omega (arith, c .before .before .before .before .before .before .before .before .before .before .before .before .before .before .before .before .if1 .left, c .before .before .before .before .before .before .before .before .before .before .before .before .before .before .before .before .before .pre .0)
 
--- src/lib.rt:308:5
--- src/lib.rt:269:1
 returns-4 : tie.Need-returns-4
-returns-4 c =
-    (λ m s room words H. all-three _ _ s H _ _ _ (c .before .before .before .before .before .before .before .before .before .before .before .before .before .before .before .before .before .before .before .before .if1 .left) _ _ _ _ _ _ (c .before .before .before .before .before .before .before .before .before .before .before .before .before .before .add-stem .ensures .0 (withOps (c .before .before .before .before .before .before .before .before .before .before .before .before .before .before .before .before .before .before .before .before .before .args .ops .now) m) _ room words (from-cleared _ _ _ s H (c .before .before .before .before .before .before .before .before .before .before .before .before .before .before .before .before .before .cleared .ensures))) (c .before .before .before .before .before .before .before .before .before .before .before .before .if2 .left) (λ v K. c .before .before .before .before .before .before .before .add-stem2 .ensures .0 (withOps (c .before .before .before .before .before .before .before .before .before .before .before .before .before .before .before .before .before .before .before .before .before .args .ops .now) m) v room words K) (c .before .before .before .before .before .if3 .left) (λ v K. c .add-stem3 .ensures .0 (withOps (c .before .before .before .before .before .before .before .before .before .before .before .before .before .before .before .before .before .before .before .before .before .args .ops .now) m) v room words K), c .add-stem3 .ensures .1 .1 ∙ c .before .before .before .before .before .before .before .add-stem2 .ensures .1 .1 ∙ c .before .before .before .before .before .before .before .before .before .before .before .before .before .before .add-stem .ensures .1 .1 ∙ ap (λ (u : St). u .groups) (c .before .before .before .before .before .before .before .before .before .before .before .before .before .before .before .before .before .cleared .ensures))
+returns-4 c = (
+  λ m s room words H. all-three _ _ s H _ _ _ (c .before .before .before .before .before .before .before .before .before .before .before .before .before .before .before .before .before .before .before .before .if1 .left) _ _ _ _ _ _ (c .before .before .before .before .before .before .before .before .before .before .before .before .before .before .add-stem .ensures .0 (withOps (c .before .before .before .before .before .before .before .before .before .before .before .before .before .before .before .before .before .before .before .before .before .args .ops .now) m) _ room words (from-cleared _ _ _ s H (c .before .before .before .before .before .before .before .before .before .before .before .before .before .before .before .before .before .cleared .ensures)))
+      (c .before .before .before .before .before .before .before .before .before .before .before .before .if2 .left)
+      (λ v K. c .before .before .before .before .before .before .before .add-stem2 .ensures .0 (withOps (c .before .before .before .before .before .before .before .before .before .before .before .before .before .before .before .before .before .before .before .before .before .args .ops .now) m) v room words K) (c .before .before .before .before .before .if3 .left)
+      (λ v K. c .add-stem3 .ensures .0 (withOps (c .before .before .before .before .before .before .before .before .before .before .before .before .before .before .before .before .before .before .before .before .before .args .ops .now) m) v room words K),
+  c .add-stem3 .ensures .1 .1 ∙ c .before .before .before .before .before .before .before .add-stem2 .ensures .1 .1
+      ∙ c .before .before .before .before .before .before .before .before .before .before .before .before .before .before .add-stem .ensures .1 .1 ∙ ap (λ (u : St). u .groups) (c .before .before .before .before .before .before .before .before .before .before .before .before .before .before .before .before .before .cleared .ensures),
+)
 
 pub stems3-spec : {M : Type 1} → statement M
 stems3-spec =

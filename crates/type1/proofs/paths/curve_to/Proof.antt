@@ -22,16 +22,29 @@ commit-requires c κs =
     moved-bounds _ _ _ _ _ _ (c .before .at-point .ensures) (c .before .before .before .before .before .before .before .before .before .before .before .pre .0) (c .before .before .before .before .before .before .before .before .before .before .before .pre .1)
 
 returns-4 : tie.Need-returns-4
-returns-4 c =
-    (curves-listed (c .before .before .before .before .before .before .before .before .before .before .before .before .before .before .before .before .args .st) _ _ _ _ _ _ _ _ _ _ _ _ (refl, (refl, (refl, (refl, (refl, refl))))) _ _ _ _ _ _ (c .before .before .before .before .before .before .at-point .ensures) (three-all _ _ _ (sym (c .before .before .before .before .before .before .before .before .before .before .before .before .finite-point .ensures) ∙ not-false _ (c .before .before .before .before .before .before .before .before .before .before .before .if1 .left)) (sym (c .before .before .before .before .before .before .before .before .before .before .finite-point2 .ensures) ∙ not-false _ (c .before .before .before .before .before .before .before .before .before .if2 .left)) (sym (c .before .before .before .before .before .before .before .before .finite-point3 .ensures) ∙ not-false _ (c .before .before .before .before .before .before .before .if3 .left))) (lists-stop _ _ _ _ _ _ _ (c .before .before .before .before .commit .ensures .0) (c .if4 .taken)), moved-path (c .before .before .before .before .before .before .before .before .before .before .before .before .before .before .before .before .args .st) _ _ _ _ _ (c .before .before .before .before .before .before .at-point .ensures) (c .before .before .before .before .commit .ensures .1 .0))
+returns-4 c = (
+  curves-listed (c .before .before .before .before .before .before .before .before .before .before .before .before .before .before .before .before .args .st) _ _ _ _ _ _ _ _ _ _ _ _ (refl, (refl, (refl, (refl, (refl, refl))))) _ _ _ _ _ _ (c .before .before .before .before .before .before .at-point .ensures) (three-all _ _ _ (sym (c .before .before .before .before .before .before .before .before .before .before .before .before .finite-point .ensures)
+      ∙ not-false _ (c .before .before .before .before .before .before .before .before .before .before .before .if1 .left)) (sym (c .before .before .before .before .before .before .before .before .before .before .finite-point2 .ensures)
+      ∙ not-false _ (c .before .before .before .before .before .before .before .before .before .if2 .left)) (sym (c .before .before .before .before .before .before .before .before .finite-point3 .ensures)
+      ∙ not-false _ (c .before .before .before .before .before .before .before .if3 .left))) (lists-stop _ _ _ _ _ _ _ (c .before .before .before .before .commit .ensures .0) (c .if4 .taken)),
+  moved-path (c .before .before .before .before .before .before .before .before .before .before .before .before .before .before .before .before .args .st) _ _ _ _ _ (c .before .before .before .before .before .before .at-point .ensures) (c .before .before .before .before .commit .ensures .1 .0),
+)
 
 enter-curve-requires : tie.Need-enter-curve-requires
 enter-curve-requires c κs =
     (curve-after _ _ _ _ _ (c .before .before .before .before .before .commit .ensures .1 .1) (c .before .before .before .before .cmds .given), (true-of _ _ (c .before .before .before .before .before .before .before .before .before .before .before .before .before .finite-point .ensures) (not-false _ (c .before .before .before .before .before .before .before .before .before .before .before .before .if1 .left)), (true-of _ _ (c .before .before .before .before .before .before .before .before .before .before .before .finite-point2 .ensures) (not-false _ (c .before .before .before .before .before .before .before .before .before .before .if2 .left)), true-of _ _ (c .before .before .before .before .before .before .before .before .before .finite-point3 .ensures) (not-false _ (c .before .before .before .before .before .before .before .before .if3 .left)))))
 
 returns-5 : tie.Need-returns-5
-returns-5 c =
-    (curves-listed (c .before .before .before .before .before .before .before .before .before .before .before .before .before .before .before .before .before .before .before .before .args .st) _ _ _ _ _ _ _ _ _ _ _ _ (refl, (refl, (refl, (refl, (refl, refl))))) _ _ _ _ _ _ (c .before .before .before .before .before .before .before .before .before .before .at-point .ensures) (three-all _ _ _ (sym (c .before .before .before .before .before .before .before .before .before .before .before .before .before .before .before .before .finite-point .ensures) ∙ not-false _ (c .before .before .before .before .before .before .before .before .before .before .before .before .before .before .before .if1 .left)) (sym (c .before .before .before .before .before .before .before .before .before .before .before .before .before .before .finite-point2 .ensures) ∙ not-false _ (c .before .before .before .before .before .before .before .before .before .before .before .before .before .if2 .left)) (sym (c .before .before .before .before .before .before .before .before .before .before .before .before .finite-point3 .ensures) ∙ not-false _ (c .before .before .before .before .before .before .before .before .before .before .before .if3 .left))) (lists-on _ _ (c .before .before .before .before .before .before .before .before .commit .result) _ _ _ _ _ _ (c .before .before .before .before .before .before .before .before .commit .ensures .0) (c .before .before .before .before .if4 .left) (c .before .before .before .before .before .before .before .cmds .given) (c .before .before .enter-curve .ensures .0) (c .before .before .enter-curve .ensures .1)), moved-path (c .before .before .before .before .before .before .before .before .before .before .before .before .before .before .before .before .before .before .before .before .args .st) _ _ _ _ _ (c .before .before .before .before .before .before .before .before .before .before .at-point .ensures) (path-enter _ (c .before .before .before .before .before .before .before .before .commit .result) _ _ (c .before .before .before .before .before .before .before .before .commit .ensures .1 .0) (c .before .before .before .before .if4 .left) (c .before .before .enter-curve .ensures .1)))
+returns-5 c = (
+  curves-listed (c .before .before .before .before .before .before .before .before .before .before .before .before .before .before .before .before .before .before .before .before .args .st) _ _ _ _ _ _ _ _ _ _ _ _ (refl, (refl, (refl, (refl, (refl, refl))))) _ _ _ _ _ _ (c .before .before .before .before .before .before .before .before .before .before .at-point .ensures) (three-all _ _ _ (sym (c .before .before .before .before .before .before .before .before .before .before .before .before .before .before .before .before .finite-point .ensures)
+      ∙ not-false _ (c .before .before .before .before .before .before .before .before .before .before .before .before .before .before .before .if1 .left)) (sym (c .before .before .before .before .before .before .before .before .before .before .before .before .before .before .finite-point2 .ensures)
+      ∙ not-false _ (c .before .before .before .before .before .before .before .before .before .before .before .before .before .if2 .left)) (sym (c .before .before .before .before .before .before .before .before .before .before .before .before .finite-point3 .ensures)
+      ∙ not-false _ (c .before .before .before .before .before .before .before .before .before .before .before .if3 .left))) (lists-on _ _ (c .before .before .before .before .before .before .before .before .commit .result) _ _ _ _ _ _ (c .before .before .before .before .before .before .before .before .commit .ensures .0) (c .before .before .before .before .if4 .left)
+      (c .before .before .before .before .before .before .before .cmds .given) (c .before .before .enter-curve .ensures .0)
+      (c .before .before .enter-curve .ensures .1)),
+  moved-path (c .before .before .before .before .before .before .before .before .before .before .before .before .before .before .before .before .before .before .before .before .args .st) _ _ _ _ _ (c .before .before .before .before .before .before .before .before .before .before .at-point .ensures) (path-enter _ (c .before .before .before .before .before .before .before .before .commit .result) _ _ (c .before .before .before .before .before .before .before .before .commit .ensures .1 .0)
+      (c .before .before .before .before .if4 .left) (c .before .before .enter-curve .ensures .1)),
+)
 
 pub curve-to-spec : {M : Type 1} → statement M
 curve-to-spec =

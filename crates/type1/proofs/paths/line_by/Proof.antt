@@ -12,8 +12,12 @@ returns-2 c =
     (line-stop _ (c .before .before .before .before .before .before .before .before .args .st) _ _ _ _ _ _ (c .before .before .before .before .before .before .if1 .left) (c .before .before .before .before .open-subpath .ensures .0) (c .if2 .taken), space-of _ _ _ (c .before .before .before .before .open-subpath .ensures .1 .0))
 
 returns-3 : tie.Need-returns-3
-returns-3 c =
-    (line-move _ (c .before .before .before .before .before .before .before .before .before .before .before .before .args .st) _ _ _ _ _ (c .before .before .before .before .before .before .before .before .open-subpath .result) _ _ (c .before .before .before .before .before .before .before .before .before .before .if1 .left) (c .before .before .before .before .before .before .before .before .open-subpath .ensures .0) (c .before .before .before .before .if2 .left) (c .before .before .before .before .before .before .before .before .open-subpath .ensures .1 .0) (c .before .before .before .before .before .before .before .cmds2 .given) (c .before .before .line-to2 .ensures .0) (c .before .before .line-to2 .ensures .1), space-move _ (c .before .before .before .before .before .before .before .before .open-subpath .result) _ _ (c .before .before .before .before .before .before .before .before .open-subpath .ensures .1 .0) (c .before .before .before .before .if2 .left) (c .before .before .line-to2 .ensures .1))
+returns-3 c = (
+  line-move _ (c .before .before .before .before .before .before .before .before .before .before .before .before .args .st) _ _ _ _ _ (c .before .before .before .before .before .before .before .before .open-subpath .result) _ _ (c .before .before .before .before .before .before .before .before .before .before .if1 .left)
+      (c .before .before .before .before .before .before .before .before .open-subpath .ensures .0) (c .before .before .before .before .if2 .left) (c .before .before .before .before .before .before .before .before .open-subpath .ensures .1 .0) (c .before .before .before .before .before .before .before .cmds2 .given) (c .before .before .line-to2 .ensures .0)
+      (c .before .before .line-to2 .ensures .1),
+  space-move _ (c .before .before .before .before .before .before .before .before .open-subpath .result) _ _ (c .before .before .before .before .before .before .before .before .open-subpath .ensures .1 .0) (c .before .before .before .before .if2 .left) (c .before .before .line-to2 .ensures .1),
+)
 
 pub line-by-spec : {M : Type 1} → statement M
 line-by-spec =

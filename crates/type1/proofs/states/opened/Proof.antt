@@ -4,13 +4,10 @@ use borrow.Author.Needs.{needs}
 use Rattle.type1.proofs.states.opened.Statement.{statement}
 use Rattle.type1.proofs.states.opened.Tie as tie
 
--- src/lib.rt:321:9
 returns : tie.Need-returns
 returns c =
     sym (simp (ne-eqb _ _ (c .if1 .taken)))
 
--- src/lib.rt:325:5
--- src/lib.rt:317:1
 returns-2 : tie.Need-returns-2
 returns-2 c =
     c .made .ensures ∙ sym (simp (eq-eqb _ _ (c .before .before .if1 .left)))

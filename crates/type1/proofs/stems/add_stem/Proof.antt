@@ -5,37 +5,18 @@ use borrow.Author.Needs.{needs}
 use Rattle.type1.proofs.stems.add_stem.Statement.{statement}
 use Rattle.type1.proofs.stems.add_stem.Tie as tie
 
--- src/lib.rt:184:9
--- src/lib.rt:185:9
--- src/lib.rt:185:9
 returns : tie.Need-returns
 returns c =
     (λ m s room words H. add-infinite _ _ s H room words _ _ _ _ (c .made .ensures) (sym (c .before .before .is-finite .ensures) ∙ not-true _ (c .before .if1 .taken)), in-bounds _ _ 14 (c .made .ensures) (c .before .before .before .pre))
 
--- src/lib.rt:188:8
--- src/lib.rt:189:9
--- src/lib.rt:189:9
 returns-2 : tie.Need-returns-2
 returns-2 c =
     (λ m s room words H. add-same _ _ s H room words _ _ _ (sym (c .before .before .before .before .before .before .is-finite .ensures) ∙ not-false _ (c .before .before .before .before .before .if1 .left)) _ (c .made2 .ensures) (sym (c .before .before .in-force .ensures) ∙ c .before .if2 .taken), in-bounds _ _ 0 (c .made2 .ensures) (c .before .before .before .before .before .before .before .pre))
 
--- src/lib.rt:192:9
--- src/lib.rt:192:9
 returns-3 : tie.Need-returns-3
 returns-3 c =
     (λ m s room words H. add-full _ _ s H room words _ _ _ (sym (c .before .before .before .before .before .before .before .is-finite .ensures) ∙ not-false _ (c .before .before .before .before .before .before .if1 .left)) _ (c .made3 .ensures) (sym (c .before .before .before .in-force .ensures) ∙ c .before .before .if2 .left) (c .before .if3 .taken), in-bounds _ _ 16 (c .made3 .ensures) (c .before .before .before .before .before .before .before .before .pre))
 
--- src/lib.rt:194:11
--- src/lib.rt:194:5
--- src/lib.rt:194:5
--- src/lib.rt:195:11
--- src/lib.rt:195:11
--- src/lib.rt:195:5
--- src/lib.rt:195:5
--- src/lib.rt:196:5
--- src/lib.rt:198:15
--- src/lib.rt:200:5
--- src/lib.rt:171:1
 returns-4 : tie.Need-returns-4
 returns-4 c =
     (λ m s room words H. add-new _ _ s H room words _ _ _ (sym (c .before .before .before .before .before .before .before .is-finite .ensures) ∙ not-false _ (c .before .before .before .before .before .before .if1 .left)) _ (c .made4 .ensures) (sym (c .before .before .before .in-force .ensures) ∙ c .before .before .if2 .left) (c .before .if3 .left), one-more (c .before .before .before .before .before .before .before .before .args .st) _ (c .made4 .ensures) (c .before .before .before .before .before .before .before .before .pre) (c .before .if3 .left))

@@ -127,7 +127,9 @@ module _ {M : Type 1} (𝓤 : URA M) (H : Heap 𝓤) (A : Atoms 𝓤) (W : Given
 
     -- at the head of the loop
     abbrev At : ℕ → (List Stem) → (l₀ l₁ l₂ l₃ l₄ l₅ l₆ l₇ l₈ l₉ l₁₀ l₁₁ l₁₂ : ℕ) → List (Item 𝓤)
-    At i zs l₀ l₁ l₂ l₃ l₄ l₅ l₆ l₇ l₈ l₉ l₁₀ l₁₁ l₁₂ = ‵ (ShrRef (named 0) κedges (Array f64 512) .own xedges (vptr (xedges .ptr .0) (xedges .ptr .1) ∷ [])) ∷ ‵ (flft κedges qedges) ∷ ‵ (ShrRef (named 0) κacross (Array bool 256) .own xacross (vptr (xacross .ptr .0) (xacross .ptr .1) ∷ [])) ∷ ‵ (flft κacross qacross) ∷ ‵ (Own T.the-row mstems bstems ostems κstems γstems zs) ∷ ‵ (flft κstems qstems) ∷ ‵ (froom word l₁₂ 0) ∷ ‵ (fdies word l₁₂) ∷ ‵ (froom (sliceTy (tS erased)) l₁₁ 0) ∷ ‵ (fdies (sliceTy (tS erased)) l₁₁) ∷ ‵ (froom (tS erased) l₁₀ 0) ∷ ‵ (fdies (tS erased) l₁₀) ∷ ‵ (froom tTt l₉ 0) ∷ ‵ (fdies tTt l₉) ∷ ‵ (froom tyBool l₈ 0) ∷ ‵ (fdies tyBool l₈) ∷ ‵ (froom tyBool l₇ 0) ∷ ‵ (fdies tyBool l₇) ∷ ‵ (fat fullShare word l₆ 0 (vint w64 i)) ∷ ‵ (fdies word l₆) ∷ ‵ (fat fullShare (sliceTy (tS (named 2))) l₅ 0 (sliceVal (bstems, ostems) mstems)) ∷ ‵ (fdies (sliceTy (tS (named 2))) l₅) ∷ ‵ (fat fullShare (sA (named 1)) l₄ 0 (vptr (xacross .ptr .0) (xacross .ptr .1))) ∷ ‵ (fdies (sA (named 1)) l₄) ∷ ‵ (fat fullShare (sF (named 0) 512) l₃ 0 (vptr (xedges .ptr .0) (xedges .ptr .1))) ∷ ‵ (fdies (sF (named 0) 512) l₃) ∷ ‵ (fat fullShare word l₂ 0 (vint w64 n)) ∷ ‵ (fdies word l₂) ∷ ‵ (fat fullShare word l₁ 0 (vint w64 first)) ∷ ‵ (fdies word l₁) ∷ ‵ (froom tyBool l₀ 0) ∷ ‵ (fdies tyBool l₀) ∷ []
+    At i zs l₀ l₁ l₂ l₃ l₄ l₅ l₆ l₇ l₈ l₉ l₁₀ l₁₁ l₁₂ = ‵ (ShrRef (named 0) κedges (Array f64 512) .own xedges (vptr (xedges .ptr .0) (xedges .ptr .1) ∷ [])) ∷ ‵ (flft κedges qedges) ∷ ‵ (ShrRef (named 0) κacross (Array bool 256) .own xacross (vptr (xacross .ptr .0) (xacross .ptr .1) ∷ [])) ∷ ‵ (flft κacross qacross) ∷ ‵ (Own T.the-row mstems bstems ostems κstems γstems zs) ∷ ‵ (flft κstems qstems) ∷
+        ‵ (froom word l₁₂ 0) ∷ ‵ (fdies word l₁₂) ∷ ‵ (froom (sliceTy (tS erased)) l₁₁ 0) ∷ ‵ (fdies (sliceTy (tS erased)) l₁₁) ∷ ‵ (froom (tS erased) l₁₀ 0) ∷ ‵ (fdies (tS erased) l₁₀) ∷ ‵ (froom tTt l₉ 0) ∷ ‵ (fdies tTt l₉) ∷ ‵ (froom tyBool l₈ 0) ∷ ‵ (fdies tyBool l₈) ∷ ‵ (froom tyBool l₇ 0) ∷ ‵ (fdies tyBool l₇) ∷ ‵ (fat fullShare word l₆ 0 (vint w64 i)) ∷ ‵ (fdies word l₆) ∷
+        ‵ (fat fullShare (sliceTy (tS (named 2))) l₅ 0 (sliceVal (bstems, ostems) mstems)) ∷ ‵ (fdies (sliceTy (tS (named 2))) l₅) ∷ ‵ (fat fullShare (sA (named 1)) l₄ 0 (vptr (xacross .ptr .0) (xacross .ptr .1))) ∷ ‵ (fdies (sA (named 1)) l₄) ∷ ‵ (fat fullShare (sF (named 0) 512) l₃ 0 (vptr (xedges .ptr .0) (xedges .ptr .1))) ∷ ‵ (fdies (sF (named 0) 512) l₃) ∷ ‵ (fat fullShare word l₂ 0 (vint w64 n)) ∷ ‵ (fdies word l₂) ∷ ‵ (fat fullShare word l₁ 0 (vint w64 first)) ∷ ‵ (fdies word l₁) ∷ ‵ (froom tyBool l₀ 0) ∷ ‵ (fdies tyBool l₀) ∷ []
 
     -- what holds there
     abbrev Held : ℕ → (List Stem) → Type 0
@@ -149,10 +151,19 @@ module _ {M : Type 1} (𝓤 : URA M) (H : Heap 𝓤) (A : Atoms 𝓤) (W : Given
         -- `sum`
         nothing ! $ asks-all ! fm usize (Is usize) (shows 𝓤 H A usize) (Unit {0} × (Unit {0} × Unit {0})) (λ (r : usize .Denot) (lasts : (Unit {0} × (Unit {0} × Unit {0}))). r ≡ first + i) (λ (lasts : (Unit {0} × (Unit {0} × Unit {0}))). (fsep ftrue (fsep ftrue ftrue))) (‵ ftrue) (‵ ftrue) (vint w64 first ∷ vint w64 i ∷ []) (sum-as 𝓤 H A mem run′ W C known-sum (first) (i) (first-fits) (held .0) (sum-fits first i n mstems small (need .1) (fitstems .0))) (and-then ! (load ! (from ! (stop !)) (look ! 29 refl)) (and-then ! (load ! (from ! (stop !)) (look ! 19 refl)) (no-more !))) (λ w1 r1 zs1 e1 is1. land ! (from ! (stop !)) (init ! 9 refl (uint-lawful 𝓤 H A W w64 .typed r1 _ is1 .0)) $ rewrite ! 9 (λ (u : Val). ‵ (fat fullShare word l₁₂ 0 u)) (ap only (is1 .0)) refl $ put-away ! $ put-away ! $ fsplit ! $ put-away ! $ fsplit ! $ put-away ! $ put-away ! $
         -- `stem_from`
-        move ! (4 ∷ 5 ∷ []) $ lend ! tt T.the-row mstems bstems ostems zs (held .1 .1 .0) (λ νstems2 δstems2. asks-all ! fm T.the-row (Is T.the-row) (shows 𝓤 H A T.the-row) (List Stem × (Unit {0} × Unit {0})) (λ (r : T.the-row .Denot) (lasts : (List Stem × (Unit {0} × Unit {0}))). (r ≡ getD zs r1 zeroStem) × (lasts .0 ≡ zs)) (λ (lasts : (List Stem × (Unit {0} × Unit {0}))). (fsep (fsep (finally T.the-row δstems2 (lasts .0)) (feq ℕ (length (lasts .0)) (length zs))) (fsep ftrue ftrue))) (‵ (flft (νstems2 ∷ []) fullShare) ⊛ ‵ ftrue) (‵ (flft (νstems2 ∷ []) fullShare) ⊛ ‵ (Own T.the-row mstems bstems ostems (νstems2 ∷ []) δstems2 zs)) (sliceVal (bstems, ostems) mstems ∷ vint w64 r1 ∷ []) (stem-from-as 𝓤 H A mem run′ W C known-stem-from (νstems2 ∷ []) fullShare mstems bstems ostems δstems2 zs (r1) (is1 .1)) (and-then ! (load ! (from ! (stop !)) (look ! 8 refl)) (and-then ! (load ! (from ! (stop !)) (look ! 6 refl)) (no-more !))) (λ w2 r2 zs2 e2 is2. land ! (from ! (stop !)) (init ! 14 refl (typedT 𝓤 H A W r2 _ is2)) $ rewrite ! 14 (λ (u : Val). ‵ (fat fullShare tTt l₉ 0 u)) (ap only (LL.tells T.the-type T′.the-laws r2 (w2 ∷ []) is2)) refl $ put-away ! $ split ! $ move ! (1 ∷ []) $ put-away ! $ move ! (1 ∷ []) $ fsplit ! $ fsplit ! $ move ! (1 ∷ []) $ feqL ! (λ lstems2. move ! (1 ∷ []) $ fsplit ! $ put-away ! $ put-away ! $
+        move ! (4 ∷ 5 ∷ []) $ lend ! tt T.the-row mstems bstems ostems zs (held .1 .1 .0) (λ νstems2 δstems2. asks-all ! fm T.the-row (Is T.the-row) (shows 𝓤 H A T.the-row) (List Stem × (Unit {0} × Unit {0})) (λ (r : T.the-row .Denot) (lasts : (List Stem × (Unit {0} × Unit {0}))). (r ≡ getD zs r1 zeroStem) × (lasts .0 ≡ zs))
+        (λ (lasts : (List Stem × (Unit {0} × Unit {0}))). (fsep (fsep (finally T.the-row δstems2 (lasts .0)) (feq ℕ (length (lasts .0)) (length zs))) (fsep ftrue ftrue))) (‵ (flft (νstems2 ∷ []) fullShare) ⊛ ‵ ftrue) (‵ (flft (νstems2 ∷ []) fullShare)
+        ⊛ ‵ (Own T.the-row mstems bstems ostems (νstems2 ∷ []) δstems2 zs)) (sliceVal (bstems, ostems) mstems ∷ vint w64 r1 ∷ []) (stem-from-as 𝓤 H A mem run′ W C known-stem-from (νstems2 ∷ []) fullShare mstems bstems ostems δstems2 zs (r1) (is1 .1)) (and-then ! (load ! (from ! (stop !)) (look ! 8 refl)) (and-then ! (load ! (from ! (stop !)) (look ! 6 refl)) (no-more !)))
+        (λ w2 r2 zs2 e2 is2. land ! (from ! (stop !)) (init ! 14 refl (typedT 𝓤 H A W r2 _ is2)) $ rewrite ! 14 (λ (u : Val). ‵ (fat fullShare tTt l₉ 0 u)) (ap only (LL.tells T.the-type T′.the-laws r2 (w2 ∷ []) is2)) refl $ put-away ! $ split ! $ move ! (1 ∷ []) $ put-away ! $ move ! (1 ∷ []) $ fsplit ! $ fsplit ! $ move ! (1 ∷ []) $ feqL ! (λ lstems2. move ! (1 ∷ []) $ fsplit ! $ put-away ! $ put-away ! $
         move ! (1 ∷ 2 ∷ 0 ∷ []) $ returned ! tt T.the-row mstems bstems ostems νstems2 δstems2 zs (zs2 .0) (held .1 .1 .0) lstems2 fitstems (
         -- `differs_at`
-        move ! (2 ∷ []) $ use1 W (‵ (ShrRef (named 0) κedges (Array f64 512) .own xedges (vptr (xedges .ptr .0) (xedges .ptr .1) ∷ [])) ⊛ ‵ (ShrRef (named 0) κedges (Array f64 512) .own xedges (vptr (xedges .ptr .0) (xedges .ptr .1) ∷ []))) (shr-copy 𝓤 H A W (named 0) κedges (Array f64 512) .twice xedges (vptr (xedges .ptr .0) (xedges .ptr .1) ∷ [])) $ split ! $ move ! (4 ∷ 1 ∷ []) $ join ! $ move ! (4 ∷ []) $ use1 W (‵ (ShrRef (named 0) κacross (Array bool 256) .own xacross (vptr (xacross .ptr .0) (xacross .ptr .1) ∷ [])) ⊛ ‵ (ShrRef (named 0) κacross (Array bool 256) .own xacross (vptr (xacross .ptr .0) (xacross .ptr .1) ∷ []))) (shr-copy 𝓤 H A W (named 0) κacross (Array bool 256) .twice xacross (vptr (xacross .ptr .0) (xacross .ptr .1) ∷ [])) $ split ! $ move ! (6 ∷ 1 ∷ []) $ join ! $ move ! (2 ∷ 0 ∷ []) $ join ! $ asks-all ! fm bool (Is bool) (shows 𝓤 H A bool) (Unit {0} × (Unit {0} × (Unit {0} × (Unit {0} × Unit {0})))) (λ (r : bool .Denot) (lasts : (Unit {0} × (Unit {0} × (Unit {0} × (Unit {0} × Unit {0}))))). r ≡ not (sameStem r2 (stemAt (xedges .now) (xacross .now) i))) (λ (lasts : (Unit {0} × (Unit {0} × (Unit {0} × (Unit {0} × Unit {0}))))). (fsep ftrue (fsep ftrue (fsep ftrue (fsep ftrue ftrue))))) (‵ (flft κedges qedges) ⊛ (‵ (flft κacross qacross) ⊛ ‵ ftrue)) ((‵ (flft κedges qedges) ⊛ ‵ (ShrRef (named 0) κedges (Array f64 512) .own xedges (vptr (xedges .ptr .0) (xedges .ptr .1) ∷ []))) ⊛ (‵ (flft κacross qacross) ⊛ ‵ (ShrRef (named 0) κacross (Array bool 256) .own xacross (vptr (xacross .ptr .0) (xacross .ptr .1) ∷ [])))) (machT r2 ∷ vint w64 i ∷ vptr (xedges .ptr .0) (xedges .ptr .1) ∷ vptr (xacross .ptr .0) (xacross .ptr .1) ∷ []) (differs-at-as 𝓤 H A mem run′ W C known-differs-at κedges qedges xedges κacross qacross xacross (r2) (i) (mineT r2 w2 is2) (held .0) (omega (arith, small, need .0))) (and-then ! (load ! (from ! (stop !)) (look ! 11 refl)) (and-then ! (load ! (from ! (stop !)) (look ! 17 refl)) (and-then ! (load ! (from ! (stop !)) (look ! 23 refl)) (and-then ! (load ! (from ! (stop !)) (look ! 21 refl)) (no-more !))))) (λ w3 r3 zs3 e3 is3. land ! (from ! (stop !)) (init ! 15 refl (bool-lawful 𝓤 H A W .typed r3 _ is3 .0)) $ rewrite ! 15 (λ (u : Val). ‵ (fat fullShare tyBool l₈ 0 u)) (ap only is3) refl $ put-away ! $ split ! $ move ! (1 ∷ []) $ split ! $ move ! (1 ∷ []) $ put-away ! $ move ! (2 ∷ []) $ fsplit ! $ put-away ! $ fsplit ! $ put-away ! $ fsplit ! $ put-away ! $ fsplit ! $ put-away ! $ put-away ! $
+        move ! (2 ∷ []) $ use1 W (‵ (ShrRef (named 0) κedges (Array f64 512) .own xedges (vptr (xedges .ptr .0) (xedges .ptr .1) ∷ [])) ⊛ ‵ (ShrRef (named 0) κedges (Array f64 512) .own xedges (vptr (xedges .ptr .0) (xedges .ptr .1) ∷ []))) (shr-copy 𝓤 H A W (named 0) κedges (Array f64 512) .twice xedges (vptr (xedges .ptr .0) (xedges .ptr .1) ∷ [])) $ split ! $ move ! (4 ∷ 1 ∷ []) $ join ! $
+        move ! (4 ∷ []) $ use1 W (‵ (ShrRef (named 0) κacross (Array bool 256) .own xacross (vptr (xacross .ptr .0) (xacross .ptr .1) ∷ [])) ⊛ ‵ (ShrRef (named 0) κacross (Array bool 256) .own xacross (vptr (xacross .ptr .0) (xacross .ptr .1) ∷ []))) (shr-copy 𝓤 H A W (named 0) κacross (Array bool 256) .twice xacross (vptr (xacross .ptr .0) (xacross .ptr .1) ∷ [])) $ split ! $ move ! (6 ∷ 1 ∷ []) $
+        join ! $ move ! (2 ∷ 0 ∷ []) $ join ! $ asks-all ! fm bool (Is bool) (shows 𝓤 H A bool) (Unit {0} × (Unit {0} × (Unit {0} × (Unit {0} × Unit {0})))) (λ (r : bool .Denot) (lasts : (Unit {0} × (Unit {0} × (Unit {0} × (Unit {0} × Unit {0}))))). r ≡ not (sameStem r2 (stemAt (xedges .now) (xacross .now) i)))
+        (λ (lasts : (Unit {0} × (Unit {0} × (Unit {0} × (Unit {0} × Unit {0}))))). (fsep ftrue (fsep ftrue (fsep ftrue (fsep ftrue ftrue))))) (‵ (flft κedges qedges) ⊛ (‵ (flft κacross qacross) ⊛ ‵ ftrue)) ((‵ (flft κedges qedges) ⊛ ‵ (ShrRef (named 0) κedges (Array f64 512) .own xedges (vptr (xedges .ptr .0) (xedges .ptr .1) ∷ []))) ⊛ (‵ (flft κacross qacross)
+        ⊛ ‵ (ShrRef (named 0) κacross (Array bool 256) .own xacross (vptr (xacross .ptr .0) (xacross .ptr .1) ∷ [])))) (machT r2 ∷ vint w64 i ∷ vptr (xedges .ptr .0) (xedges .ptr .1) ∷ vptr (xacross .ptr .0) (xacross .ptr .1) ∷ []) (differs-at-as 𝓤 H A mem run′ W C known-differs-at κedges qedges xedges κacross qacross xacross (r2) (i) (mineT r2 w2 is2) (held .0) (omega (arith, small, need .0)))
+        (and-then ! (load ! (from ! (stop !)) (look ! 11 refl)) (and-then ! (load ! (from ! (stop !)) (look ! 17 refl)) (and-then ! (load ! (from ! (stop !)) (look ! 23 refl)) (and-then ! (load ! (from ! (stop !)) (look ! 21 refl)) (no-more !))))) (λ w3 r3 zs3 e3 is3. land ! (from ! (stop !)) (init ! 15 refl (bool-lawful 𝓤 H A W .typed r3 _ is3 .0)) $
+        rewrite ! 15 (λ (u : Val). ‵ (fat fullShare tyBool l₈ 0 u)) (ap only is3) refl $ put-away ! $ split ! $ move ! (1 ∷ []) $ split ! $ move ! (1 ∷ []) $ put-away ! $ move ! (2 ∷ []) $ fsplit ! $ put-away ! $ fsplit ! $ put-away ! $ fsplit ! $ put-away ! $ fsplit ! $ put-away ! $ put-away ! $
         guards ! (load ! (from ! (stop !)) (look ! 14 refl))
         (λ off.
         assigns ! (of-opd ! (false-lit !)) (from ! (stop !)) (init ! 30 refl (tt, tt)) $ owned ! bool (Is bool) (bool-makes 𝓤 H A W) false _ refl $

@@ -126,7 +126,11 @@ module _ {M : Type 1} (𝓤 : URA M) (H : Heap 𝓤) (A : Atoms 𝓤) (W : Given
         alloc1 ! (λ l₀. alloc1 ! (λ l₁. alloc1 ! (λ l₂. alloc1 ! (λ l₃. alloc1 ! (λ l₄. alloc1 ! (λ l₅. alloc1 ! (λ l₆. alloc1 ! (λ l₇. alloc1 ! (λ l₈. alloc0 ! $ params1 ! $
         pass1 ! (init ! 14 refl (typedS 𝓤 H A W st _ st-fits)) $ pass1 ! (init ! 12 refl (tt, tt)) $ pass1 ! (init ! 10 refl (tt, tt)) $ pass1 ! (init ! 8 refl (tt, (tt, (record { fits = fitstems .0 }, tt)))) $ pass0 ! $ move ! (19 ∷ []) $ fsplit ! $ put-away ! $ fsplit ! $ move ! (1 ∷ []) $ fsplit ! $ move ! (1 ∷ []) $ fsplit ! $ move ! (1 ∷ []) $ put-away ! $ move ! (21 ∷ []) $ split ! $ move ! (1 ∷ []) $ split ! $ move ! (1 ∷ []) $ split ! $ move ! (1 ∷ []) $ put-away ! $ move ! (5 ∷ 2 ∷ 4 ∷ 1 ∷ 3 ∷ 0 ∷ []) $
         -- `may_be_last`
-        nothing ! $ asks-all ! fm bool (Is bool) (shows 𝓤 H A bool) (Unit {0} × (Unit {0} × (Unit {0} × (Unit {0} × Unit {0})))) (λ (r : bool .Denot) (lasts : (Unit {0} × (Unit {0} × (Unit {0} × (Unit {0} × Unit {0}))))). r ≡ mayBeLast (st .changed) (st .groups) (st .last) (st .hints)) (λ (lasts : (Unit {0} × (Unit {0} × (Unit {0} × (Unit {0} × Unit {0}))))). (fsep ftrue (fsep ftrue (fsep ftrue (fsep ftrue ftrue))))) (‵ ftrue) (‵ ftrue) (vbool (st .changed) ∷ vint w64 (st .groups) ∷ vint w64 (st .last) ∷ vint w64 (st .hints) ∷ []) (may-be-last-as 𝓤 H A mem run′ W C known-may-be-last ((st .changed)) ((st .groups)) ((st .last)) ((st .hints)) ((LL.owed S.the-type S′.the-laws st (machS st ∷ []) st-fits) .1 .1 .1 .1 .1 .1 .1 .0 .1) ((LL.owed S.the-type S′.the-laws st (machS st ∷ []) st-fits) .1 .1 .1 .1 .1 .1 .0 .1) ((LL.owed S.the-type S′.the-laws st (machS st ∷ []) st-fits) .1 .1 .1 .1 .1 .0 .1)) (and-then ! (load ! (from ! (fld ! refl (stop !))) (look-in ! 21 (sub ! 13 refl (whole !)))) (and-then ! (load ! (from ! (fld ! refl (stop !))) (look-in ! 21 (sub ! 7 refl (whole !)))) (and-then ! (load ! (from ! (fld ! refl (stop !))) (look-in ! 21 (sub ! 6 refl (whole !)))) (and-then ! (load ! (from ! (fld ! refl (stop !))) (look-in ! 21 (sub ! 5 refl (whole !)))) (no-more !))))) (λ w1 r1 zs1 e1 is1. land ! (from ! (stop !)) (init ! 15 refl (bool-lawful 𝓤 H A W .typed r1 _ is1 .0)) $ rewrite ! 15 (λ (u : Val). ‵ (fat fullShare tyBool l₅ 0 u)) (ap only is1) refl $ put-away ! $ put-away ! $ fsplit ! $ put-away ! $ fsplit ! $ put-away ! $ fsplit ! $ put-away ! $ fsplit ! $ put-away ! $ put-away ! $
+        nothing ! $ asks-all ! fm bool (Is bool) (shows 𝓤 H A bool) (Unit {0} × (Unit {0} × (Unit {0} × (Unit {0} × Unit {0})))) (λ (r : bool .Denot) (lasts : (Unit {0} × (Unit {0} × (Unit {0} × (Unit {0} × Unit {0}))))). r ≡ mayBeLast (st .changed) (st .groups) (st .last) (st .hints))
+        (λ (lasts : (Unit {0} × (Unit {0} × (Unit {0} × (Unit {0} × Unit {0}))))). (fsep ftrue (fsep ftrue (fsep ftrue (fsep ftrue ftrue))))) (‵ ftrue) (‵ ftrue) (vbool (st .changed) ∷ vint w64 (st .groups) ∷ vint w64 (st .last) ∷ vint w64 (st .hints) ∷
+        []) (may-be-last-as 𝓤 H A mem run′ W C known-may-be-last ((st .changed)) ((st .groups)) ((st .last)) ((st .hints)) ((LL.owed S.the-type S′.the-laws st (machS st ∷ []) st-fits) .1 .1 .1 .1 .1 .1 .1 .0 .1) ((LL.owed S.the-type S′.the-laws st (machS st ∷ []) st-fits) .1 .1 .1 .1 .1 .1 .0 .1) ((LL.owed S.the-type S′.the-laws st (machS st ∷ []) st-fits) .1 .1 .1 .1 .1 .0 .1))
+        (and-then ! (load ! (from ! (fld ! refl (stop !))) (look-in ! 21 (sub ! 13 refl (whole !)))) (and-then ! (load ! (from ! (fld ! refl (stop !))) (look-in ! 21 (sub ! 7 refl (whole !)))) (and-then ! (load ! (from ! (fld ! refl (stop !))) (look-in ! 21 (sub ! 6 refl (whole !)))) (and-then ! (load ! (from ! (fld ! refl (stop !))) (look-in ! 21 (sub ! 5 refl (whole !)))) (no-more !)))))
+        (λ w1 r1 zs1 e1 is1. land ! (from ! (stop !)) (init ! 15 refl (bool-lawful 𝓤 H A W .typed r1 _ is1 .0)) $ rewrite ! 15 (λ (u : Val). ‵ (fat fullShare tyBool l₅ 0 u)) (ap only is1) refl $ put-away ! $ put-away ! $ fsplit ! $ put-away ! $ fsplit ! $ put-away ! $ fsplit ! $ put-away ! $ fsplit ! $ put-away ! $ put-away ! $
         guards ! (load ! (from ! (stop !)) (look ! 12 refl))
         (λ may.
         -- `last_from`
@@ -134,7 +138,16 @@ module _ {M : Type 1} (𝓤 : URA M) (H : Heap 𝓤) (A : Atoms 𝓤) (W : Given
         assigns ! (addr ! (from ! (fld ! refl (hop ! (look-in ! 14 (sub ! 0 refl (whole !))) (stop !))))) (from ! (stop !)) (init ! 8 refl (tt, tt)) $
         assigns ! (agg ! (and-then ! (load ! (from ! (stop !)) (look ! 8 refl)) (and-then ! (load ! (from ! (fld ! refl (stop !))) (look-in ! 14 (sub ! 1 refl (whole !)))) (no-more !)))) (from ! (stop !)) (init ! 6 refl (tt, (tt, (record { fits = fitstems .0 }, tt)))) $
         -- `all_same`
-        use1 W (‵ (ShrRef (named 0) κedges (Array f64 512) .own xedges (vptr (xedges .ptr .0) (xedges .ptr .1) ∷ [])) ⊛ ‵ (ShrRef (named 0) κedges (Array f64 512) .own xedges (vptr (xedges .ptr .0) (xedges .ptr .1) ∷ []))) (shr-copy 𝓤 H A W (named 0) κedges (Array f64 512) .twice xedges (vptr (xedges .ptr .0) (xedges .ptr .1) ∷ [])) $ split ! $ move ! (2 ∷ 1 ∷ []) $ join ! $ move ! (2 ∷ []) $ use1 W (‵ (ShrRef (named 0) κacross (Array bool 256) .own xacross (vptr (xacross .ptr .0) (xacross .ptr .1) ∷ [])) ⊛ ‵ (ShrRef (named 0) κacross (Array bool 256) .own xacross (vptr (xacross .ptr .0) (xacross .ptr .1) ∷ []))) (shr-copy 𝓤 H A W (named 0) κacross (Array bool 256) .twice xacross (vptr (xacross .ptr .0) (xacross .ptr .1) ∷ [])) $ split ! $ move ! (4 ∷ 1 ∷ []) $ join ! $ move ! (4 ∷ 5 ∷ []) $ lend ! tt T.the-row mstems bstems ostems ysstems (refl) (λ νstems3 δstems3. move ! (2 ∷ 0 ∷ []) $ join ! $ move ! (3 ∷ 0 ∷ []) $ join ! $ asks-all ! fm bool (Is bool) (shows 𝓤 H A bool) (Unit {0} × (Unit {0} × (Unit {0} × (Unit {0} × (List Stem × Unit {0}))))) (λ (r : bool .Denot) (lasts : (Unit {0} × (Unit {0} × (Unit {0} × (Unit {0} × (List Stem × Unit {0})))))). (r ≡ sameStems (take (st .hints) (drop r2 ysstems)) (stemsAt 0 (st .hints) (xedges .now) (xacross .now))) × (lasts .1 .1 .1 .1 .0 ≡ ysstems)) (λ (lasts : (Unit {0} × (Unit {0} × (Unit {0} × (Unit {0} × (List Stem × Unit {0})))))). (fsep ftrue (fsep ftrue (fsep ftrue (fsep ftrue (fsep (fsep (finally T.the-row δstems3 (lasts .1 .1 .1 .1 .0)) (feq ℕ (length (lasts .1 .1 .1 .1 .0)) (length ysstems))) ftrue)))))) (‵ (flft κedges qedges) ⊛ (‵ (flft κacross qacross) ⊛ (‵ (flft (νstems3 ∷ []) fullShare) ⊛ ‵ ftrue))) ((‵ (flft κedges qedges) ⊛ ‵ (ShrRef (named 0) κedges (Array f64 512) .own xedges (vptr (xedges .ptr .0) (xedges .ptr .1) ∷ []))) ⊛ ((‵ (flft κacross qacross) ⊛ ‵ (ShrRef (named 0) κacross (Array bool 256) .own xacross (vptr (xacross .ptr .0) (xacross .ptr .1) ∷ []))) ⊛ (‵ (flft (νstems3 ∷ []) fullShare) ⊛ ‵ (Own T.the-row mstems bstems ostems (νstems3 ∷ []) δstems3 ysstems)))) (vint w64 r2 ∷ vint w64 (st .hints) ∷ vptr (xedges .ptr .0) (xedges .ptr .1) ∷ vptr (xacross .ptr .0) (xacross .ptr .1) ∷ sliceVal (bstems, ostems) mstems ∷ []) (all-same-as 𝓤 H A mem run′ W C known-all-same κedges qedges xedges κacross qacross xacross (νstems3 ∷ []) fullShare mstems bstems ostems δstems3 ysstems (r2) ((st .hints)) (is2 .1) ((LL.owed S.the-type S′.the-laws st (machS st ∷ []) st-fits) .1 .1 .1 .1 .1 .0 .1) (need .0, last-room st ysstems (xedges .now) (xacross .now) (need .1 .0) (need .1 .1) r1 r2 e1 e2 may)) (and-then ! (load ! (from ! (stop !)) (look ! 8 refl)) (and-then ! (load ! (from ! (fld ! refl (stop !))) (look-in ! 18 (sub ! 5 refl (whole !)))) (and-then ! (load ! (from ! (stop !)) (look ! 16 refl)) (and-then ! (load ! (from ! (stop !)) (look ! 14 refl)) (and-then ! (load ! (from ! (stop !)) (look ! 4 refl)) (no-more !)))))) (λ w3 r3 zs3 e3 is3. land ! (from ! (stop !)) (init ! 22 refl (bool-lawful 𝓤 H A W .typed r3 _ is3 .0)) $ rewrite ! 22 (λ (u : Val). ‵ (fat fullShare tyBool l₀ 0 u)) (ap only is3) refl $ put-away ! $ split ! $ move ! (1 ∷ []) $ split ! $ move ! (1 ∷ []) $ split ! $ move ! (1 ∷ []) $ put-away ! $ move ! (3 ∷ []) $ fsplit ! $ put-away ! $ fsplit ! $ put-away ! $ fsplit ! $ put-away ! $ fsplit ! $ put-away ! $ fsplit ! $ fsplit ! $ move ! (1 ∷ []) $ feqL ! (λ lstems3. move ! (1 ∷ []) $ put-away ! $
+        use1 W (‵ (ShrRef (named 0) κedges (Array f64 512) .own xedges (vptr (xedges .ptr .0) (xedges .ptr .1) ∷ [])) ⊛ ‵ (ShrRef (named 0) κedges (Array f64 512) .own xedges (vptr (xedges .ptr .0) (xedges .ptr .1) ∷ []))) (shr-copy 𝓤 H A W (named 0) κedges (Array f64 512) .twice xedges (vptr (xedges .ptr .0) (xedges .ptr .1) ∷ [])) $ split ! $ move ! (2 ∷ 1 ∷ []) $ join ! $ move ! (2 ∷ []) $
+        use1 W (‵ (ShrRef (named 0) κacross (Array bool 256) .own xacross (vptr (xacross .ptr .0) (xacross .ptr .1) ∷ [])) ⊛ ‵ (ShrRef (named 0) κacross (Array bool 256) .own xacross (vptr (xacross .ptr .0) (xacross .ptr .1) ∷ []))) (shr-copy 𝓤 H A W (named 0) κacross (Array bool 256) .twice xacross (vptr (xacross .ptr .0) (xacross .ptr .1) ∷ [])) $ split ! $ move ! (4 ∷ 1 ∷ []) $ join ! $
+        move ! (4 ∷ 5 ∷ []) $ lend ! tt T.the-row mstems bstems ostems ysstems (refl) (λ νstems3 δstems3. move ! (2 ∷ 0 ∷ []) $ join ! $ move ! (3 ∷ 0 ∷ []) $ join ! $
+        asks-all ! fm bool (Is bool) (shows 𝓤 H A bool) (Unit {0} × (Unit {0} × (Unit {0} × (Unit {0} × (List Stem × Unit {0}))))) (λ (r : bool .Denot) (lasts : (Unit {0} × (Unit {0} × (Unit {0} × (Unit {0} × (List Stem × Unit {0})))))). (r ≡ sameStems (take (st .hints) (drop r2 ysstems)) (stemsAt 0 (st .hints) (xedges .now) (xacross .now))) × (lasts .1 .1 .1 .1 .0 ≡ ysstems))
+        (λ (lasts : (Unit {0} × (Unit {0} × (Unit {0} × (Unit {0} × (List Stem × Unit {0})))))). (fsep ftrue (fsep ftrue (fsep ftrue (fsep ftrue (fsep (fsep (finally T.the-row δstems3 (lasts .1 .1 .1 .1 .0)) (feq ℕ (length (lasts .1 .1 .1 .1 .0)) (length ysstems))) ftrue)))))) (‵ (flft κedges qedges) ⊛ (‵ (flft κacross qacross) ⊛ (‵ (flft (νstems3 ∷ []) fullShare) ⊛ ‵ ftrue))) ((‵ (flft κedges qedges)
+        ⊛ ‵ (ShrRef (named 0) κedges (Array f64 512) .own xedges (vptr (xedges .ptr .0) (xedges .ptr .1) ∷ []))) ⊛ ((‵ (flft κacross qacross) ⊛ ‵ (ShrRef (named 0) κacross (Array bool 256) .own xacross (vptr (xacross .ptr .0) (xacross .ptr .1) ∷ []))) ⊛ (‵ (flft (νstems3 ∷ []) fullShare)
+        ⊛ ‵ (Own T.the-row mstems bstems ostems (νstems3 ∷ []) δstems3 ysstems)))) (vint w64 r2 ∷ vint w64 (st .hints) ∷ vptr (xedges .ptr .0) (xedges .ptr .1) ∷ vptr (xacross .ptr .0) (xacross .ptr .1) ∷ sliceVal (bstems, ostems) mstems ∷ []) (all-same-as 𝓤 H A mem run′ W C known-all-same κedges qedges xedges κacross qacross xacross (νstems3 ∷
+        []) fullShare mstems bstems ostems δstems3 ysstems (r2) ((st .hints)) (is2 .1) ((LL.owed S.the-type S′.the-laws st (machS st ∷ []) st-fits) .1 .1 .1 .1 .1 .0 .1) (need .0, last-room st ysstems (xedges .now) (xacross .now) (need .1 .0) (need .1 .1) r1 r2 e1 e2 may)) (and-then ! (load ! (from ! (stop !)) (look ! 8 refl))
+        (and-then ! (load ! (from ! (fld ! refl (stop !))) (look-in ! 18 (sub ! 5 refl (whole !)))) (and-then ! (load ! (from ! (stop !)) (look ! 16 refl)) (and-then ! (load ! (from ! (stop !)) (look ! 14 refl)) (and-then ! (load ! (from ! (stop !)) (look ! 4 refl)) (no-more !)))))) (λ w3 r3 zs3 e3 is3. land ! (from ! (stop !)) (init ! 22 refl (bool-lawful 𝓤 H A W .typed r3 _ is3 .0)) $
+        rewrite ! 22 (λ (u : Val). ‵ (fat fullShare tyBool l₀ 0 u)) (ap only is3) refl $ put-away ! $ split ! $ move ! (1 ∷ []) $ split ! $ move ! (1 ∷ []) $ split ! $ move ! (1 ∷ []) $ put-away ! $ move ! (3 ∷ []) $ fsplit ! $ put-away ! $ fsplit ! $ put-away ! $ fsplit ! $ put-away ! $ fsplit ! $ put-away ! $ fsplit ! $ fsplit ! $ move ! (1 ∷ []) $ feqL ! (λ lstems3. move ! (1 ∷ []) $ put-away ! $
         move ! (1 ∷ 4 ∷ 0 ∷ []) $ returned ! tt T.the-row mstems bstems ostems νstems3 δstems3 ysstems (zs3 .1 .1 .1 .1 .0) (refl) lstems3 fitstems (owned ! bool (Is bool) (bool-makes 𝓤 H A W) r3 _ refl $
         returns-within ! (Post) refl (look ! 23 refl) $ move ! (0 ∷ 6 ∷ 4 ∷ 5 ∷ 3 ∷ 1 ∷ 2 ∷ 7 ∷ 8 ∷ 9 ∷ 10 ∷ 11 ∷ 12 ∷ 13 ∷ 14 ∷ 15 ∷ 16 ∷ 17 ∷ 18 ∷ 19 ∷ 20 ∷ 21 ∷ 22 ∷ 23 ∷ 24 ∷ []) $ leave ! (_ ∷ _ ∷ _ ∷ _ ∷ _ ∷ _ ∷ _ ∷ []) (filled _ _ _ ∷ filled _ _ _ ∷ filled _ _ _ ∷ filled _ _ _ ∷ filled _ _ _ ∷ filled _ _ _ ∷ filled _ _ _ ∷ filled _ _ _ ∷ filled _ _ _ ∷ []) $ keep ! (0 ∷ 1 ∷ 2 ∷ 3 ∷ 4 ∷ 5 ∷ 6 ∷ []) $ by ! (exits r3 (vbool r3) (zs3 .1 .1 .1 .1 .0) ((last-found st ysstems (xedges .now) (xacross .now) (need .1 .0) (need .1 .1) r1 r2 e1 e2 may r3 (e3 .0), e3 .1)) (lstems3))))))))
         (λ not-so.

@@ -125,7 +125,9 @@ module _ {M : Type 1} (𝓤 : URA M) (H : Heap 𝓤) (A : Atoms 𝓤) (W : Given
 
     -- at the head of the loop
     abbrev At : ℕ → (List Stem) → (l₀ l₁ l₂ l₃ l₄ l₅ l₆ l₇ l₈ l₉ l₁₀ l₁₁ l₁₂ : ℕ) → List (Item 𝓤)
-    At i zs l₀ l₁ l₂ l₃ l₄ l₅ l₆ l₇ l₈ l₉ l₁₀ l₁₁ l₁₂ = ‵ (ShrRef (named 0) κedges (Array f64 512) .own xedges (vptr (xedges .ptr .0) (xedges .ptr .1) ∷ [])) ∷ ‵ (flft κedges qedges) ∷ ‵ (ShrRef (named 0) κacross (Array bool 256) .own xacross (vptr (xacross .ptr .0) (xacross .ptr .1) ∷ [])) ∷ ‵ (flft κacross qacross) ∷ ‵ (Own T.the-row mstems bstems ostems κstems γstems zs) ∷ ‵ (flft κstems qstems) ∷ ‵ (froom tTt l₁₂ 0) ∷ ‵ (fdies tTt l₁₂) ∷ ‵ (froom word l₁₁ 0) ∷ ‵ (fdies word l₁₁) ∷ ‵ (froom (sliceTy (tS erased)) l₁₀ 0) ∷ ‵ (fdies (sliceTy (tS erased)) l₁₀) ∷ ‵ (froom (tS erased) l₉ 0) ∷ ‵ (fdies (tS erased) l₉) ∷ ‵ (froom tyUnit l₈ 0) ∷ ‵ (fdies tyUnit l₈) ∷ ‵ (froom tyBool l₇ 0) ∷ ‵ (fdies tyBool l₇) ∷ ‵ (fat fullShare word l₆ 0 (vint w64 i)) ∷ ‵ (fdies word l₆) ∷ ‵ (fat fullShare (sliceTy (tS (named 2))) l₅ 0 (sliceVal (bstems, ostems) mstems)) ∷ ‵ (fdies (sliceTy (tS (named 2))) l₅) ∷ ‵ (fat fullShare (sA (named 1)) l₄ 0 (vptr (xacross .ptr .0) (xacross .ptr .1))) ∷ ‵ (fdies (sA (named 1)) l₄) ∷ ‵ (fat fullShare (sF (named 0) 512) l₃ 0 (vptr (xedges .ptr .0) (xedges .ptr .1))) ∷ ‵ (fdies (sF (named 0) 512) l₃) ∷ ‵ (fat fullShare word l₂ 0 (vint w64 n)) ∷ ‵ (fdies word l₂) ∷ ‵ (fat fullShare word l₁ 0 (vint w64 used)) ∷ ‵ (fdies word l₁) ∷ ‵ (froom tyUnit l₀ 0) ∷ ‵ (fdies tyUnit l₀) ∷ []
+    At i zs l₀ l₁ l₂ l₃ l₄ l₅ l₆ l₇ l₈ l₉ l₁₀ l₁₁ l₁₂ = ‵ (ShrRef (named 0) κedges (Array f64 512) .own xedges (vptr (xedges .ptr .0) (xedges .ptr .1) ∷ [])) ∷ ‵ (flft κedges qedges) ∷ ‵ (ShrRef (named 0) κacross (Array bool 256) .own xacross (vptr (xacross .ptr .0) (xacross .ptr .1) ∷ [])) ∷ ‵ (flft κacross qacross) ∷ ‵ (Own T.the-row mstems bstems ostems κstems γstems zs) ∷ ‵ (flft κstems qstems) ∷
+        ‵ (froom tTt l₁₂ 0) ∷ ‵ (fdies tTt l₁₂) ∷ ‵ (froom word l₁₁ 0) ∷ ‵ (fdies word l₁₁) ∷ ‵ (froom (sliceTy (tS erased)) l₁₀ 0) ∷ ‵ (fdies (sliceTy (tS erased)) l₁₀) ∷ ‵ (froom (tS erased) l₉ 0) ∷ ‵ (fdies (tS erased) l₉) ∷ ‵ (froom tyUnit l₈ 0) ∷ ‵ (fdies tyUnit l₈) ∷ ‵ (froom tyBool l₇ 0) ∷ ‵ (fdies tyBool l₇) ∷ ‵ (fat fullShare word l₆ 0 (vint w64 i)) ∷ ‵ (fdies word l₆) ∷
+        ‵ (fat fullShare (sliceTy (tS (named 2))) l₅ 0 (sliceVal (bstems, ostems) mstems)) ∷ ‵ (fdies (sliceTy (tS (named 2))) l₅) ∷ ‵ (fat fullShare (sA (named 1)) l₄ 0 (vptr (xacross .ptr .0) (xacross .ptr .1))) ∷ ‵ (fdies (sA (named 1)) l₄) ∷ ‵ (fat fullShare (sF (named 0) 512) l₃ 0 (vptr (xedges .ptr .0) (xedges .ptr .1))) ∷ ‵ (fdies (sF (named 0) 512) l₃) ∷ ‵ (fat fullShare word l₂ 0 (vint w64 n)) ∷ ‵ (fdies word l₂) ∷ ‵ (fat fullShare word l₁ 0 (vint w64 used)) ∷ ‵ (fdies word l₁) ∷ ‵ (froom tyUnit l₀ 0) ∷ ‵ (fdies tyUnit l₀) ∷ []
 
     -- what holds there
     abbrev Held : ℕ → (List Stem) → Type 0
@@ -147,9 +149,17 @@ module _ {M : Type 1} (𝓤 : URA M) (H : Heap 𝓤) (A : Atoms 𝓤) (W : Given
         -- `sum`
         nothing ! $ asks-all ! fm usize (Is usize) (shows 𝓤 H A usize) (Unit {0} × (Unit {0} × Unit {0})) (λ (r : usize .Denot) (lasts : (Unit {0} × (Unit {0} × Unit {0}))). r ≡ used + i) (λ (lasts : (Unit {0} × (Unit {0} × Unit {0}))). (fsep ftrue (fsep ftrue ftrue))) (‵ ftrue) (‵ ftrue) (vint w64 used ∷ vint w64 i ∷ []) (sum-as 𝓤 H A mem run′ W C known-sum (used) (i) (used-fits) (held .0) (sum-fits used i n mstems small (need .1) (fitstems .0))) (and-then ! (load ! (from ! (stop !)) (look ! 29 refl)) (and-then ! (load ! (from ! (stop !)) (look ! 19 refl)) (no-more !))) (λ w1 r1 zs1 e1 is1. land ! (from ! (stop !)) (init ! 11 refl (uint-lawful 𝓤 H A W w64 .typed r1 _ is1 .0)) $ rewrite ! 11 (λ (u : Val). ‵ (fat fullShare word l₁₁ 0 u)) (ap only (is1 .0)) refl $ drop ! $ drop ! $ fsplit ! $ drop ! $ fsplit ! $ drop ! $ drop ! $
         -- `stem_at`
-        use1 W (‵ (ShrRef (named 0) κedges (Array f64 512) .own xedges (vptr (xedges .ptr .0) (xedges .ptr .1) ∷ [])) ⊛ ‵ (ShrRef (named 0) κedges (Array f64 512) .own xedges (vptr (xedges .ptr .0) (xedges .ptr .1) ∷ []))) (shr-copy 𝓤 H A W (named 0) κedges (Array f64 512) .twice xedges (vptr (xedges .ptr .0) (xedges .ptr .1) ∷ [])) $ split ! $ move ! (2 ∷ 1 ∷ []) $ join ! $ move ! (2 ∷ []) $ use1 W (‵ (ShrRef (named 0) κacross (Array bool 256) .own xacross (vptr (xacross .ptr .0) (xacross .ptr .1) ∷ [])) ⊛ ‵ (ShrRef (named 0) κacross (Array bool 256) .own xacross (vptr (xacross .ptr .0) (xacross .ptr .1) ∷ []))) (shr-copy 𝓤 H A W (named 0) κacross (Array bool 256) .twice xacross (vptr (xacross .ptr .0) (xacross .ptr .1) ∷ [])) $ split ! $ move ! (4 ∷ 1 ∷ []) $ join ! $ move ! (2 ∷ 0 ∷ []) $ join ! $ asks-all ! fm T.the-row (Is T.the-row) (shows 𝓤 H A T.the-row) (Unit {0} × (Unit {0} × (Unit {0} × Unit {0}))) (λ (r : T.the-row .Denot) (lasts : (Unit {0} × (Unit {0} × (Unit {0} × Unit {0})))). r ≡ stemAt (xedges .now) (xacross .now) i) (λ (lasts : (Unit {0} × (Unit {0} × (Unit {0} × Unit {0})))). (fsep ftrue (fsep ftrue (fsep ftrue ftrue)))) (‵ (flft κedges qedges) ⊛ (‵ (flft κacross qacross) ⊛ ‵ ftrue)) ((‵ (flft κedges qedges) ⊛ ‵ (ShrRef (named 0) κedges (Array f64 512) .own xedges (vptr (xedges .ptr .0) (xedges .ptr .1) ∷ []))) ⊛ (‵ (flft κacross qacross) ⊛ ‵ (ShrRef (named 0) κacross (Array bool 256) .own xacross (vptr (xacross .ptr .0) (xacross .ptr .1) ∷ [])))) (vint w64 i ∷ vptr (xedges .ptr .0) (xedges .ptr .1) ∷ vptr (xacross .ptr .0) (xacross .ptr .1) ∷ []) (stem-at-as 𝓤 H A mem run′ W C known-stem-at κedges qedges xedges κacross qacross xacross (i) (held .0) (omega (arith, small, need .0))) (and-then ! (load ! (from ! (stop !)) (look ! 17 refl)) (and-then ! (load ! (from ! (stop !)) (look ! 23 refl)) (and-then ! (load ! (from ! (stop !)) (look ! 21 refl)) (no-more !)))) (λ w2 r2 zs2 e2 is2. land ! (from ! (stop !)) (init ! 7 refl (typedT 𝓤 H A W r2 _ is2)) $ rewrite ! 7 (λ (u : Val). ‵ (fat fullShare tTt l₁₂ 0 u)) (ap only (LL.tells T.the-type T′.the-laws r2 (w2 ∷ []) is2)) refl $ drop ! $ split ! $ move ! (1 ∷ []) $ split ! $ move ! (1 ∷ []) $ drop ! $ move ! (2 ∷ []) $ fsplit ! $ drop ! $ fsplit ! $ drop ! $ fsplit ! $ drop ! $ drop ! $
+        use1 W (‵ (ShrRef (named 0) κedges (Array f64 512) .own xedges (vptr (xedges .ptr .0) (xedges .ptr .1) ∷ [])) ⊛ ‵ (ShrRef (named 0) κedges (Array f64 512) .own xedges (vptr (xedges .ptr .0) (xedges .ptr .1) ∷ []))) (shr-copy 𝓤 H A W (named 0) κedges (Array f64 512) .twice xedges (vptr (xedges .ptr .0) (xedges .ptr .1) ∷ [])) $ split ! $ move ! (2 ∷ 1 ∷ []) $ join ! $ move ! (2 ∷ []) $
+        use1 W (‵ (ShrRef (named 0) κacross (Array bool 256) .own xacross (vptr (xacross .ptr .0) (xacross .ptr .1) ∷ [])) ⊛ ‵ (ShrRef (named 0) κacross (Array bool 256) .own xacross (vptr (xacross .ptr .0) (xacross .ptr .1) ∷ []))) (shr-copy 𝓤 H A W (named 0) κacross (Array bool 256) .twice xacross (vptr (xacross .ptr .0) (xacross .ptr .1) ∷ [])) $ split ! $ move ! (4 ∷ 1 ∷ []) $ join ! $
+        move ! (2 ∷ 0 ∷ []) $ join ! $ asks-all ! fm T.the-row (Is T.the-row) (shows 𝓤 H A T.the-row) (Unit {0} × (Unit {0} × (Unit {0} × Unit {0}))) (λ (r : T.the-row .Denot) (lasts : (Unit {0} × (Unit {0} × (Unit {0} × Unit {0})))). r ≡ stemAt (xedges .now) (xacross .now) i)
+        (λ (lasts : (Unit {0} × (Unit {0} × (Unit {0} × Unit {0})))). (fsep ftrue (fsep ftrue (fsep ftrue ftrue)))) (‵ (flft κedges qedges) ⊛ (‵ (flft κacross qacross) ⊛ ‵ ftrue)) ((‵ (flft κedges qedges) ⊛ ‵ (ShrRef (named 0) κedges (Array f64 512) .own xedges (vptr (xedges .ptr .0) (xedges .ptr .1) ∷ []))) ⊛ (‵ (flft κacross qacross)
+        ⊛ ‵ (ShrRef (named 0) κacross (Array bool 256) .own xacross (vptr (xacross .ptr .0) (xacross .ptr .1) ∷ [])))) (vint w64 i ∷ vptr (xedges .ptr .0) (xedges .ptr .1) ∷ vptr (xacross .ptr .0) (xacross .ptr .1) ∷ []) (stem-at-as 𝓤 H A mem run′ W C known-stem-at κedges qedges xedges κacross qacross xacross (i) (held .0) (omega (arith, small, need .0)))
+        (and-then ! (load ! (from ! (stop !)) (look ! 17 refl)) (and-then ! (load ! (from ! (stop !)) (look ! 23 refl)) (and-then ! (load ! (from ! (stop !)) (look ! 21 refl)) (no-more !)))) (λ w2 r2 zs2 e2 is2. land ! (from ! (stop !)) (init ! 7 refl (typedT 𝓤 H A W r2 _ is2)) $ rewrite ! 7 (λ (u : Val). ‵ (fat fullShare tTt l₁₂ 0 u)) (ap only (LL.tells T.the-type T′.the-laws r2 (w2 ∷ []) is2)) refl $ drop ! $ split ! $ move ! (1 ∷ []) $ split ! $ move ! (1 ∷ []) $ drop ! $ move ! (2 ∷ []) $ fsplit ! $ drop ! $ fsplit ! $ drop ! $ fsplit ! $ drop ! $ drop ! $
         -- `put`
-        move ! (4 ∷ 5 ∷ []) $ lend ! tt T.the-row mstems bstems ostems zs (held .1 .1 .0) (λ νstems3 δstems3. asks-all ! fm Nothing (Is Nothing) (shows 𝓤 H A Nothing) (List Stem × (Unit {0} × (Unit {0} × Unit {0}))) (λ (r : Nothing .Denot) (lasts : (List Stem × (Unit {0} × (Unit {0} × Unit {0})))). lasts .0 ≡ set zs r1 r2) (λ (lasts : (List Stem × (Unit {0} × (Unit {0} × Unit {0})))). (fsep (fsep (finally T.the-row δstems3 (lasts .0)) (feq ℕ (length (lasts .0)) (length zs))) (fsep ftrue (fsep ftrue ftrue)))) (‵ (flft (νstems3 ∷ []) fullShare) ⊛ ‵ ftrue) (‵ (flft (νstems3 ∷ []) fullShare) ⊛ ‵ (Own T.the-row mstems bstems ostems (νstems3 ∷ []) δstems3 zs)) (sliceVal (bstems, ostems) mstems ∷ vint w64 r1 ∷ machT r2 ∷ []) (put-as 𝓤 H A mem run′ W C known-put (νstems3 ∷ []) fullShare mstems bstems ostems δstems3 zs (r1) (r2) (is1 .1) (mineT r2 w2 is2) (subst (λ (k : ℕ). r1 < k) (sym (held .1 .1 .0)) (subst (λ (k : ℕ). k < mstems) (sym e1) (in-store used i n mstems small (need .1))))) (and-then ! (load ! (from ! (stop !)) (look ! 10 refl)) (and-then ! (load ! (from ! (stop !)) (look ! 8 refl)) (and-then ! (load ! (from ! (stop !)) (look ! 6 refl)) (no-more !)))) (λ w3 r3 zs3 e3 is3. land ! (from ! (stop !)) (init ! 16 refl (nothing-lawful 𝓤 H A W .typed r3 _ is3 .0)) $ drop ! $ split ! $ move ! (1 ∷ []) $ drop ! $ move ! (1 ∷ []) $ fsplit ! $ fsplit ! $ move ! (1 ∷ []) $ feqL ! (λ lstems3. move ! (1 ∷ []) $ fsplit ! $ drop ! $ fsplit ! $ drop ! $ drop ! $
+        move ! (4 ∷ 5 ∷ []) $ lend ! tt T.the-row mstems bstems ostems zs (held .1 .1 .0) (λ νstems3 δstems3. asks-all ! fm Nothing (Is Nothing) (shows 𝓤 H A Nothing) (List Stem × (Unit {0} × (Unit {0} × Unit {0}))) (λ (r : Nothing .Denot) (lasts : (List Stem × (Unit {0} × (Unit {0} × Unit {0})))). lasts .0 ≡ set zs r1 r2)
+        (λ (lasts : (List Stem × (Unit {0} × (Unit {0} × Unit {0})))). (fsep (fsep (finally T.the-row δstems3 (lasts .0)) (feq ℕ (length (lasts .0)) (length zs))) (fsep ftrue (fsep ftrue ftrue)))) (‵ (flft (νstems3 ∷ []) fullShare) ⊛ ‵ ftrue) (‵ (flft (νstems3 ∷ []) fullShare)
+        ⊛ ‵ (Own T.the-row mstems bstems ostems (νstems3 ∷ []) δstems3 zs)) (sliceVal (bstems, ostems) mstems ∷ vint w64 r1 ∷ machT r2 ∷ []) (put-as 𝓤 H A mem run′ W C known-put (νstems3 ∷ []) fullShare mstems bstems ostems δstems3 zs (r1) (r2) (is1 .1) (mineT r2 w2 is2) (subst (λ (k : ℕ). r1 < k) (sym (held .1 .1 .0)) (subst (λ (k : ℕ). k < mstems) (sym e1) (in-store used i n mstems small (need .1)))))
+        (and-then ! (load ! (from ! (stop !)) (look ! 10 refl)) (and-then ! (load ! (from ! (stop !)) (look ! 8 refl)) (and-then ! (load ! (from ! (stop !)) (look ! 6 refl)) (no-more !)))) (λ w3 r3 zs3 e3 is3. land ! (from ! (stop !)) (init ! 16 refl (nothing-lawful 𝓤 H A W .typed r3 _ is3 .0)) $ drop ! $ split ! $ move ! (1 ∷ []) $ drop ! $ move ! (1 ∷ []) $ fsplit ! $ fsplit ! $ move ! (1 ∷ []) $ feqL ! (λ lstems3. move ! (1 ∷ []) $ fsplit ! $ drop ! $ fsplit ! $ drop ! $ drop ! $
         move ! (1 ∷ 2 ∷ 0 ∷ []) $ returned ! tt T.the-row mstems bstems ostems νstems3 δstems3 zs (zs3 .0) (held .1 .1 .0) lstems3 fitstems (
         assigns-last ! (bin ! (load ! (from ! (stop !)) (look ! 18 refl)) (lit ! tt) (record { fits = (next-fits i n small n-fits) })) (from ! (stop !)) (store ! 18 refl (tt, record { fits = (next-fits i n small n-fits) })) $ forget ! 16 refl $ forget ! 14 refl $ forget ! 12 refl $ forget ! 10 refl $ forget ! 8 refl $ forget ! 6 refl $ keep ! (5 ∷ 3 ∷ 4 ∷ 2 ∷ 0 ∷ 1 ∷ 6 ∷ 7 ∷ 8 ∷ 9 ∷ 10 ∷ 11 ∷ 12 ∷ 13 ∷ 14 ∷ 15 ∷ 16 ∷ 17 ∷ 18 ∷ 19 ∷ 20 ∷ 21 ∷ 22 ∷ 23 ∷ 24 ∷ 25 ∷ 26 ∷ 27 ∷ 28 ∷ 29 ∷ 30 ∷ 31 ∷ []) $ by ! (go (i + 1) (zs3 .0) (grows i) ((next-fits i n small n-fits), (omega (arith, small), (lstems3 ∙ held .1 .1 .0, stored-one ysstems zeroStem used (stemsAt 0 n (xedges .now) (xacross .now)) i r1 zs (zs3 .0) r2 (in-store used i n mstems small (need .1)) (subst (λ (k : ℕ). i < k) (sym (length-stemsAt 0 n (xedges .now) (xacross .now))) small) e1 (held .1 .1 .1) (e2 ∙ sym (first-stems n (xedges .now) (xacross .now) i small)) e3))))))))))
 

@@ -36,17 +36,35 @@ end-flex-requires c κs =
 
 returns-3 : tie.Need-returns-3
 unfolding ofBits
-returns-3 c =
-    (others-flex _ _ _ _ _ _ _ _ (c .before .before .before .before .before .before .before .before .before .before .before .before .before .before .if1 .left) ((taken-told _ _ _ (c .before .before .before .before .before .before .before .before .before .before .before .before .arguments .ensures) (c .before .before .before .before .before .before .before .before .before .before .if2 .left)) .0) _ ((taken-told _ _ _ (c .before .before .before .before .before .before .before .before .before .before .before .before .arguments .ensures) (c .before .before .before .before .before .before .before .before .before .before .if2 .left)) .1) ((taken-told _ _ _ (c .before .before .before .before .before .before .before .before .before .before .before .before .arguments .ensures) (c .before .before .before .before .before .before .before .before .before .before .if2 .left)) .2) _ (c .before .before .before .before .before .before .before .before .to-i64 .ensures) (c .before .before .before .before .before .before .before .before .to-i64 .ok) _ _ _ (c .before .before .before .before .before .before .before .if3 .taken) (λ o b. height-none _ _ _ (c .before .before .before .before .before .before .if4 .taken)) (c .before .before .end-flex .ensures .0), c .before .before .end-flex .ensures .1)
+returns-3 c = (
+  others-flex _ _ _ _ _ _ _ _ (c .before .before .before .before .before .before .before .before .before .before .before .before .before .before .if1 .left) ((taken-told _ _ _ (c .before .before .before .before .before .before .before .before .before .before .before .before .arguments .ensures)
+      (c .before .before .before .before .before .before .before .before .before .before .if2 .left)) .0) _ ((taken-told _ _ _ (c .before .before .before .before .before .before .before .before .before .before .before .before .arguments .ensures)
+      (c .before .before .before .before .before .before .before .before .before .before .if2 .left)) .1) ((taken-told _ _ _ (c .before .before .before .before .before .before .before .before .before .before .before .before .arguments .ensures)
+      (c .before .before .before .before .before .before .before .before .before .before .if2 .left)) .2) _ (c .before .before .before .before .before .before .before .before .to-i64 .ensures) (c .before .before .before .before .before .before .before .before .to-i64 .ok) _ _ _ (c .before .before .before .before .before .before .before .if3 .taken) (λ o b. height-none _ _ _ (c .before .before .before .before .before .before .if4 .taken)) (c .before .before .end-flex .ensures .0),
+  c .before .before .end-flex .ensures .1,
+)
 
 end-flex-requires-2 : tie.Need-end-flex-requires-2
-end-flex-requires-2 c κs =
-    (fewer-bounds (c .before .before .before .before .before .before .before .before .before .before .before .before .before .before .args .st) _ _ (c .before .before .before .before .before .before .before .before .before .before .before .before .before .before .pre .0) (omega (arith, (taken-told _ _ _ (c .before .before .before .before .before .before .before .before .before .before .arguments .ensures) (c .before .before .before .before .before .before .before .before .if2 .left)) .2)), (c .before .before .before .before .before .before .before .before .before .before .before .before .before .before .pre .1 .0, (c .before .before .before .before .before .before .before .before .before .before .before .before .before .before .pre .1 .1 .operands _ (omega (arith, c .before .before .before .before .before .before .before .before .before .before .before .before .if1 .left)), c .before .before .before .before .before .before .before .before .before .before .before .before .before .before .pre .1 .1 .points)))
+end-flex-requires-2 c κs = (
+  fewer-bounds (c .before .before .before .before .before .before .before .before .before .before .before .before .before .before .args .st) _ _ (c .before .before .before .before .before .before .before .before .before .before .before .before .before .before .pre .0)
+      (omega (
+        arith,
+        (taken-told _ _ _ (c .before .before .before .before .before .before .before .before .before .before .arguments .ensures)
+            (c .before .before .before .before .before .before .before .before .if2 .left)) .2,
+      )),
+  (c .before .before .before .before .before .before .before .before .before .before .before .before .before .before .pre .1 .0, (c .before .before .before .before .before .before .before .before .before .before .before .before .before .before .pre .1 .1 .operands _ (omega (arith, c .before .before .before .before .before .before .before .before .before .before .before .before .if1 .left)), c .before .before .before .before .before .before .before .before .before .before .before .before .before .before .pre .1 .1 .points)),
+)
 
 returns-4 : tie.Need-returns-4
 unfolding ofBits
-returns-4 c =
-    (others-flex _ _ _ _ _ _ _ _ (c .before .before .before .before .before .before .before .before .before .before .before .before .before .before .before .if1 .left) ((taken-told _ _ _ (c .before .before .before .before .before .before .before .before .before .before .before .before .before .arguments .ensures) (c .before .before .before .before .before .before .before .before .before .before .before .if2 .left)) .0) _ ((taken-told _ _ _ (c .before .before .before .before .before .before .before .before .before .before .before .before .before .arguments .ensures) (c .before .before .before .before .before .before .before .before .before .before .before .if2 .left)) .1) ((taken-told _ _ _ (c .before .before .before .before .before .before .before .before .before .before .before .before .before .arguments .ensures) (c .before .before .before .before .before .before .before .before .before .before .before .if2 .left)) .2) _ (c .before .before .before .before .before .before .before .before .before .to-i64 .ensures) (c .before .before .before .before .before .before .before .before .before .to-i64 .ok) _ _ _ (c .before .before .before .before .before .before .before .before .if3 .taken) (λ o b. height-first _ _ _ (c .before .before .before .before .before .before .before .if4 .left) ((taken-told _ _ _ (c .before .before .before .before .before .before .before .before .before .before .before .before .before .arguments .ensures) (c .before .before .before .before .before .before .before .before .before .before .before .if2 .left)) .2) (omega arith)) (c .before .before .end-flex2 .ensures .0), c .before .before .end-flex2 .ensures .1)
+returns-4 c = (
+  others-flex _ _ _ _ _ _ _ _ (c .before .before .before .before .before .before .before .before .before .before .before .before .before .before .before .if1 .left) ((taken-told _ _ _ (c .before .before .before .before .before .before .before .before .before .before .before .before .before .arguments .ensures)
+      (c .before .before .before .before .before .before .before .before .before .before .before .if2 .left)) .0) _ ((taken-told _ _ _ (c .before .before .before .before .before .before .before .before .before .before .before .before .before .arguments .ensures)
+      (c .before .before .before .before .before .before .before .before .before .before .before .if2 .left)) .1) ((taken-told _ _ _ (c .before .before .before .before .before .before .before .before .before .before .before .before .before .arguments .ensures)
+      (c .before .before .before .before .before .before .before .before .before .before .before .if2 .left)) .2) _ (c .before .before .before .before .before .before .before .before .before .to-i64 .ensures) (c .before .before .before .before .before .before .before .before .before .to-i64 .ok) _ _ _ (c .before .before .before .before .before .before .before .before .if3 .taken)
+      (λ o b. height-first _ _ _ (c .before .before .before .before .before .before .before .if4 .left) ((taken-told _ _ _ (c .before .before .before .before .before .before .before .before .before .before .before .before .before .arguments .ensures) (c .before .before .before .before .before .before .before .before .before .before .before .if2 .left)) .2) (omega arith)) (c .before .before .end-flex2 .ensures .0),
+  c .before .before .end-flex2 .ensures .1,
+)
 
 returns-5 : tie.Need-returns-5
 unfolding ofBits
@@ -55,18 +73,32 @@ returns-5 c =
 
 returns-6 : tie.Need-returns-6
 unfolding ofBits
-returns-6 c =
-    (others-collect _ _ _ _ _ _ _ _ (c .before .before .before .before .before .before .before .before .before .before .before .if1 .left) ((taken-told _ _ _ (c .before .before .before .before .before .before .before .before .before .arguments .ensures) (c .before .before .before .before .before .before .before .if2 .left)) .0) _ ((taken-told _ _ _ (c .before .before .before .before .before .before .before .before .before .arguments .ensures) (c .before .before .before .before .before .before .before .if2 .left)) .1) ((taken-told _ _ _ (c .before .before .before .before .before .before .before .before .before .arguments .ensures) (c .before .before .before .before .before .before .before .if2 .left)) .2) _ (c .before .before .before .before .before .to-i64 .ensures) (c .before .before .before .before .before .to-i64 .ok) (c .before .before .before .before .if3 .left) (c .before .before .before .if5 .left) _ (c .before .before .if6 .taken) (c .collect .ensures .1) (c .collect .ensures .0), λ n. absurd (n (c .collect .ensures .1)))
+returns-6 c = (
+  others-collect _ _ _ _ _ _ _ _ (c .before .before .before .before .before .before .before .before .before .before .before .if1 .left) ((taken-told _ _ _ (c .before .before .before .before .before .before .before .before .before .arguments .ensures)
+      (c .before .before .before .before .before .before .before .if2 .left)) .0) _ ((taken-told _ _ _ (c .before .before .before .before .before .before .before .before .before .arguments .ensures) (c .before .before .before .before .before .before .before .if2 .left)) .1) ((taken-told _ _ _ (c .before .before .before .before .before .before .before .before .before .arguments .ensures)
+      (c .before .before .before .before .before .before .before .if2 .left)) .2) _ (c .before .before .before .before .before .to-i64 .ensures) (c .before .before .before .before .before .to-i64 .ok) (c .before .before .before .before .if3 .left) (c .before .before .before .if5 .left) _ (c .before .before .if6 .taken) (c .collect .ensures .1) (c .collect .ensures .0),
+  λ n. absurd (n (c .collect .ensures .1)),
+)
 
 returns-7 : tie.Need-returns-7
 unfolding ofBits
-returns-7 c =
-    (others-hints _ _ _ _ _ _ _ _ (c .before .before .before .before .before .before .before .before .before .before .before .before .if1 .left) ((taken-told _ _ _ (c .before .before .before .before .before .before .before .before .before .before .arguments .ensures) (c .before .before .before .before .before .before .before .before .if2 .left)) .0) _ ((taken-told _ _ _ (c .before .before .before .before .before .before .before .before .before .before .arguments .ensures) (c .before .before .before .before .before .before .before .before .if2 .left)) .1) ((taken-told _ _ _ (c .before .before .before .before .before .before .before .before .before .before .arguments .ensures) (c .before .before .before .before .before .before .before .before .if2 .left)) .2) _ (c .before .before .before .before .before .before .to-i64 .ensures) (c .before .before .before .before .before .before .to-i64 .ok) (c .before .before .before .before .before .if3 .left) (c .before .before .before .before .if5 .left) (c .before .before .before .if6 .left) _ (c .before .before .if7 .taken) (c .hand-back .ensures .1) (c .hand-back .ensures .0), λ n. absurd (n (c .hand-back .ensures .1)))
+returns-7 c = (
+  others-hints _ _ _ _ _ _ _ _ (c .before .before .before .before .before .before .before .before .before .before .before .before .if1 .left) ((taken-told _ _ _ (c .before .before .before .before .before .before .before .before .before .before .arguments .ensures)
+      (c .before .before .before .before .before .before .before .before .if2 .left)) .0) _ ((taken-told _ _ _ (c .before .before .before .before .before .before .before .before .before .before .arguments .ensures)
+      (c .before .before .before .before .before .before .before .before .if2 .left)) .1) ((taken-told _ _ _ (c .before .before .before .before .before .before .before .before .before .before .arguments .ensures) (c .before .before .before .before .before .before .before .before .if2 .left)) .2) _ (c .before .before .before .before .before .before .to-i64 .ensures)
+      (c .before .before .before .before .before .before .to-i64 .ok) (c .before .before .before .before .before .if3 .left) (c .before .before .before .before .if5 .left) (c .before .before .before .if6 .left) _ (c .before .before .if7 .taken) (c .hand-back .ensures .1) (c .hand-back .ensures .0),
+  λ n. absurd (n (c .hand-back .ensures .1)),
+)
 
 returns-8 : tie.Need-returns-8
 unfolding ofBits
-returns-8 c =
-    (others-unknown _ _ _ _ _ _ _ _ (c .before .before .before .before .before .before .before .before .before .before .before .before .if1 .left) ((taken-told _ _ _ (c .before .before .before .before .before .before .before .before .before .before .arguments .ensures) (c .before .before .before .before .before .before .before .before .if2 .left)) .0) _ ((taken-told _ _ _ (c .before .before .before .before .before .before .before .before .before .before .arguments .ensures) (c .before .before .before .before .before .before .before .before .if2 .left)) .1) ((taken-told _ _ _ (c .before .before .before .before .before .before .before .before .before .before .arguments .ensures) (c .before .before .before .before .before .before .before .before .if2 .left)) .2) _ (c .before .before .before .before .before .before .to-i64 .ensures) (c .before .before .before .before .before .before .to-i64 .ok) (c .before .before .before .before .before .if3 .left) (c .before .before .before .before .if5 .left) (c .before .before .before .if6 .left) _ (c .before .before .if7 .left) (c .hand-back2 .ensures .1) (c .hand-back2 .ensures .0), λ n. absurd (n (c .hand-back2 .ensures .1)))
+returns-8 c = (
+  others-unknown _ _ _ _ _ _ _ _ (c .before .before .before .before .before .before .before .before .before .before .before .before .if1 .left) ((taken-told _ _ _ (c .before .before .before .before .before .before .before .before .before .before .arguments .ensures)
+      (c .before .before .before .before .before .before .before .before .if2 .left)) .0) _ ((taken-told _ _ _ (c .before .before .before .before .before .before .before .before .before .before .arguments .ensures)
+      (c .before .before .before .before .before .before .before .before .if2 .left)) .1) ((taken-told _ _ _ (c .before .before .before .before .before .before .before .before .before .before .arguments .ensures) (c .before .before .before .before .before .before .before .before .if2 .left)) .2) _ (c .before .before .before .before .before .before .to-i64 .ensures)
+      (c .before .before .before .before .before .before .to-i64 .ok) (c .before .before .before .before .before .if3 .left) (c .before .before .before .before .if5 .left) (c .before .before .before .if6 .left) _ (c .before .before .if7 .left) (c .hand-back2 .ensures .1) (c .hand-back2 .ensures .0),
+  λ n. absurd (n (c .hand-back2 .ensures .1)),
+)
 
 pub callothersubr-spec : {M : Type 1} → statement M
 callothersubr-spec =

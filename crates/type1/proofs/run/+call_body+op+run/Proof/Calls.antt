@@ -132,16 +132,32 @@ module _ {M : Type 1} (𝓤 : URA M) (H : Heap 𝓤) (A : Atoms 𝓤) (mem : Mem
 
 module _ {M : Type 1} (𝓤 : URA M) (H : Heap 𝓤) (A : Atoms 𝓤) (mem : Memory → SProp 𝓤) (run′ : Routine → Fun 𝓤) (W : Given 𝓤 H A) (C : Table 𝓤 H) where
   pub token-as : Triple 𝓤 (C #type1·bytes·token) (TokenC 𝓤 H A mem run′) → (κcode : Lft) (qcode : Share) (xcode : RefT (List ℕ)) (κops : Lft) (qops : Share) (bops oops : ℕ) (γops : GName) (ysops : List Float) (κcmds : Lft) (qcmds : Share) (mcmds bcmds ocmds : ℕ) (γcmds : GName) (yscmds : List ℕ) (i : ℕ) (key : ℕ) (enc : Bool) (st : St) → i < 2 ^ 64 → key < 2 ^ 16 → Is S.the-row st (machS st ∷ []) → (i < length (xcode .now)) × ((st .operands ≤ 256) × (14 * st .entries ≤ length yscmds))
-      → ent 𝓤 (mean 𝓤 H A ((‵ (flft κcode qcode) ⊛ ‵ (ShrSlice (named 0) κcode u8 .own xcode (sliceVal (xcode .ptr) (length (xcode .now)) ∷ []))) ⊛ ((‵ (flft κops qops) ⊛ ‵ (OwnR (Array f64 256) bops oops κops γops ysops)) ⊛ (‵ (flft κcmds qcmds) ⊛ ‵ (Own u64 mcmds bcmds ocmds κcmds γcmds yscmds))))) (C #type1·bytes·token (sliceVal (xcode .ptr) (length (xcode .now)) ∷ vint w64 i ∷ vint w16 key ∷ vbool enc ∷ machS st ∷ vptr bops oops ∷ sliceVal (bcmds, ocmds) mcmds ∷ []) (λ w. mean 𝓤 H A (GotAll 𝓤 K.the-row (Unit {0} × (Unit {0} × (Unit {0} × (Unit {0} × (Unit {0} × (List Float × (List ℕ × Unit {0}))))))) (λ (r : K.the-row .Denot) (lasts : (Unit {0} × (Unit {0} × (Unit {0} × (Unit {0} × (Unit {0} × (List Float × (List ℕ × Unit {0})))))))). Reads (xcode .now) i key enc st ysops yscmds r (lasts .1 .1 .1 .1 .1 .0) (lasts .1 .1 .1 .1 .1 .1 .0)) (λ (lasts : (Unit {0} × (Unit {0} × (Unit {0} × (Unit {0} × (Unit {0} × (List Float × (List ℕ × Unit {0})))))))). (fsep ftrue (fsep ftrue (fsep ftrue (fsep ftrue (fsep ftrue (fsep (fres γops ((Array f64 256) .coded .code (lasts .1 .1 .1 .1 .1 .0))) (fsep (fsep (finally u64 γcmds (lasts .1 .1 .1 .1 .1 .1 .0)) (feq ℕ (length (lasts .1 .1 .1 .1 .1 .1 .0)) (length yscmds))) ftrue)))))))) (‵ (flft κcode qcode) ⊛ (‵ (flft κops qops) ⊛ (‵ (flft κcmds qcmds) ⊛ ‵ ftrue))) w)))
+      → ent 𝓤 (mean 𝓤 H A ((‵ (flft κcode qcode) ⊛ ‵ (ShrSlice (named 0) κcode u8 .own xcode (sliceVal (xcode .ptr) (length (xcode .now)) ∷ []))) ⊛ ((‵ (flft κops qops) ⊛ ‵ (OwnR (Array f64 256) bops oops κops γops ysops)) ⊛ (‵ (flft κcmds qcmds)
+      ⊛ ‵ (Own u64 mcmds bcmds ocmds κcmds γcmds yscmds))))) (C #type1·bytes·token (sliceVal (xcode .ptr) (length (xcode .now)) ∷ vint w64 i ∷ vint w16 key ∷ vbool enc ∷ machS st ∷ vptr bops oops ∷ sliceVal (bcmds, ocmds) mcmds ∷ []) (λ w. mean 𝓤 H A (GotAll 𝓤 K.the-row (Unit {0} × (Unit {0} × (Unit {0} × (Unit {0} × (Unit {0} × (List Float × (List ℕ × Unit {0})))))))
+      (λ (r : K.the-row .Denot) (lasts : (Unit {0} × (Unit {0} × (Unit {0} × (Unit {0} × (Unit {0} × (List Float × (List ℕ × Unit {0})))))))). Reads (xcode .now) i key enc st ysops yscmds r (lasts .1 .1 .1 .1 .1 .0) (lasts .1 .1 .1 .1 .1 .1 .0))
+      (λ (lasts : (Unit {0} × (Unit {0} × (Unit {0} × (Unit {0} × (Unit {0} × (List Float × (List ℕ × Unit {0})))))))). (fsep ftrue (fsep ftrue (fsep ftrue (fsep ftrue (fsep ftrue (fsep (fres γops ((Array f64 256) .coded .code (lasts .1 .1 .1 .1 .1 .0))) (fsep (fsep (finally u64 γcmds (lasts .1 .1 .1 .1 .1 .1 .0)) (feq ℕ (length (lasts .1 .1 .1 .1 .1 .1 .0)) (length yscmds))) ftrue)))))))) (‵ (flft κcode qcode) ⊛ (‵ (flft κops qops) ⊛ (‵ (flft κcmds qcmds) ⊛ ‵ ftrue))) w)))
   token-as known κcode qcode xcode κops qops bops oops γops ysops κcmds qcmds mcmds bcmds ocmds γcmds yscmds i key enc st i-fits key-fits st-fits need =
       let y : TokenC 𝓤 H A mem run′ .Ghost = (((κcode, (κops, (κcmds, tt))), (qcode, (qops, (qcmds, tt))), tt, (xcode, (i, (key, (enc, (st, (at-one (Array f64 256) bops oops γops ysops, (at-list u64 mcmds bcmds ocmds γcmds yscmds, tt))))))), (sliceVal (xcode .ptr) (length (xcode .now)) ∷ [], (vint w64 i ∷ [], (vint w16 key ∷ [], (vbool enc ∷ [], (machS st ∷ [], (vptr bops oops ∷ [], (sliceVal (bcmds, ocmds) mcmds ∷ [], tt)))))))), tt) in
-      via 𝓤 (TokenC 𝓤 H A mem run′ .pre y) (qed W (((‵ (flft κcode qcode) ⊛ ‵ (ShrSlice (named 0) κcode u8 .own xcode (sliceVal (xcode .ptr) (length (xcode .now)) ∷ []))) ⊛ ((‵ (flft κops qops) ⊛ ‵ (OwnR (Array f64 256) bops oops κops γops ysops)) ⊛ (‵ (flft κcmds qcmds) ⊛ ‵ (Own u64 mcmds bcmds ocmds κcmds γcmds yscmds)))) ∷ []) ∵ says ! need $ split ! $ move ! (1 ∷ []) $ split ! $ move ! (2 ∷ []) $ split ! $ move ! (2 ∷ []) $ split ! $ move ! (4 ∷ []) $ split ! $ nothing ! $ move ! (2 ∷ 0 ∷ []) $ fjoin ! $ move ! (3 ∷ 0 ∷ []) $ fjoin ! $ owned ! S.the-row (Is S.the-row) (LL.makes S.the-type S′.the-plain 𝓤 H A) st _ st-fits $ fjoin ! $ owned ! bool (Is bool) (bool-makes 𝓤 H A W) enc _ refl $ fjoin ! $ owned ! u16 (Is u16) (uint-makes 𝓤 H A W w16) key _ (refl, key-fits) $ fjoin ! $ owned ! usize (Is usize) (uint-makes 𝓤 H A W w64) i _ (refl, i-fits) $ fjoin ! $ move ! (4 ∷ 0 ∷ []) $ fjoin ! $ nothing ! $ move ! (2 ∷ 0 ∷ []) $ join ! $ move ! (2 ∷ 0 ∷ []) $ join ! $ move ! (2 ∷ 0 ∷ []) $ join ! $ frame ! $ done !) (known y)
+      via 𝓤 (TokenC 𝓤 H A mem run′ .pre y) (qed W (((‵ (flft κcode qcode) ⊛ ‵ (ShrSlice (named 0) κcode u8 .own xcode (sliceVal (xcode .ptr) (length (xcode .now)) ∷ []))) ⊛ ((‵ (flft κops qops) ⊛ ‵ (OwnR (Array f64 256) bops oops κops γops ysops)) ⊛ (‵ (flft κcmds qcmds) ⊛ ‵ (Own u64 mcmds bcmds ocmds κcmds γcmds yscmds)))) ∷ []) ∵ says ! need $ split ! $ move ! (1 ∷ []) $ split ! $ move ! (2 ∷ []) $
+      split ! $ move ! (2 ∷ []) $ split ! $ move ! (4 ∷ []) $ split ! $ nothing ! $ move ! (2 ∷ 0 ∷ []) $ fjoin ! $ move ! (3 ∷ 0 ∷ []) $ fjoin ! $ owned ! S.the-row (Is S.the-row) (LL.makes S.the-type S′.the-plain 𝓤 H A) st _ st-fits $ fjoin ! $ owned ! bool (Is bool) (bool-makes 𝓤 H A W) enc _ refl $ fjoin ! $ owned ! u16 (Is u16) (uint-makes 𝓤 H A W w16) key _ (refl, key-fits) $ fjoin ! $
+      owned ! usize (Is usize) (uint-makes 𝓤 H A W w64) i _ (refl, i-fits) $ fjoin ! $ move ! (4 ∷ 0 ∷ []) $ fjoin ! $ nothing ! $ move ! (2 ∷ 0 ∷ []) $ join ! $ move ! (2 ∷ 0 ∷ []) $ join ! $ move ! (2 ∷ 0 ∷ []) $ join ! $ frame ! $ done !) (known y)
 
   pub plain-as : Triple 𝓤 (C #type1·operators·plain) (PlainC 𝓤 H A mem run′) → (κops : Lft) (qops : Share) (bops oops : ℕ) (γops : GName) (ysops : List Float) (κps : Lft) (qps : Share) (bps ops : ℕ) (γps : GName) (ysps : List Float) (κcells : Lft) (qcells : Share) (bcells ocells : ℕ) (γcells : GName) (yscells : List Float) (κedges : Lft) (qedges : Share) (bedges oedges : ℕ) (γedges : GName) (ysedges : List Float) (κacross : Lft) (qacross : Share) (bacross oacross : ℕ) (γacross : GName) (ysacross : List Bool) (κcmds : Lft) (qcmds : Share) (mcmds bcmds ocmds : ℕ) (γcmds : GName) (yscmds : List ℕ) (o : ℕ) (same : Bool) (room : ℕ) (st : St) → o < 2 ^ 16 → room < 2 ^ 64 → Is S.the-row st (machS st ∷ []) → Bounds st (length yscmds) → st .stems ≤ room → Finite st ysops yscells
-      → ent 𝓤 (mean 𝓤 H A ((‵ (flft κops qops) ⊛ ‵ (OwnR (Array f64 256) bops oops κops γops ysops)) ⊛ ((‵ (flft κps qps) ⊛ ‵ (OwnR (Array f64 256) bps ops κps γps ysps)) ⊛ ((‵ (flft κcells qcells) ⊛ ‵ (OwnR (Array f64 17) bcells ocells κcells γcells yscells)) ⊛ ((‵ (flft κedges qedges) ⊛ ‵ (OwnR (Array f64 512) bedges oedges κedges γedges ysedges)) ⊛ ((‵ (flft κacross qacross) ⊛ ‵ (OwnR (Array bool 256) bacross oacross κacross γacross ysacross)) ⊛ (‵ (flft κcmds qcmds) ⊛ ‵ (Own u64 mcmds bcmds ocmds κcmds γcmds yscmds)))))))) (C #type1·operators·plain (vint w16 o ∷ vbool same ∷ vint w64 room ∷ machS st ∷ vptr bops oops ∷ vptr bps ops ∷ vptr bcells ocells ∷ vptr bedges oedges ∷ vptr bacross oacross ∷ sliceVal (bcmds, ocmds) mcmds ∷ []) (λ w. mean 𝓤 H A (GotTwo 𝓤 N.the-row (Unit {0} × (Unit {0} × (Unit {0} × (Unit {0} × (List Float × (List Float × (List Float × (List Float × (List Bool × (List ℕ × Unit {0})))))))))) (λ (r : N.the-row .Denot) (lasts : (Unit {0} × (Unit {0} × (Unit {0} × (Unit {0} × (List Float × (List Float × (List Float × (List Float × (List Bool × (List ℕ × Unit {0}))))))))))). (m : Mem) (s : State) → length (m .stems) ≡ room → Told same s → Holds st (withOps ysops (withPs ysps (withCells yscells (withPath ysedges ysacross yscmds m)))) s → Meets r (withOps (lasts .1 .1 .1 .1 .0) (withPs (lasts .1 .1 .1 .1 .1 .0) (withCells (lasts .1 .1 .1 .1 .1 .1 .0) (after st r (lasts .1 .1 .1 .1 .1 .1 .1 .1 .1 .0) (withHints (lasts .1 .1 .1 .1 .1 .1 .1 .0) (lasts .1 .1 .1 .1 .1 .1 .1 .1 .0) m))))) (operate (within room (length yscmds)) (refused 6) (operatorOf o) s)) (λ (r : N.the-row .Denot) (lasts : (Unit {0} × (Unit {0} × (Unit {0} × (Unit {0} × (List Float × (List Float × (List Float × (List Float × (List Bool × (List ℕ × Unit {0}))))))))))). Space st (r .st) room) (λ (lasts : (Unit {0} × (Unit {0} × (Unit {0} × (Unit {0} × (List Float × (List Float × (List Float × (List Float × (List Bool × (List ℕ × Unit {0}))))))))))). (fsep ftrue (fsep ftrue (fsep ftrue (fsep ftrue (fsep (fres γops ((Array f64 256) .coded .code (lasts .1 .1 .1 .1 .0))) (fsep (fres γps ((Array f64 256) .coded .code (lasts .1 .1 .1 .1 .1 .0))) (fsep (fres γcells ((Array f64 17) .coded .code (lasts .1 .1 .1 .1 .1 .1 .0))) (fsep (fres γedges ((Array f64 512) .coded .code (lasts .1 .1 .1 .1 .1 .1 .1 .0))) (fsep (fres γacross ((Array bool 256) .coded .code (lasts .1 .1 .1 .1 .1 .1 .1 .1 .0))) (fsep (fsep (finally u64 γcmds (lasts .1 .1 .1 .1 .1 .1 .1 .1 .1 .0)) (feq ℕ (length (lasts .1 .1 .1 .1 .1 .1 .1 .1 .1 .0)) (length yscmds))) ftrue))))))))))) (‵ (flft κops qops) ⊛ (‵ (flft κps qps) ⊛ (‵ (flft κcells qcells) ⊛ (‵ (flft κedges qedges) ⊛ (‵ (flft κacross qacross) ⊛ (‵ (flft κcmds qcmds) ⊛ ‵ ftrue)))))) w)))
+      → ent 𝓤 (mean 𝓤 H A ((‵ (flft κops qops) ⊛ ‵ (OwnR (Array f64 256) bops oops κops γops ysops)) ⊛ ((‵ (flft κps qps) ⊛ ‵ (OwnR (Array f64 256) bps ops κps γps ysps)) ⊛ ((‵ (flft κcells qcells) ⊛ ‵ (OwnR (Array f64 17) bcells ocells κcells γcells yscells)) ⊛ ((‵ (flft κedges qedges) ⊛ ‵ (OwnR (Array f64 512) bedges oedges κedges γedges ysedges)) ⊛ ((‵ (flft κacross qacross)
+      ⊛ ‵ (OwnR (Array bool 256) bacross oacross κacross γacross ysacross)) ⊛ (‵ (flft κcmds qcmds)
+      ⊛ ‵ (Own u64 mcmds bcmds ocmds κcmds γcmds yscmds)))))))) (C #type1·operators·plain (vint w16 o ∷ vbool same ∷ vint w64 room ∷ machS st ∷ vptr bops oops ∷ vptr bps ops ∷ vptr bcells ocells ∷ vptr bedges oedges ∷ vptr bacross oacross ∷ sliceVal (bcmds, ocmds) mcmds ∷ [])
+      (λ w. mean 𝓤 H A (GotTwo 𝓤 N.the-row (Unit {0} × (Unit {0} × (Unit {0} × (Unit {0} × (List Float × (List Float × (List Float × (List Float × (List Bool × (List ℕ × Unit {0})))))))))) (λ (r : N.the-row .Denot) (lasts : (Unit {0} × (Unit {0} × (Unit {0} × (Unit {0} × (List Float × (List Float × (List Float × (List Float × (List Bool × (List ℕ × Unit {0}))))))))))). (m : Mem) (s : State)
+      → length (m .stems) ≡ room → Told same s → Holds st (withOps ysops (withPs ysps (withCells yscells (withPath ysedges ysacross yscmds m)))) s
+      → Meets r (withOps (lasts .1 .1 .1 .1 .0) (withPs (lasts .1 .1 .1 .1 .1 .0) (withCells (lasts .1 .1 .1 .1 .1 .1 .0) (after st r (lasts .1 .1 .1 .1 .1 .1 .1 .1 .1 .0) (withHints (lasts .1 .1 .1 .1 .1 .1 .1 .0) (lasts .1 .1 .1 .1 .1 .1 .1 .1 .0) m))))) (operate (within room (length yscmds)) (refused 6) (operatorOf o) s))
+      (λ (r : N.the-row .Denot) (lasts : (Unit {0} × (Unit {0} × (Unit {0} × (Unit {0} × (List Float × (List Float × (List Float × (List Float × (List Bool × (List ℕ × Unit {0}))))))))))). Space st (r .st) room)
+      (λ (lasts : (Unit {0} × (Unit {0} × (Unit {0} × (Unit {0} × (List Float × (List Float × (List Float × (List Float × (List Bool × (List ℕ × Unit {0}))))))))))). (fsep ftrue (fsep ftrue (fsep ftrue (fsep ftrue (fsep (fres γops ((Array f64 256) .coded .code (lasts .1 .1 .1 .1 .0))) (fsep (fres γps ((Array f64 256) .coded .code (lasts .1 .1 .1 .1 .1 .0))) (fsep (fres γcells ((Array f64 17) .coded .code (lasts .1 .1 .1 .1 .1 .1 .0))) (fsep (fres γedges ((Array f64 512) .coded .code (lasts .1 .1 .1 .1 .1 .1 .1 .0))) (fsep (fres γacross ((Array bool 256) .coded .code (lasts .1 .1 .1 .1 .1 .1 .1 .1 .0))) (fsep (fsep (finally u64 γcmds (lasts .1 .1 .1 .1 .1 .1 .1 .1 .1 .0)) (feq ℕ (length (lasts .1 .1 .1 .1 .1 .1 .1 .1 .1 .0)) (length yscmds))) ftrue))))))))))) (‵ (flft κops qops)
+      ⊛ (‵ (flft κps qps) ⊛ (‵ (flft κcells qcells) ⊛ (‵ (flft κedges qedges) ⊛ (‵ (flft κacross qacross) ⊛ (‵ (flft κcmds qcmds) ⊛ ‵ ftrue)))))) w)))
   plain-as known κops qops bops oops γops ysops κps qps bps ops γps ysps κcells qcells bcells ocells γcells yscells κedges qedges bedges oedges γedges ysedges κacross qacross bacross oacross γacross ysacross κcmds qcmds mcmds bcmds ocmds γcmds yscmds o same room st o-fits room-fits st-fits need₁ need₂ need₃ =
       let y : PlainC 𝓤 H A mem run′ .Ghost = (((κops, (κps, (κcells, (κedges, (κacross, (κcmds, tt)))))), (qops, (qps, (qcells, (qedges, (qacross, (qcmds, tt)))))), tt, (o, (same, (room, (st, (at-one (Array f64 256) bops oops γops ysops, (at-one (Array f64 256) bps ops γps ysps, (at-one (Array f64 17) bcells ocells γcells yscells, (at-one (Array f64 512) bedges oedges γedges ysedges, (at-one (Array bool 256) bacross oacross γacross ysacross, (at-list u64 mcmds bcmds ocmds γcmds yscmds, tt)))))))))), (vint w16 o ∷ [], (vbool same ∷ [], (vint w64 room ∷ [], (machS st ∷ [], (vptr bops oops ∷ [], (vptr bps ops ∷ [], (vptr bcells ocells ∷ [], (vptr bedges oedges ∷ [], (vptr bacross oacross ∷ [], (sliceVal (bcmds, ocmds) mcmds ∷ [], tt))))))))))), tt) in
-      via 𝓤 (PlainC 𝓤 H A mem run′ .pre y) (qed W (((‵ (flft κops qops) ⊛ ‵ (OwnR (Array f64 256) bops oops κops γops ysops)) ⊛ ((‵ (flft κps qps) ⊛ ‵ (OwnR (Array f64 256) bps ops κps γps ysps)) ⊛ ((‵ (flft κcells qcells) ⊛ ‵ (OwnR (Array f64 17) bcells ocells κcells γcells yscells)) ⊛ ((‵ (flft κedges qedges) ⊛ ‵ (OwnR (Array f64 512) bedges oedges κedges γedges ysedges)) ⊛ ((‵ (flft κacross qacross) ⊛ ‵ (OwnR (Array bool 256) bacross oacross κacross γacross ysacross)) ⊛ (‵ (flft κcmds qcmds) ⊛ ‵ (Own u64 mcmds bcmds ocmds κcmds γcmds yscmds))))))) ∷ []) ∵ says-three ! need₁ need₂ need₃ $ split ! $ move ! (1 ∷ []) $ split ! $ move ! (1 ∷ []) $ split ! $ move ! (1 ∷ []) $ split ! $ move ! (1 ∷ []) $ split ! $ move ! (5 ∷ []) $ split ! $ move ! (6 ∷ []) $ split ! $ move ! (7 ∷ []) $ split ! $ move ! (8 ∷ []) $ split ! $ move ! (8 ∷ []) $ split ! $ move ! (10 ∷ []) $ split ! $ nothing ! $ move ! (2 ∷ 0 ∷ []) $ fjoin ! $ move ! (3 ∷ 0 ∷ []) $ fjoin ! $ move ! (4 ∷ 0 ∷ []) $ fjoin ! $ move ! (5 ∷ 0 ∷ []) $ fjoin ! $ move ! (6 ∷ 0 ∷ []) $ fjoin ! $ move ! (7 ∷ 0 ∷ []) $ fjoin ! $ owned ! S.the-row (Is S.the-row) (LL.makes S.the-type S′.the-plain 𝓤 H A) st _ st-fits $ fjoin ! $ owned ! usize (Is usize) (uint-makes 𝓤 H A W w64) room _ (refl, room-fits) $ fjoin ! $ owned ! bool (Is bool) (bool-makes 𝓤 H A W) same _ refl $ fjoin ! $ owned ! u16 (Is u16) (uint-makes 𝓤 H A W w16) o _ (refl, o-fits) $ fjoin ! $ nothing ! $ move ! (2 ∷ 0 ∷ []) $ join ! $ move ! (2 ∷ 0 ∷ []) $ join ! $ move ! (2 ∷ 0 ∷ []) $ join ! $ move ! (2 ∷ 0 ∷ []) $ join ! $ move ! (2 ∷ 0 ∷ []) $ join ! $ move ! (2 ∷ 0 ∷ []) $ join ! $ frame ! $ done !) (known y)
+      via 𝓤 (PlainC 𝓤 H A mem run′ .pre y) (qed W (((‵ (flft κops qops) ⊛ ‵ (OwnR (Array f64 256) bops oops κops γops ysops)) ⊛ ((‵ (flft κps qps) ⊛ ‵ (OwnR (Array f64 256) bps ops κps γps ysps)) ⊛ ((‵ (flft κcells qcells) ⊛ ‵ (OwnR (Array f64 17) bcells ocells κcells γcells yscells)) ⊛ ((‵ (flft κedges qedges) ⊛ ‵ (OwnR (Array f64 512) bedges oedges κedges γedges ysedges)) ⊛ ((‵ (flft κacross qacross)
+      ⊛ ‵ (OwnR (Array bool 256) bacross oacross κacross γacross ysacross)) ⊛ (‵ (flft κcmds qcmds) ⊛ ‵ (Own u64 mcmds bcmds ocmds κcmds γcmds yscmds))))))) ∷ []) ∵ says-three ! need₁ need₂ need₃ $ split ! $ move ! (1 ∷ []) $ split ! $ move ! (1 ∷ []) $ split ! $ move ! (1 ∷ []) $ split ! $ move ! (1 ∷ []) $ split ! $ move ! (5 ∷ []) $ split ! $ move ! (6 ∷ []) $ split ! $ move ! (7 ∷ []) $ split ! $
+      move ! (8 ∷ []) $ split ! $ move ! (8 ∷ []) $ split ! $ move ! (10 ∷ []) $ split ! $ nothing ! $ move ! (2 ∷ 0 ∷ []) $ fjoin ! $ move ! (3 ∷ 0 ∷ []) $ fjoin ! $ move ! (4 ∷ 0 ∷ []) $ fjoin ! $ move ! (5 ∷ 0 ∷ []) $ fjoin ! $ move ! (6 ∷ 0 ∷ []) $ fjoin ! $ move ! (7 ∷ 0 ∷ []) $ fjoin ! $ owned ! S.the-row (Is S.the-row) (LL.makes S.the-type S′.the-plain 𝓤 H A) st _ st-fits $ fjoin ! $
+      owned ! usize (Is usize) (uint-makes 𝓤 H A W w64) room _ (refl, room-fits) $ fjoin ! $ owned ! bool (Is bool) (bool-makes 𝓤 H A W) same _ refl $ fjoin ! $ owned ! u16 (Is u16) (uint-makes 𝓤 H A W w16) o _ (refl, o-fits) $ fjoin ! $ nothing ! $ move ! (2 ∷ 0 ∷ []) $ join ! $ move ! (2 ∷ 0 ∷ []) $ join ! $ move ! (2 ∷ 0 ∷ []) $ join ! $ move ! (2 ∷ 0 ∷ []) $ join ! $ move ! (2 ∷ 0 ∷ []) $ join ! $ move ! (2 ∷ 0 ∷ []) $ join ! $ frame ! $ done !) (known y)
 
   pub callsubr-as : Triple 𝓤 (C #type1·subroutines·callsubr) (CallsubrC 𝓤 H A mem run′) → (κbank : Lft) (qbank : Share) (xbank : RefT (List ℕ)) (κops : Lft) (qops : Share) (xops : RefT (List Float)) (st : St) → Is S.the-row st (machS st ∷ []) → Valid (xbank .now) × ((st .operands ≤ 256) × (st .ran ≤ maxCharstringBytes))
       → ent 𝓤 (mean 𝓤 H A ((‵ (flft κbank qbank) ⊛ ‵ (ShrSlice (named 0) κbank u8 .own xbank (sliceVal (xbank .ptr) (length (xbank .now)) ∷ []))) ⊛ (‵ (flft κops qops) ⊛ ‵ (ShrRef (named 0) κops (Array f64 256) .own xops (vptr (xops .ptr .0) (xops .ptr .1) ∷ []))))) (C #type1·subroutines·callsubr (sliceVal (xbank .ptr) (length (xbank .now)) ∷ machS st ∷ vptr (xops .ptr .0) (xops .ptr .1) ∷ []) (λ w. mean 𝓤 H A (GotAll 𝓤 D.the-row (Unit {0} × (Unit {0} × (Unit {0} × Unit {0}))) (λ (r : D.the-row .Denot) (lasts : (Unit {0} × (Unit {0} × (Unit {0} × Unit {0})))). (m : Mem) (s : State) (reading : Reading) → Holds st (withOps (xops .now) m) s → Calls (xbank .now) reading (withOps (xops .now) m) s r) (λ (lasts : (Unit {0} × (Unit {0} × (Unit {0} × Unit {0})))). (fsep ftrue (fsep ftrue (fsep ftrue ftrue)))) (‵ (flft κbank qbank) ⊛ (‵ (flft κops qops) ⊛ ‵ ftrue)) w)))
@@ -180,31 +196,92 @@ module _ {M : Type 1} (𝓤 : URA M) (H : Heap 𝓤) (A : Atoms 𝓤) (mem : Mem
       via 𝓤 (RoomC 𝓤 H A mem run′ .pre y) (qed W ((‵ (flft κstems qstems) ⊛ ‵ (Own T.the-row mstems bstems ostems κstems γstems ysstems)) ∷ []) ∵ split ! $ nothing ! $ move ! (2 ∷ 0 ∷ []) $ fjoin ! $ nothing ! $ move ! (2 ∷ 0 ∷ []) $ join ! $ join ! $ frame ! $ done !) (known y)
 
   pub is-last-as : Triple 𝓤 (C #type1·stems·is-last) (IsLastC 𝓤 H A mem run′) → (κedges : Lft) (qedges : Share) (xedges : RefT (List Float)) (κacross : Lft) (qacross : Share) (xacross : RefT (List Bool)) (κstems : Lft) (qstems : Share) (mstems bstems ostems : ℕ) (γstems : GName) (ysstems : List Stem) (st : St) → Is S.the-row st (machS st ∷ []) → (st .hints ≤ 256) × ((st .last ≤ st .stems) × (st .stems ≤ length ysstems))
-      → ent 𝓤 (mean 𝓤 H A ((‵ (flft κedges qedges) ⊛ ‵ (ShrRef (named 0) κedges (Array f64 512) .own xedges (vptr (xedges .ptr .0) (xedges .ptr .1) ∷ []))) ⊛ ((‵ (flft κacross qacross) ⊛ ‵ (ShrRef (named 0) κacross (Array bool 256) .own xacross (vptr (xacross .ptr .0) (xacross .ptr .1) ∷ []))) ⊛ (‵ (flft κstems qstems) ⊛ ‵ (Own T.the-row mstems bstems ostems κstems γstems ysstems))))) (C #type1·stems·is-last (machS st ∷ vptr (xedges .ptr .0) (xedges .ptr .1) ∷ vptr (xacross .ptr .0) (xacross .ptr .1) ∷ sliceVal (bstems, ostems) mstems ∷ []) (λ w. mean 𝓤 H A (GotAll 𝓤 bool (Unit {0} × (Unit {0} × (Unit {0} × (List Stem × Unit {0})))) (λ (r : bool .Denot) (lasts : (Unit {0} × (Unit {0} × (Unit {0} × (List Stem × Unit {0}))))). (r ≡ (st .changed && (ltb 0 (st .groups) && sameStems (take (st .last) (drop (st .stems - st .last) ysstems)) (stemsAt 0 (st .hints) (xedges .now) (xacross .now))))) × (lasts .1 .1 .1 .0 ≡ ysstems)) (λ (lasts : (Unit {0} × (Unit {0} × (Unit {0} × (List Stem × Unit {0}))))). (fsep ftrue (fsep ftrue (fsep ftrue (fsep (fsep (finally T.the-row γstems (lasts .1 .1 .1 .0)) (feq ℕ (length (lasts .1 .1 .1 .0)) (length ysstems))) ftrue))))) (‵ (flft κedges qedges) ⊛ (‵ (flft κacross qacross) ⊛ (‵ (flft κstems qstems) ⊛ ‵ ftrue))) w)))
+      → ent 𝓤 (mean 𝓤 H A ((‵ (flft κedges qedges) ⊛ ‵ (ShrRef (named 0) κedges (Array f64 512) .own xedges (vptr (xedges .ptr .0) (xedges .ptr .1) ∷ []))) ⊛ ((‵ (flft κacross qacross) ⊛ ‵ (ShrRef (named 0) κacross (Array bool 256) .own xacross (vptr (xacross .ptr .0) (xacross .ptr .1) ∷ []))) ⊛ (‵ (flft κstems qstems)
+      ⊛ ‵ (Own T.the-row mstems bstems ostems κstems γstems ysstems))))) (C #type1·stems·is-last (machS st ∷ vptr (xedges .ptr .0) (xedges .ptr .1) ∷ vptr (xacross .ptr .0) (xacross .ptr .1) ∷ sliceVal (bstems, ostems) mstems ∷ []) (λ w. mean 𝓤 H A (GotAll 𝓤 bool (Unit {0} × (Unit {0} × (Unit {0} × (List Stem × Unit {0}))))
+      (λ (r : bool .Denot) (lasts : (Unit {0} × (Unit {0} × (Unit {0} × (List Stem × Unit {0}))))). (r ≡ (st .changed && (ltb 0 (st .groups) && sameStems (take (st .last) (drop (st .stems - st .last) ysstems)) (stemsAt 0 (st .hints) (xedges .now) (xacross .now))))) × (lasts .1 .1 .1 .0 ≡ ysstems))
+      (λ (lasts : (Unit {0} × (Unit {0} × (Unit {0} × (List Stem × Unit {0}))))). (fsep ftrue (fsep ftrue (fsep ftrue (fsep (fsep (finally T.the-row γstems (lasts .1 .1 .1 .0)) (feq ℕ (length (lasts .1 .1 .1 .0)) (length ysstems))) ftrue))))) (‵ (flft κedges qedges) ⊛ (‵ (flft κacross qacross) ⊛ (‵ (flft κstems qstems) ⊛ ‵ ftrue))) w)))
   is-last-as known κedges qedges xedges κacross qacross xacross κstems qstems mstems bstems ostems γstems ysstems st st-fits need =
       let y : IsLastC 𝓤 H A mem run′ .Ghost = (((κedges, (κacross, (κstems, tt))), (qedges, (qacross, (qstems, tt))), tt, (st, (xedges, (xacross, (at-list T.the-row mstems bstems ostems γstems ysstems, tt)))), (machS st ∷ [], (vptr (xedges .ptr .0) (xedges .ptr .1) ∷ [], (vptr (xacross .ptr .0) (xacross .ptr .1) ∷ [], (sliceVal (bstems, ostems) mstems ∷ [], tt))))), tt) in
       via 𝓤 (IsLastC 𝓤 H A mem run′ .pre y) (qed W (((‵ (flft κedges qedges) ⊛ ‵ (ShrRef (named 0) κedges (Array f64 512) .own xedges (vptr (xedges .ptr .0) (xedges .ptr .1) ∷ []))) ⊛ ((‵ (flft κacross qacross) ⊛ ‵ (ShrRef (named 0) κacross (Array bool 256) .own xacross (vptr (xacross .ptr .0) (xacross .ptr .1) ∷ []))) ⊛ (‵ (flft κstems qstems) ⊛ ‵ (Own T.the-row mstems bstems ostems κstems γstems ysstems)))) ∷ []) ∵ says ! need $ split ! $ move ! (1 ∷ []) $ split ! $ move ! (2 ∷ []) $ split ! $ move ! (2 ∷ []) $ split ! $ move ! (4 ∷ []) $ split ! $ nothing ! $ move ! (2 ∷ 0 ∷ []) $ fjoin ! $ move ! (3 ∷ 0 ∷ []) $ fjoin ! $ move ! (4 ∷ 0 ∷ []) $ fjoin ! $ owned ! S.the-row (Is S.the-row) (LL.makes S.the-type S′.the-plain 𝓤 H A) st _ st-fits $ fjoin ! $ nothing ! $ move ! (2 ∷ 0 ∷ []) $ join ! $ move ! (2 ∷ 0 ∷ []) $ join ! $ move ! (2 ∷ 0 ∷ []) $ join ! $ frame ! $ done !) (known y)
 
   pub keep-group-as : Triple 𝓤 (C #type1·stems·keep-group) (KeepGroupC 𝓤 H A mem run′) → (κedges : Lft) (qedges : Share) (xedges : RefT (List Float)) (κacross : Lft) (qacross : Share) (xacross : RefT (List Bool)) (κstems : Lft) (qstems : Share) (mstems bstems ostems : ℕ) (γstems : GName) (ysstems : List Stem) (used : ℕ) (n : ℕ) → used < 2 ^ 64 → n < 2 ^ 64 → (n ≤ 256) × (used + n ≤ length ysstems)
-      → ent 𝓤 (mean 𝓤 H A ((‵ (flft κedges qedges) ⊛ ‵ (ShrRef (named 0) κedges (Array f64 512) .own xedges (vptr (xedges .ptr .0) (xedges .ptr .1) ∷ []))) ⊛ ((‵ (flft κacross qacross) ⊛ ‵ (ShrRef (named 0) κacross (Array bool 256) .own xacross (vptr (xacross .ptr .0) (xacross .ptr .1) ∷ []))) ⊛ (‵ (flft κstems qstems) ⊛ ‵ (Own T.the-row mstems bstems ostems κstems γstems ysstems))))) (C #type1·stems·keep-group (vint w64 used ∷ vint w64 n ∷ vptr (xedges .ptr .0) (xedges .ptr .1) ∷ vptr (xacross .ptr .0) (xacross .ptr .1) ∷ sliceVal (bstems, ostems) mstems ∷ []) (λ w. mean 𝓤 H A (GotAll 𝓤 Nothing (Unit {0} × (Unit {0} × (Unit {0} × (Unit {0} × (List Stem × Unit {0}))))) (λ (r : Nothing .Denot) (lasts : (Unit {0} × (Unit {0} × (Unit {0} × (Unit {0} × (List Stem × Unit {0})))))). lasts .1 .1 .1 .1 .0 ≡ paste ysstems used (stemsAt 0 n (xedges .now) (xacross .now)) n) (λ (lasts : (Unit {0} × (Unit {0} × (Unit {0} × (Unit {0} × (List Stem × Unit {0})))))). (fsep ftrue (fsep ftrue (fsep ftrue (fsep ftrue (fsep (fsep (finally T.the-row γstems (lasts .1 .1 .1 .1 .0)) (feq ℕ (length (lasts .1 .1 .1 .1 .0)) (length ysstems))) ftrue)))))) (‵ (flft κedges qedges) ⊛ (‵ (flft κacross qacross) ⊛ (‵ (flft κstems qstems) ⊛ ‵ ftrue))) w)))
+      → ent 𝓤 (mean 𝓤 H A ((‵ (flft κedges qedges) ⊛ ‵ (ShrRef (named 0) κedges (Array f64 512) .own xedges (vptr (xedges .ptr .0) (xedges .ptr .1) ∷ []))) ⊛ ((‵ (flft κacross qacross) ⊛ ‵ (ShrRef (named 0) κacross (Array bool 256) .own xacross (vptr (xacross .ptr .0) (xacross .ptr .1) ∷ []))) ⊛ (‵ (flft κstems qstems)
+      ⊛ ‵ (Own T.the-row mstems bstems ostems κstems γstems ysstems))))) (C #type1·stems·keep-group (vint w64 used ∷ vint w64 n ∷ vptr (xedges .ptr .0) (xedges .ptr .1) ∷ vptr (xacross .ptr .0) (xacross .ptr .1) ∷ sliceVal (bstems, ostems) mstems ∷ []) (λ w. mean 𝓤 H A (GotAll 𝓤 Nothing (Unit {0} × (Unit {0} × (Unit {0} × (Unit {0} × (List Stem × Unit {0})))))
+      (λ (r : Nothing .Denot) (lasts : (Unit {0} × (Unit {0} × (Unit {0} × (Unit {0} × (List Stem × Unit {0})))))). lasts .1 .1 .1 .1 .0 ≡ paste ysstems used (stemsAt 0 n (xedges .now) (xacross .now)) n) (λ (lasts : (Unit {0} × (Unit {0} × (Unit {0} × (Unit {0} × (List Stem × Unit {0})))))). (fsep ftrue (fsep ftrue (fsep ftrue (fsep ftrue (fsep (fsep (finally T.the-row γstems (lasts .1 .1 .1 .1 .0)) (feq ℕ (length (lasts .1 .1 .1 .1 .0)) (length ysstems))) ftrue)))))) (‵ (flft κedges qedges) ⊛ (‵ (flft κacross qacross) ⊛ (‵ (flft κstems qstems) ⊛ ‵ ftrue))) w)))
   keep-group-as known κedges qedges xedges κacross qacross xacross κstems qstems mstems bstems ostems γstems ysstems used n used-fits n-fits need =
       let y : KeepGroupC 𝓤 H A mem run′ .Ghost = (((κedges, (κacross, (κstems, tt))), (qedges, (qacross, (qstems, tt))), tt, (used, (n, (xedges, (xacross, (at-list T.the-row mstems bstems ostems γstems ysstems, tt))))), (vint w64 used ∷ [], (vint w64 n ∷ [], (vptr (xedges .ptr .0) (xedges .ptr .1) ∷ [], (vptr (xacross .ptr .0) (xacross .ptr .1) ∷ [], (sliceVal (bstems, ostems) mstems ∷ [], tt)))))), tt) in
       via 𝓤 (KeepGroupC 𝓤 H A mem run′ .pre y) (qed W (((‵ (flft κedges qedges) ⊛ ‵ (ShrRef (named 0) κedges (Array f64 512) .own xedges (vptr (xedges .ptr .0) (xedges .ptr .1) ∷ []))) ⊛ ((‵ (flft κacross qacross) ⊛ ‵ (ShrRef (named 0) κacross (Array bool 256) .own xacross (vptr (xacross .ptr .0) (xacross .ptr .1) ∷ []))) ⊛ (‵ (flft κstems qstems) ⊛ ‵ (Own T.the-row mstems bstems ostems κstems γstems ysstems)))) ∷ []) ∵ says ! need $ split ! $ move ! (1 ∷ []) $ split ! $ move ! (2 ∷ []) $ split ! $ move ! (2 ∷ []) $ split ! $ move ! (4 ∷ []) $ split ! $ nothing ! $ move ! (2 ∷ 0 ∷ []) $ fjoin ! $ move ! (3 ∷ 0 ∷ []) $ fjoin ! $ move ! (4 ∷ 0 ∷ []) $ fjoin ! $ owned ! usize (Is usize) (uint-makes 𝓤 H A W w64) n _ (refl, n-fits) $ fjoin ! $ owned ! usize (Is usize) (uint-makes 𝓤 H A W w64) used _ (refl, used-fits) $ fjoin ! $ nothing ! $ move ! (2 ∷ 0 ∷ []) $ join ! $ move ! (2 ∷ 0 ∷ []) $ join ! $ move ! (2 ∷ 0 ∷ []) $ join ! $ frame ! $ done !) (known y)
 
-  pub call-body-as : (t : ℕ) → BelowCallBody 𝓤 H A mem run′ C t → (κbank : Lft) (qbank : Share) (xbank : RefT (List ℕ)) (κops : Lft) (qops : Share) (bops oops : ℕ) (γops : GName) (ysops : List Float) (κps : Lft) (qps : Share) (bps ops : ℕ) (γps : GName) (ysps : List Float) (κcells : Lft) (qcells : Share) (bcells ocells : ℕ) (γcells : GName) (yscells : List Float) (κedges : Lft) (qedges : Share) (bedges oedges : ℕ) (γedges : GName) (ysedges : List Float) (κacross : Lft) (qacross : Share) (bacross oacross : ℕ) (γacross : GName) (ysacross : List Bool) (κcmds : Lft) (qcmds : Share) (mcmds bcmds ocmds : ℕ) (γcmds : GName) (yscmds : List ℕ) (κstems : Lft) (qstems : Share) (mstems bstems ostems : ℕ) (γstems : GName) (ysstems : List Stem) (rd : Reading) (levels : ℕ) (st : St) → Is Y.the-row rd (machY rd ∷ []) → levels < 2 ^ 64 → Is S.the-row st (machS st ∷ []) → (levels < 100) × (Valid (xbank .now) × Ready st (memOf ysops ysps yscells ysedges ysacross yscmds ysstems)) → (levels + levels + levels) < t
-      → ent 𝓤 (mean 𝓤 H A ((‵ (flft κbank qbank) ⊛ ‵ (ShrSlice (named 0) κbank u8 .own xbank (sliceVal (xbank .ptr) (length (xbank .now)) ∷ []))) ⊛ ((‵ (flft κops qops) ⊛ ‵ (OwnR (Array f64 256) bops oops κops γops ysops)) ⊛ ((‵ (flft κps qps) ⊛ ‵ (OwnR (Array f64 256) bps ops κps γps ysps)) ⊛ ((‵ (flft κcells qcells) ⊛ ‵ (OwnR (Array f64 17) bcells ocells κcells γcells yscells)) ⊛ ((‵ (flft κedges qedges) ⊛ ‵ (OwnR (Array f64 512) bedges oedges κedges γedges ysedges)) ⊛ ((‵ (flft κacross qacross) ⊛ ‵ (OwnR (Array bool 256) bacross oacross κacross γacross ysacross)) ⊛ ((‵ (flft κcmds qcmds) ⊛ ‵ (Own u64 mcmds bcmds ocmds κcmds γcmds yscmds)) ⊛ (‵ (flft κstems qstems) ⊛ ‵ (Own T.the-row mstems bstems ostems κstems γstems ysstems)))))))))) (C #type1·run·call-body (sliceVal (xbank .ptr) (length (xbank .now)) ∷ machY rd ∷ vint w64 levels ∷ machS st ∷ vptr bops oops ∷ vptr bps ops ∷ vptr bcells ocells ∷ vptr bedges oedges ∷ vptr bacross oacross ∷ sliceVal (bcmds, ocmds) mcmds ∷ sliceVal (bstems, ostems) mstems ∷ []) (λ w. mean 𝓤 H A (GotAll 𝓤 N.the-row (Unit {0} × (Unit {0} × (Unit {0} × (Unit {0} × (List Float × (List Float × (List Float × (List Float × (List Bool × (List ℕ × (List Stem × Unit {0}))))))))))) (λ (r : N.the-row .Denot) (lasts : (Unit {0} × (Unit {0} × (Unit {0} × (Unit {0} × (List Float × (List Float × (List Float × (List Float × (List Bool × (List ℕ × (List Stem × Unit {0})))))))))))). MeetsFrom r (memOf (lasts .1 .1 .1 .1 .0) (lasts .1 .1 .1 .1 .1 .0) (lasts .1 .1 .1 .1 .1 .1 .0) (lasts .1 .1 .1 .1 .1 .1 .1 .0) (lasts .1 .1 .1 .1 .1 .1 .1 .1 .0) (lasts .1 .1 .1 .1 .1 .1 .1 .1 .1 .0) (lasts .1 .1 .1 .1 .1 .1 .1 .1 .1 .1 .0)) (opD (xbank .now) rd levels 10 st (memOf ysops ysps yscells ysedges ysacross yscmds ysstems))) (λ (lasts : (Unit {0} × (Unit {0} × (Unit {0} × (Unit {0} × (List Float × (List Float × (List Float × (List Float × (List Bool × (List ℕ × (List Stem × Unit {0})))))))))))). (fsep ftrue (fsep ftrue (fsep ftrue (fsep ftrue (fsep (fres γops ((Array f64 256) .coded .code (lasts .1 .1 .1 .1 .0))) (fsep (fres γps ((Array f64 256) .coded .code (lasts .1 .1 .1 .1 .1 .0))) (fsep (fres γcells ((Array f64 17) .coded .code (lasts .1 .1 .1 .1 .1 .1 .0))) (fsep (fres γedges ((Array f64 512) .coded .code (lasts .1 .1 .1 .1 .1 .1 .1 .0))) (fsep (fres γacross ((Array bool 256) .coded .code (lasts .1 .1 .1 .1 .1 .1 .1 .1 .0))) (fsep (fsep (finally u64 γcmds (lasts .1 .1 .1 .1 .1 .1 .1 .1 .1 .0)) (feq ℕ (length (lasts .1 .1 .1 .1 .1 .1 .1 .1 .1 .0)) (length yscmds))) (fsep (fsep (finally T.the-row γstems (lasts .1 .1 .1 .1 .1 .1 .1 .1 .1 .1 .0)) (feq ℕ (length (lasts .1 .1 .1 .1 .1 .1 .1 .1 .1 .1 .0)) (length ysstems))) ftrue)))))))))))) (‵ (flft κbank qbank) ⊛ (‵ (flft κops qops) ⊛ (‵ (flft κps qps) ⊛ (‵ (flft κcells qcells) ⊛ (‵ (flft κedges qedges) ⊛ (‵ (flft κacross qacross) ⊛ (‵ (flft κcmds qcmds) ⊛ (‵ (flft κstems qstems) ⊛ ‵ ftrue)))))))) w)))
+  pub call-body-as : (t : ℕ) → BelowCallBody 𝓤 H A mem run′ C t
+      → (κbank : Lft) (qbank : Share) (xbank : RefT (List ℕ)) (κops : Lft) (qops : Share) (bops oops : ℕ) (γops : GName) (ysops : List Float) (κps : Lft) (qps : Share) (bps ops : ℕ) (γps : GName) (ysps : List Float) (κcells : Lft) (qcells : Share) (bcells ocells : ℕ) (γcells : GName) (yscells : List Float) (κedges : Lft) (qedges : Share) (bedges oedges : ℕ) (γedges : GName)
+      (ysedges : List Float) (κacross : Lft) (qacross : Share) (bacross oacross : ℕ) (γacross : GName) (ysacross : List Bool) (κcmds : Lft) (qcmds : Share) (mcmds bcmds ocmds : ℕ) (γcmds : GName) (yscmds : List ℕ) (κstems : Lft) (qstems : Share) (mstems bstems ostems : ℕ) (γstems : GName) (ysstems : List Stem) (rd : Reading) (levels : ℕ) (st : St) → Is Y.the-row rd (machY rd ∷ []) → levels < 2 ^ 64 → Is S.the-row st (machS st ∷ []) → (levels < 100) × (Valid (xbank .now) × Ready st (memOf ysops ysps yscells ysedges ysacross yscmds ysstems)) → (levels + levels + levels) < t
+      → ent 𝓤 (mean 𝓤 H A ((‵ (flft κbank qbank) ⊛ ‵ (ShrSlice (named 0) κbank u8 .own xbank (sliceVal (xbank .ptr) (length (xbank .now)) ∷ []))) ⊛ ((‵ (flft κops qops) ⊛ ‵ (OwnR (Array f64 256) bops oops κops γops ysops)) ⊛ ((‵ (flft κps qps) ⊛ ‵ (OwnR (Array f64 256) bps ops κps γps ysps)) ⊛ ((‵ (flft κcells qcells) ⊛ ‵ (OwnR (Array f64 17) bcells ocells κcells γcells yscells))
+      ⊛ ((‵ (flft κedges qedges) ⊛ ‵ (OwnR (Array f64 512) bedges oedges κedges γedges ysedges)) ⊛ ((‵ (flft κacross qacross) ⊛ ‵ (OwnR (Array bool 256) bacross oacross κacross γacross ysacross)) ⊛ ((‵ (flft κcmds qcmds) ⊛ ‵ (Own u64 mcmds bcmds ocmds κcmds γcmds yscmds)) ⊛ (‵ (flft κstems qstems)
+      ⊛ ‵ (Own T.the-row mstems bstems ostems κstems γstems ysstems)))))))))) (C #type1·run·call-body (sliceVal (xbank .ptr) (length (xbank .now)) ∷ machY rd ∷ vint w64 levels ∷ machS st ∷ vptr bops oops ∷ vptr bps ops ∷ vptr bcells ocells ∷ vptr bedges oedges ∷ vptr bacross oacross ∷ sliceVal (bcmds, ocmds) mcmds ∷ sliceVal (bstems, ostems) mstems ∷ [])
+      (λ w. mean 𝓤 H A (GotAll 𝓤 N.the-row (Unit {0} × (Unit {0} × (Unit {0} × (Unit {0} × (List Float × (List Float × (List Float × (List Float × (List Bool × (List ℕ × (List Stem × Unit {0})))))))))))
+      (λ (r : N.the-row .Denot) (lasts : (Unit {0} × (Unit {0} × (Unit {0} × (Unit {0} × (List Float × (List Float × (List Float × (List Float × (List Bool × (List ℕ × (List Stem × Unit {0})))))))))))). MeetsFrom r (memOf (lasts .1 .1 .1 .1 .0) (lasts .1 .1 .1 .1 .1 .0) (lasts .1 .1 .1 .1 .1 .1 .0) (lasts .1 .1 .1 .1 .1 .1 .1 .0) (lasts .1 .1 .1 .1 .1 .1 .1 .1 .0) (lasts .1 .1 .1 .1 .1 .1 .1 .1 .1 .0) (lasts .1 .1 .1 .1 .1 .1 .1 .1 .1 .1 .0)) (opD (xbank .now) rd levels 10 st (memOf ysops ysps yscells ysedges ysacross yscmds ysstems)))
+      (λ (lasts : (Unit {0} × (Unit {0} × (Unit {0} × (Unit {0} × (List Float × (List Float × (List Float × (List Float × (List Bool × (List ℕ × (List Stem × Unit {0})))))))))))). (fsep ftrue (fsep ftrue (fsep ftrue (fsep ftrue (fsep (fres γops ((Array f64 256) .coded .code (lasts .1 .1 .1 .1 .0))) (fsep (fres γps ((Array f64 256) .coded .code (lasts .1 .1 .1 .1 .1 .0))) (fsep (fres γcells ((Array f64 17) .coded .code (lasts .1 .1 .1 .1 .1 .1 .0))) (fsep (fres γedges ((Array f64 512) .coded .code (lasts .1 .1 .1 .1 .1 .1 .1 .0))) (fsep (fres γacross ((Array bool 256) .coded .code (lasts .1 .1 .1 .1 .1 .1 .1 .1 .0))) (fsep (fsep (finally u64 γcmds (lasts .1 .1 .1 .1 .1 .1 .1 .1 .1 .0)) (feq ℕ (length (lasts .1 .1 .1 .1 .1 .1 .1 .1 .1 .0)) (length yscmds))) (fsep (fsep (finally T.the-row γstems (lasts .1 .1 .1 .1 .1 .1 .1 .1 .1 .1 .0)) (feq ℕ (length (lasts .1 .1 .1 .1 .1 .1 .1 .1 .1 .1 .0)) (length ysstems))) ftrue)))))))))))) (‵ (flft κbank qbank)
+      ⊛ (‵ (flft κops qops) ⊛ (‵ (flft κps qps) ⊛ (‵ (flft κcells qcells) ⊛ (‵ (flft κedges qedges) ⊛ (‵ (flft κacross qacross) ⊛ (‵ (flft κcmds qcmds) ⊛ (‵ (flft κstems qstems) ⊛ ‵ ftrue)))))))) w)))
   call-body-as t known κbank qbank xbank κops qops bops oops γops ysops κps qps bps ops γps ysps κcells qcells bcells ocells γcells yscells κedges qedges bedges oedges γedges ysedges κacross qacross bacross oacross γacross ysacross κcmds qcmds mcmds bcmds ocmds γcmds yscmds κstems qstems mstems bstems ostems γstems ysstems rd levels st rd-fits levels-fits st-fits need lt =
       let y : CallBodyC 𝓤 H A mem run′ .Ghost = (((κbank, (κops, (κps, (κcells, (κedges, (κacross, (κcmds, (κstems, tt)))))))), (qbank, (qops, (qps, (qcells, (qedges, (qacross, (qcmds, (qstems, tt)))))))), tt, (xbank, (rd, (levels, (st, (at-one (Array f64 256) bops oops γops ysops, (at-one (Array f64 256) bps ops γps ysps, (at-one (Array f64 17) bcells ocells γcells yscells, (at-one (Array f64 512) bedges oedges γedges ysedges, (at-one (Array bool 256) bacross oacross γacross ysacross, (at-list u64 mcmds bcmds ocmds γcmds yscmds, (at-list T.the-row mstems bstems ostems γstems ysstems, tt))))))))))), (sliceVal (xbank .ptr) (length (xbank .now)) ∷ [], (machY rd ∷ [], (vint w64 levels ∷ [], (machS st ∷ [], (vptr bops oops ∷ [], (vptr bps ops ∷ [], (vptr bcells ocells ∷ [], (vptr bedges oedges ∷ [], (vptr bacross oacross ∷ [], (sliceVal (bcmds, ocmds) mcmds ∷ [], (sliceVal (bstems, ostems) mstems ∷ [], tt)))))))))))), tt) in
-      via 𝓤 (CallBodyC 𝓤 H A mem run′ .pre y) (qed W (((‵ (flft κbank qbank) ⊛ ‵ (ShrSlice (named 0) κbank u8 .own xbank (sliceVal (xbank .ptr) (length (xbank .now)) ∷ []))) ⊛ ((‵ (flft κops qops) ⊛ ‵ (OwnR (Array f64 256) bops oops κops γops ysops)) ⊛ ((‵ (flft κps qps) ⊛ ‵ (OwnR (Array f64 256) bps ops κps γps ysps)) ⊛ ((‵ (flft κcells qcells) ⊛ ‵ (OwnR (Array f64 17) bcells ocells κcells γcells yscells)) ⊛ ((‵ (flft κedges qedges) ⊛ ‵ (OwnR (Array f64 512) bedges oedges κedges γedges ysedges)) ⊛ ((‵ (flft κacross qacross) ⊛ ‵ (OwnR (Array bool 256) bacross oacross κacross γacross ysacross)) ⊛ ((‵ (flft κcmds qcmds) ⊛ ‵ (Own u64 mcmds bcmds ocmds κcmds γcmds yscmds)) ⊛ (‵ (flft κstems qstems) ⊛ ‵ (Own T.the-row mstems bstems ostems κstems γstems ysstems))))))))) ∷ []) ∵ says ! need $ split ! $ move ! (1 ∷ []) $ split ! $ move ! (1 ∷ []) $ split ! $ move ! (1 ∷ []) $ split ! $ move ! (1 ∷ []) $ split ! $ move ! (1 ∷ []) $ split ! $ move ! (1 ∷ []) $ split ! $ move ! (7 ∷ []) $ split ! $ move ! (8 ∷ []) $ split ! $ move ! (9 ∷ []) $ split ! $ move ! (10 ∷ []) $ split ! $ move ! (11 ∷ []) $ split ! $ move ! (12 ∷ []) $ split ! $ move ! (12 ∷ []) $ split ! $ move ! (14 ∷ []) $ split ! $ nothing ! $ move ! (2 ∷ 0 ∷ []) $ fjoin ! $ move ! (3 ∷ 0 ∷ []) $ fjoin ! $ move ! (4 ∷ 0 ∷ []) $ fjoin ! $ move ! (5 ∷ 0 ∷ []) $ fjoin ! $ move ! (6 ∷ 0 ∷ []) $ fjoin ! $ move ! (7 ∷ 0 ∷ []) $ fjoin ! $ move ! (8 ∷ 0 ∷ []) $ fjoin ! $ owned ! S.the-row (Is S.the-row) (LL.makes S.the-type S′.the-plain 𝓤 H A) st _ st-fits $ fjoin ! $ owned ! usize (Is usize) (uint-makes 𝓤 H A W w64) levels _ (refl, levels-fits) $ fjoin ! $ owned ! Y.the-row (Is Y.the-row) (LL.makes Y.the-type Y′.the-plain 𝓤 H A) rd _ rd-fits $ fjoin ! $ move ! (9 ∷ 0 ∷ []) $ fjoin ! $ nothing ! $ move ! (2 ∷ 0 ∷ []) $ join ! $ move ! (2 ∷ 0 ∷ []) $ join ! $ move ! (2 ∷ 0 ∷ []) $ join ! $ move ! (2 ∷ 0 ∷ []) $ join ! $ move ! (2 ∷ 0 ∷ []) $ join ! $ move ! (2 ∷ 0 ∷ []) $ join ! $ move ! (2 ∷ 0 ∷ []) $ join ! $ move ! (2 ∷ 0 ∷ []) $ join ! $ frame ! $ done !) (known y lt)
+      via 𝓤 (CallBodyC 𝓤 H A mem run′ .pre y) (qed W (((‵ (flft κbank qbank) ⊛ ‵ (ShrSlice (named 0) κbank u8 .own xbank (sliceVal (xbank .ptr) (length (xbank .now)) ∷ []))) ⊛ ((‵ (flft κops qops) ⊛ ‵ (OwnR (Array f64 256) bops oops κops γops ysops)) ⊛ ((‵ (flft κps qps) ⊛ ‵ (OwnR (Array f64 256) bps ops κps γps ysps)) ⊛ ((‵ (flft κcells qcells)
+      ⊛ ‵ (OwnR (Array f64 17) bcells ocells κcells γcells yscells)) ⊛ ((‵ (flft κedges qedges) ⊛ ‵ (OwnR (Array f64 512) bedges oedges κedges γedges ysedges)) ⊛ ((‵ (flft κacross qacross) ⊛ ‵ (OwnR (Array bool 256) bacross oacross κacross γacross ysacross)) ⊛ ((‵ (flft κcmds qcmds) ⊛ ‵ (Own u64 mcmds bcmds ocmds κcmds γcmds yscmds)) ⊛ (‵ (flft κstems qstems)
+      ⊛ ‵ (Own T.the-row mstems bstems ostems κstems γstems ysstems))))))))) ∷ []) ∵ says ! need $ split ! $ move ! (1 ∷ []) $ split ! $ move ! (1 ∷ []) $ split ! $ move ! (1 ∷ []) $ split ! $ move ! (1 ∷ []) $ split ! $ move ! (1 ∷ []) $ split ! $ move ! (1 ∷ []) $ split ! $ move ! (7 ∷ []) $ split ! $ move ! (8 ∷ []) $ split ! $ move ! (9 ∷ []) $ split ! $ move ! (10 ∷ []) $ split ! $
+      move ! (11 ∷ []) $ split ! $ move ! (12 ∷ []) $ split ! $ move ! (12 ∷ []) $ split ! $ move ! (14 ∷ []) $ split ! $ nothing ! $ move ! (2 ∷ 0 ∷ []) $ fjoin ! $ move ! (3 ∷ 0 ∷ []) $ fjoin ! $ move ! (4 ∷ 0 ∷ []) $ fjoin ! $ move ! (5 ∷ 0 ∷ []) $ fjoin ! $ move ! (6 ∷ 0 ∷ []) $ fjoin ! $ move ! (7 ∷ 0 ∷ []) $ fjoin ! $ move ! (8 ∷ 0 ∷ []) $ fjoin ! $
+      owned ! S.the-row (Is S.the-row) (LL.makes S.the-type S′.the-plain 𝓤 H A) st _ st-fits $ fjoin ! $ owned ! usize (Is usize) (uint-makes 𝓤 H A W w64) levels _ (refl, levels-fits) $ fjoin ! $ owned ! Y.the-row (Is Y.the-row) (LL.makes Y.the-type Y′.the-plain 𝓤 H A) rd _ rd-fits $ fjoin ! $ move ! (9 ∷ 0 ∷ []) $ fjoin ! $ nothing ! $ move ! (2 ∷ 0 ∷ []) $ join ! $ move ! (2 ∷ 0 ∷ []) $ join ! $
+      move ! (2 ∷ 0 ∷ []) $ join ! $ move ! (2 ∷ 0 ∷ []) $ join ! $ move ! (2 ∷ 0 ∷ []) $ join ! $ move ! (2 ∷ 0 ∷ []) $ join ! $ move ! (2 ∷ 0 ∷ []) $ join ! $ move ! (2 ∷ 0 ∷ []) $ join ! $ frame ! $ done !) (known y lt)
 
-  pub op-as : (t : ℕ) → BelowOp 𝓤 H A mem run′ C t → (κbank : Lft) (qbank : Share) (xbank : RefT (List ℕ)) (κops : Lft) (qops : Share) (bops oops : ℕ) (γops : GName) (ysops : List Float) (κps : Lft) (qps : Share) (bps ops : ℕ) (γps : GName) (ysps : List Float) (κcells : Lft) (qcells : Share) (bcells ocells : ℕ) (γcells : GName) (yscells : List Float) (κedges : Lft) (qedges : Share) (bedges oedges : ℕ) (γedges : GName) (ysedges : List Float) (κacross : Lft) (qacross : Share) (bacross oacross : ℕ) (γacross : GName) (ysacross : List Bool) (κcmds : Lft) (qcmds : Share) (mcmds bcmds ocmds : ℕ) (γcmds : GName) (yscmds : List ℕ) (κstems : Lft) (qstems : Share) (mstems bstems ostems : ℕ) (γstems : GName) (ysstems : List Stem) (o : ℕ) (rd : Reading) (levels : ℕ) (st : St) → o < 2 ^ 16 → Is Y.the-row rd (machY rd ∷ []) → levels < 2 ^ 64 → Is S.the-row st (machS st ∷ []) → (levels < 100) × (Valid (xbank .now) × Ready st (memOf ysops ysps yscells ysedges ysacross yscmds ysstems)) → (levels + levels + levels + 1) < t
-      → ent 𝓤 (mean 𝓤 H A ((‵ (flft κbank qbank) ⊛ ‵ (ShrSlice (named 0) κbank u8 .own xbank (sliceVal (xbank .ptr) (length (xbank .now)) ∷ []))) ⊛ ((‵ (flft κops qops) ⊛ ‵ (OwnR (Array f64 256) bops oops κops γops ysops)) ⊛ ((‵ (flft κps qps) ⊛ ‵ (OwnR (Array f64 256) bps ops κps γps ysps)) ⊛ ((‵ (flft κcells qcells) ⊛ ‵ (OwnR (Array f64 17) bcells ocells κcells γcells yscells)) ⊛ ((‵ (flft κedges qedges) ⊛ ‵ (OwnR (Array f64 512) bedges oedges κedges γedges ysedges)) ⊛ ((‵ (flft κacross qacross) ⊛ ‵ (OwnR (Array bool 256) bacross oacross κacross γacross ysacross)) ⊛ ((‵ (flft κcmds qcmds) ⊛ ‵ (Own u64 mcmds bcmds ocmds κcmds γcmds yscmds)) ⊛ (‵ (flft κstems qstems) ⊛ ‵ (Own T.the-row mstems bstems ostems κstems γstems ysstems)))))))))) (C #type1·run·op (vint w16 o ∷ sliceVal (xbank .ptr) (length (xbank .now)) ∷ machY rd ∷ vint w64 levels ∷ machS st ∷ vptr bops oops ∷ vptr bps ops ∷ vptr bcells ocells ∷ vptr bedges oedges ∷ vptr bacross oacross ∷ sliceVal (bcmds, ocmds) mcmds ∷ sliceVal (bstems, ostems) mstems ∷ []) (λ w. mean 𝓤 H A (GotAll 𝓤 N.the-row (Unit {0} × (Unit {0} × (Unit {0} × (Unit {0} × (Unit {0} × (List Float × (List Float × (List Float × (List Float × (List Bool × (List ℕ × (List Stem × Unit {0})))))))))))) (λ (r : N.the-row .Denot) (lasts : (Unit {0} × (Unit {0} × (Unit {0} × (Unit {0} × (Unit {0} × (List Float × (List Float × (List Float × (List Float × (List Bool × (List ℕ × (List Stem × Unit {0}))))))))))))). MeetsFrom r (memOf (lasts .1 .1 .1 .1 .1 .0) (lasts .1 .1 .1 .1 .1 .1 .0) (lasts .1 .1 .1 .1 .1 .1 .1 .0) (lasts .1 .1 .1 .1 .1 .1 .1 .1 .0) (lasts .1 .1 .1 .1 .1 .1 .1 .1 .1 .0) (lasts .1 .1 .1 .1 .1 .1 .1 .1 .1 .1 .0) (lasts .1 .1 .1 .1 .1 .1 .1 .1 .1 .1 .1 .0)) (opD (xbank .now) rd levels o st (memOf ysops ysps yscells ysedges ysacross yscmds ysstems))) (λ (lasts : (Unit {0} × (Unit {0} × (Unit {0} × (Unit {0} × (Unit {0} × (List Float × (List Float × (List Float × (List Float × (List Bool × (List ℕ × (List Stem × Unit {0}))))))))))))). (fsep ftrue (fsep ftrue (fsep ftrue (fsep ftrue (fsep ftrue (fsep (fres γops ((Array f64 256) .coded .code (lasts .1 .1 .1 .1 .1 .0))) (fsep (fres γps ((Array f64 256) .coded .code (lasts .1 .1 .1 .1 .1 .1 .0))) (fsep (fres γcells ((Array f64 17) .coded .code (lasts .1 .1 .1 .1 .1 .1 .1 .0))) (fsep (fres γedges ((Array f64 512) .coded .code (lasts .1 .1 .1 .1 .1 .1 .1 .1 .0))) (fsep (fres γacross ((Array bool 256) .coded .code (lasts .1 .1 .1 .1 .1 .1 .1 .1 .1 .0))) (fsep (fsep (finally u64 γcmds (lasts .1 .1 .1 .1 .1 .1 .1 .1 .1 .1 .0)) (feq ℕ (length (lasts .1 .1 .1 .1 .1 .1 .1 .1 .1 .1 .0)) (length yscmds))) (fsep (fsep (finally T.the-row γstems (lasts .1 .1 .1 .1 .1 .1 .1 .1 .1 .1 .1 .0)) (feq ℕ (length (lasts .1 .1 .1 .1 .1 .1 .1 .1 .1 .1 .1 .0)) (length ysstems))) ftrue))))))))))))) (‵ (flft κbank qbank) ⊛ (‵ (flft κops qops) ⊛ (‵ (flft κps qps) ⊛ (‵ (flft κcells qcells) ⊛ (‵ (flft κedges qedges) ⊛ (‵ (flft κacross qacross) ⊛ (‵ (flft κcmds qcmds) ⊛ (‵ (flft κstems qstems) ⊛ ‵ ftrue)))))))) w)))
+  pub op-as : (t : ℕ) → BelowOp 𝓤 H A mem run′ C t → (κbank : Lft) (qbank : Share) (xbank : RefT (List ℕ)) (κops : Lft) (qops : Share) (bops oops : ℕ) (γops : GName) (ysops : List Float) (κps : Lft) (qps : Share) (bps ops : ℕ) (γps : GName) (ysps : List Float) (κcells : Lft) (qcells : Share) (bcells ocells : ℕ) (γcells : GName)
+      (yscells : List Float) (κedges : Lft) (qedges : Share) (bedges oedges : ℕ) (γedges : GName) (ysedges : List Float) (κacross : Lft) (qacross : Share) (bacross oacross : ℕ) (γacross : GName) (ysacross : List Bool) (κcmds : Lft) (qcmds : Share) (mcmds bcmds ocmds : ℕ) (γcmds : GName) (yscmds : List ℕ) (κstems : Lft) (qstems : Share) (mstems bstems ostems : ℕ) (γstems : GName)
+      (ysstems : List Stem) (o : ℕ) (rd : Reading) (levels : ℕ) (st : St) → o < 2 ^ 16 → Is Y.the-row rd (machY rd ∷ []) → levels < 2 ^ 64 → Is S.the-row st (machS st ∷ []) → (levels < 100) × (Valid (xbank .now) × Ready st (memOf ysops ysps yscells ysedges ysacross yscmds ysstems)) → (levels + levels + levels + 1) < t
+      → ent 𝓤 (mean 𝓤 H A ((‵ (flft κbank qbank) ⊛ ‵ (ShrSlice (named 0) κbank u8 .own xbank (sliceVal (xbank .ptr) (length (xbank .now)) ∷ []))) ⊛ ((‵ (flft κops qops) ⊛ ‵ (OwnR (Array f64 256) bops oops κops γops ysops)) ⊛ ((‵ (flft κps qps) ⊛ ‵ (OwnR (Array f64 256) bps ops κps γps ysps)) ⊛ ((‵ (flft κcells qcells) ⊛ ‵ (OwnR (Array f64 17) bcells ocells κcells γcells yscells))
+      ⊛ ((‵ (flft κedges qedges) ⊛ ‵ (OwnR (Array f64 512) bedges oedges κedges γedges ysedges)) ⊛ ((‵ (flft κacross qacross) ⊛ ‵ (OwnR (Array bool 256) bacross oacross κacross γacross ysacross)) ⊛ ((‵ (flft κcmds qcmds) ⊛ ‵ (Own u64 mcmds bcmds ocmds κcmds γcmds yscmds)) ⊛ (‵ (flft κstems qstems)
+      ⊛ ‵ (Own T.the-row mstems bstems ostems κstems γstems ysstems)))))))))) (C #type1·run·op (vint w16 o ∷ sliceVal (xbank .ptr) (length (xbank .now)) ∷ machY rd ∷ vint w64 levels ∷ machS st ∷ vptr bops oops ∷ vptr bps ops ∷ vptr bcells ocells ∷ vptr bedges oedges ∷ vptr bacross oacross ∷ sliceVal (bcmds, ocmds) mcmds ∷ sliceVal (bstems, ostems) mstems ∷ [])
+      (λ w. mean 𝓤 H A (GotAll 𝓤 N.the-row (Unit {0} × (Unit {0} × (Unit {0} × (Unit {0} × (Unit {0} × (List Float × (List Float × (List Float × (List Float × (List Bool × (List ℕ × (List Stem × Unit {0}))))))))))))
+      (λ (r : N.the-row .Denot) (lasts : (Unit {0} × (Unit {0} × (Unit {0} × (Unit {0} × (Unit {0} × (List Float × (List Float × (List Float × (List Float × (List Bool × (List ℕ × (List Stem × Unit {0}))))))))))))). MeetsFrom r (memOf (lasts .1 .1 .1 .1 .1 .0) (lasts .1 .1 .1 .1 .1 .1 .0) (lasts .1 .1 .1 .1 .1 .1 .1 .0) (lasts .1 .1 .1 .1 .1 .1 .1 .1 .0) (lasts .1 .1 .1 .1 .1 .1 .1 .1 .1 .0) (lasts .1 .1 .1 .1 .1 .1 .1 .1 .1 .1 .0) (lasts .1 .1 .1 .1 .1 .1 .1 .1 .1 .1 .1 .0)) (opD (xbank .now) rd levels o st (memOf ysops ysps yscells ysedges ysacross yscmds ysstems)))
+      (λ (lasts : (Unit {0} × (Unit {0} × (Unit {0} × (Unit {0} × (Unit {0} × (List Float × (List Float × (List Float × (List Float × (List Bool × (List ℕ × (List Stem × Unit {0}))))))))))))). (fsep ftrue (fsep ftrue (fsep ftrue (fsep ftrue (fsep ftrue (fsep (fres γops ((Array f64 256) .coded .code (lasts .1 .1 .1 .1 .1 .0))) (fsep (fres γps ((Array f64 256) .coded .code (lasts .1 .1 .1 .1 .1 .1 .0)))
+      (fsep (fres γcells ((Array f64 17) .coded .code (lasts .1 .1 .1 .1 .1 .1 .1 .0))) (fsep (fres γedges ((Array f64 512) .coded .code (lasts .1 .1 .1 .1 .1 .1 .1 .1 .0))) (fsep (fres γacross ((Array bool 256) .coded .code (lasts .1 .1 .1 .1 .1 .1 .1 .1 .1 .0))) (fsep (fsep (finally u64 γcmds (lasts .1 .1 .1 .1 .1 .1 .1 .1 .1 .1 .0)) (feq ℕ (length (lasts .1 .1 .1 .1 .1 .1 .1 .1 .1 .1 .0))
+      (length yscmds))) (fsep (fsep (finally T.the-row γstems (lasts .1 .1 .1 .1 .1 .1 .1 .1 .1 .1 .1 .0)) (feq ℕ (length (lasts .1 .1 .1 .1 .1 .1 .1 .1 .1 .1 .1 .0)) (length ysstems))) ftrue))))))))))))) (‵ (flft κbank qbank)
+      ⊛ (‵ (flft κops qops) ⊛ (‵ (flft κps qps) ⊛ (‵ (flft κcells qcells) ⊛ (‵ (flft κedges qedges) ⊛ (‵ (flft κacross qacross) ⊛ (‵ (flft κcmds qcmds) ⊛ (‵ (flft κstems qstems) ⊛ ‵ ftrue)))))))) w)))
   op-as t known κbank qbank xbank κops qops bops oops γops ysops κps qps bps ops γps ysps κcells qcells bcells ocells γcells yscells κedges qedges bedges oedges γedges ysedges κacross qacross bacross oacross γacross ysacross κcmds qcmds mcmds bcmds ocmds γcmds yscmds κstems qstems mstems bstems ostems γstems ysstems o rd levels st o-fits rd-fits levels-fits st-fits need lt =
       let y : OpC 𝓤 H A mem run′ .Ghost = (((κbank, (κops, (κps, (κcells, (κedges, (κacross, (κcmds, (κstems, tt)))))))), (qbank, (qops, (qps, (qcells, (qedges, (qacross, (qcmds, (qstems, tt)))))))), tt, (o, (xbank, (rd, (levels, (st, (at-one (Array f64 256) bops oops γops ysops, (at-one (Array f64 256) bps ops γps ysps, (at-one (Array f64 17) bcells ocells γcells yscells, (at-one (Array f64 512) bedges oedges γedges ysedges, (at-one (Array bool 256) bacross oacross γacross ysacross, (at-list u64 mcmds bcmds ocmds γcmds yscmds, (at-list T.the-row mstems bstems ostems γstems ysstems, tt)))))))))))), (vint w16 o ∷ [], (sliceVal (xbank .ptr) (length (xbank .now)) ∷ [], (machY rd ∷ [], (vint w64 levels ∷ [], (machS st ∷ [], (vptr bops oops ∷ [], (vptr bps ops ∷ [], (vptr bcells ocells ∷ [], (vptr bedges oedges ∷ [], (vptr bacross oacross ∷ [], (sliceVal (bcmds, ocmds) mcmds ∷ [], (sliceVal (bstems, ostems) mstems ∷ [], tt))))))))))))), tt) in
-      via 𝓤 (OpC 𝓤 H A mem run′ .pre y) (qed W (((‵ (flft κbank qbank) ⊛ ‵ (ShrSlice (named 0) κbank u8 .own xbank (sliceVal (xbank .ptr) (length (xbank .now)) ∷ []))) ⊛ ((‵ (flft κops qops) ⊛ ‵ (OwnR (Array f64 256) bops oops κops γops ysops)) ⊛ ((‵ (flft κps qps) ⊛ ‵ (OwnR (Array f64 256) bps ops κps γps ysps)) ⊛ ((‵ (flft κcells qcells) ⊛ ‵ (OwnR (Array f64 17) bcells ocells κcells γcells yscells)) ⊛ ((‵ (flft κedges qedges) ⊛ ‵ (OwnR (Array f64 512) bedges oedges κedges γedges ysedges)) ⊛ ((‵ (flft κacross qacross) ⊛ ‵ (OwnR (Array bool 256) bacross oacross κacross γacross ysacross)) ⊛ ((‵ (flft κcmds qcmds) ⊛ ‵ (Own u64 mcmds bcmds ocmds κcmds γcmds yscmds)) ⊛ (‵ (flft κstems qstems) ⊛ ‵ (Own T.the-row mstems bstems ostems κstems γstems ysstems))))))))) ∷ []) ∵ says ! need $ split ! $ move ! (1 ∷ []) $ split ! $ move ! (1 ∷ []) $ split ! $ move ! (1 ∷ []) $ split ! $ move ! (1 ∷ []) $ split ! $ move ! (1 ∷ []) $ split ! $ move ! (1 ∷ []) $ split ! $ move ! (7 ∷ []) $ split ! $ move ! (8 ∷ []) $ split ! $ move ! (9 ∷ []) $ split ! $ move ! (10 ∷ []) $ split ! $ move ! (11 ∷ []) $ split ! $ move ! (12 ∷ []) $ split ! $ move ! (12 ∷ []) $ split ! $ move ! (14 ∷ []) $ split ! $ nothing ! $ move ! (2 ∷ 0 ∷ []) $ fjoin ! $ move ! (3 ∷ 0 ∷ []) $ fjoin ! $ move ! (4 ∷ 0 ∷ []) $ fjoin ! $ move ! (5 ∷ 0 ∷ []) $ fjoin ! $ move ! (6 ∷ 0 ∷ []) $ fjoin ! $ move ! (7 ∷ 0 ∷ []) $ fjoin ! $ move ! (8 ∷ 0 ∷ []) $ fjoin ! $ owned ! S.the-row (Is S.the-row) (LL.makes S.the-type S′.the-plain 𝓤 H A) st _ st-fits $ fjoin ! $ owned ! usize (Is usize) (uint-makes 𝓤 H A W w64) levels _ (refl, levels-fits) $ fjoin ! $ owned ! Y.the-row (Is Y.the-row) (LL.makes Y.the-type Y′.the-plain 𝓤 H A) rd _ rd-fits $ fjoin ! $ move ! (9 ∷ 0 ∷ []) $ fjoin ! $ owned ! u16 (Is u16) (uint-makes 𝓤 H A W w16) o _ (refl, o-fits) $ fjoin ! $ nothing ! $ move ! (2 ∷ 0 ∷ []) $ join ! $ move ! (2 ∷ 0 ∷ []) $ join ! $ move ! (2 ∷ 0 ∷ []) $ join ! $ move ! (2 ∷ 0 ∷ []) $ join ! $ move ! (2 ∷ 0 ∷ []) $ join ! $ move ! (2 ∷ 0 ∷ []) $ join ! $ move ! (2 ∷ 0 ∷ []) $ join ! $ move ! (2 ∷ 0 ∷ []) $ join ! $ frame ! $ done !) (known y lt)
+      via 𝓤 (OpC 𝓤 H A mem run′ .pre y) (qed W (((‵ (flft κbank qbank) ⊛ ‵ (ShrSlice (named 0) κbank u8 .own xbank (sliceVal (xbank .ptr) (length (xbank .now)) ∷ []))) ⊛ ((‵ (flft κops qops) ⊛ ‵ (OwnR (Array f64 256) bops oops κops γops ysops)) ⊛ ((‵ (flft κps qps) ⊛ ‵ (OwnR (Array f64 256) bps ops κps γps ysps)) ⊛ ((‵ (flft κcells qcells) ⊛ ‵ (OwnR (Array f64 17) bcells ocells κcells γcells yscells))
+      ⊛ ((‵ (flft κedges qedges) ⊛ ‵ (OwnR (Array f64 512) bedges oedges κedges γedges ysedges)) ⊛ ((‵ (flft κacross qacross) ⊛ ‵ (OwnR (Array bool 256) bacross oacross κacross γacross ysacross)) ⊛ ((‵ (flft κcmds qcmds) ⊛ ‵ (Own u64 mcmds bcmds ocmds κcmds γcmds yscmds)) ⊛ (‵ (flft κstems qstems) ⊛ ‵ (Own T.the-row mstems bstems ostems κstems γstems ysstems))))))))) ∷ []) ∵ says ! need $ split ! $
+      move ! (1 ∷ []) $ split ! $ move ! (1 ∷ []) $ split ! $ move ! (1 ∷ []) $ split ! $ move ! (1 ∷ []) $ split ! $ move ! (1 ∷ []) $ split ! $ move ! (1 ∷ []) $ split ! $ move ! (7 ∷ []) $ split ! $ move ! (8 ∷ []) $ split ! $ move ! (9 ∷ []) $ split ! $ move ! (10 ∷ []) $ split ! $ move ! (11 ∷ []) $ split ! $ move ! (12 ∷ []) $ split ! $ move ! (12 ∷ []) $ split ! $ move ! (14 ∷ []) $ split ! $
+      nothing ! $ move ! (2 ∷ 0 ∷ []) $ fjoin ! $ move ! (3 ∷ 0 ∷ []) $ fjoin ! $ move ! (4 ∷ 0 ∷ []) $ fjoin ! $ move ! (5 ∷ 0 ∷ []) $ fjoin ! $ move ! (6 ∷ 0 ∷ []) $ fjoin ! $ move ! (7 ∷ 0 ∷ []) $ fjoin ! $ move ! (8 ∷ 0 ∷ []) $ fjoin ! $ owned ! S.the-row (Is S.the-row) (LL.makes S.the-type S′.the-plain 𝓤 H A) st _ st-fits $ fjoin ! $
+      owned ! usize (Is usize) (uint-makes 𝓤 H A W w64) levels _ (refl, levels-fits) $ fjoin ! $ owned ! Y.the-row (Is Y.the-row) (LL.makes Y.the-type Y′.the-plain 𝓤 H A) rd _ rd-fits $ fjoin ! $ move ! (9 ∷ 0 ∷ []) $ fjoin ! $ owned ! u16 (Is u16) (uint-makes 𝓤 H A W w16) o _ (refl, o-fits) $ fjoin ! $ nothing ! $ move ! (2 ∷ 0 ∷ []) $ join ! $ move ! (2 ∷ 0 ∷ []) $ join ! $ move ! (2 ∷ 0 ∷ []) $ join ! $ move ! (2 ∷ 0 ∷ []) $ join ! $ move ! (2 ∷ 0 ∷ []) $ join ! $ move ! (2 ∷ 0 ∷ []) $ join ! $ move ! (2 ∷ 0 ∷ []) $ join ! $ move ! (2 ∷ 0 ∷ []) $ join ! $ frame ! $ done !) (known y lt)
 
-  pub run-as : (t : ℕ) → BelowRun 𝓤 H A mem run′ C t → (κcode : Lft) (qcode : Share) (xcode : RefT (List ℕ)) (κbank : Lft) (qbank : Share) (xbank : RefT (List ℕ)) (κops : Lft) (qops : Share) (bops oops : ℕ) (γops : GName) (ysops : List Float) (κps : Lft) (qps : Share) (bps ops : ℕ) (γps : GName) (ysps : List Float) (κcells : Lft) (qcells : Share) (bcells ocells : ℕ) (γcells : GName) (yscells : List Float) (κedges : Lft) (qedges : Share) (bedges oedges : ℕ) (γedges : GName) (ysedges : List Float) (κacross : Lft) (qacross : Share) (bacross oacross : ℕ) (γacross : GName) (ysacross : List Bool) (κcmds : Lft) (qcmds : Share) (mcmds bcmds ocmds : ℕ) (γcmds : GName) (yscmds : List ℕ) (κstems : Lft) (qstems : Share) (mstems bstems ostems : ℕ) (γstems : GName) (ysstems : List Stem) (rd : Reading) (levels : ℕ) (st : St) → Is Y.the-row rd (machY rd ∷ []) → levels < 2 ^ 64 → Is S.the-row st (machS st ∷ []) → (levels < 100) × (Valid (xbank .now) × Ready st (memOf ysops ysps yscells ysedges ysacross yscmds ysstems)) → (levels + levels + levels + 2) < t
-      → ent 𝓤 (mean 𝓤 H A ((‵ (flft κcode qcode) ⊛ ‵ (ShrSlice (named 0) κcode u8 .own xcode (sliceVal (xcode .ptr) (length (xcode .now)) ∷ []))) ⊛ ((‵ (flft κbank qbank) ⊛ ‵ (ShrSlice (named 0) κbank u8 .own xbank (sliceVal (xbank .ptr) (length (xbank .now)) ∷ []))) ⊛ ((‵ (flft κops qops) ⊛ ‵ (OwnR (Array f64 256) bops oops κops γops ysops)) ⊛ ((‵ (flft κps qps) ⊛ ‵ (OwnR (Array f64 256) bps ops κps γps ysps)) ⊛ ((‵ (flft κcells qcells) ⊛ ‵ (OwnR (Array f64 17) bcells ocells κcells γcells yscells)) ⊛ ((‵ (flft κedges qedges) ⊛ ‵ (OwnR (Array f64 512) bedges oedges κedges γedges ysedges)) ⊛ ((‵ (flft κacross qacross) ⊛ ‵ (OwnR (Array bool 256) bacross oacross κacross γacross ysacross)) ⊛ ((‵ (flft κcmds qcmds) ⊛ ‵ (Own u64 mcmds bcmds ocmds κcmds γcmds yscmds)) ⊛ (‵ (flft κstems qstems) ⊛ ‵ (Own T.the-row mstems bstems ostems κstems γstems ysstems))))))))))) (C #type1·run·run (sliceVal (xcode .ptr) (length (xcode .now)) ∷ sliceVal (xbank .ptr) (length (xbank .now)) ∷ machY rd ∷ vint w64 levels ∷ machS st ∷ vptr bops oops ∷ vptr bps ops ∷ vptr bcells ocells ∷ vptr bedges oedges ∷ vptr bacross oacross ∷ sliceVal (bcmds, ocmds) mcmds ∷ sliceVal (bstems, ostems) mstems ∷ []) (λ w. mean 𝓤 H A (GotAll 𝓤 N.the-row (Unit {0} × (Unit {0} × (Unit {0} × (Unit {0} × (Unit {0} × (List Float × (List Float × (List Float × (List Float × (List Bool × (List ℕ × (List Stem × Unit {0})))))))))))) (λ (r : N.the-row .Denot) (lasts : (Unit {0} × (Unit {0} × (Unit {0} × (Unit {0} × (Unit {0} × (List Float × (List Float × (List Float × (List Float × (List Bool × (List ℕ × (List Stem × Unit {0}))))))))))))). MeetsFrom r (memOf (lasts .1 .1 .1 .1 .1 .0) (lasts .1 .1 .1 .1 .1 .1 .0) (lasts .1 .1 .1 .1 .1 .1 .1 .0) (lasts .1 .1 .1 .1 .1 .1 .1 .1 .0) (lasts .1 .1 .1 .1 .1 .1 .1 .1 .1 .0) (lasts .1 .1 .1 .1 .1 .1 .1 .1 .1 .1 .0) (lasts .1 .1 .1 .1 .1 .1 .1 .1 .1 .1 .1 .0)) (runD (xbank .now) rd levels (xcode .now) st (memOf ysops ysps yscells ysedges ysacross yscmds ysstems))) (λ (lasts : (Unit {0} × (Unit {0} × (Unit {0} × (Unit {0} × (Unit {0} × (List Float × (List Float × (List Float × (List Float × (List Bool × (List ℕ × (List Stem × Unit {0}))))))))))))). (fsep ftrue (fsep ftrue (fsep ftrue (fsep ftrue (fsep ftrue (fsep (fres γops ((Array f64 256) .coded .code (lasts .1 .1 .1 .1 .1 .0))) (fsep (fres γps ((Array f64 256) .coded .code (lasts .1 .1 .1 .1 .1 .1 .0))) (fsep (fres γcells ((Array f64 17) .coded .code (lasts .1 .1 .1 .1 .1 .1 .1 .0))) (fsep (fres γedges ((Array f64 512) .coded .code (lasts .1 .1 .1 .1 .1 .1 .1 .1 .0))) (fsep (fres γacross ((Array bool 256) .coded .code (lasts .1 .1 .1 .1 .1 .1 .1 .1 .1 .0))) (fsep (fsep (finally u64 γcmds (lasts .1 .1 .1 .1 .1 .1 .1 .1 .1 .1 .0)) (feq ℕ (length (lasts .1 .1 .1 .1 .1 .1 .1 .1 .1 .1 .0)) (length yscmds))) (fsep (fsep (finally T.the-row γstems (lasts .1 .1 .1 .1 .1 .1 .1 .1 .1 .1 .1 .0)) (feq ℕ (length (lasts .1 .1 .1 .1 .1 .1 .1 .1 .1 .1 .1 .0)) (length ysstems))) ftrue))))))))))))) (‵ (flft κcode qcode) ⊛ (‵ (flft κbank qbank) ⊛ (‵ (flft κops qops) ⊛ (‵ (flft κps qps) ⊛ (‵ (flft κcells qcells) ⊛ (‵ (flft κedges qedges) ⊛ (‵ (flft κacross qacross) ⊛ (‵ (flft κcmds qcmds) ⊛ (‵ (flft κstems qstems) ⊛ ‵ ftrue))))))))) w)))
+  pub run-as : (t : ℕ) → BelowRun 𝓤 H A mem run′ C t → (κcode : Lft) (qcode : Share) (xcode : RefT (List ℕ)) (κbank : Lft) (qbank : Share) (xbank : RefT (List ℕ)) (κops : Lft) (qops : Share) (bops oops : ℕ) (γops : GName) (ysops : List Float) (κps : Lft) (qps : Share) (bps ops : ℕ) (γps : GName) (ysps : List Float) (κcells : Lft) (qcells : Share) (bcells ocells : ℕ) (γcells : GName)
+      (yscells : List Float) (κedges : Lft) (qedges : Share) (bedges oedges : ℕ) (γedges : GName) (ysedges : List Float) (κacross : Lft) (qacross : Share) (bacross oacross : ℕ) (γacross : GName) (ysacross : List Bool) (κcmds : Lft) (qcmds : Share) (mcmds bcmds ocmds : ℕ) (γcmds : GName) (yscmds : List ℕ) (κstems : Lft) (qstems : Share) (mstems bstems ostems : ℕ) (γstems : GName)
+      (ysstems : List Stem) (rd : Reading) (levels : ℕ) (st : St) → Is Y.the-row rd (machY rd ∷ []) → levels < 2 ^ 64 → Is S.the-row st (machS st ∷ []) → (levels < 100) × (Valid (xbank .now) × Ready st (memOf ysops ysps yscells ysedges ysacross yscmds ysstems)) → (levels + levels + levels + 2) < t
+      → ent 𝓤 (mean 𝓤 H A ((‵ (flft κcode qcode) ⊛ ‵ (ShrSlice (named 0) κcode u8 .own xcode (sliceVal (xcode .ptr) (length (xcode .now)) ∷ []))) ⊛ ((‵ (flft κbank qbank) ⊛ ‵ (ShrSlice (named 0) κbank u8 .own xbank (sliceVal (xbank .ptr) (length (xbank .now)) ∷ []))) ⊛ ((‵ (flft κops qops) ⊛ ‵ (OwnR (Array f64 256) bops oops κops γops ysops)) ⊛ ((‵ (flft κps qps)
+      ⊛ ‵ (OwnR (Array f64 256) bps ops κps γps ysps)) ⊛ ((‵ (flft κcells qcells) ⊛ ‵ (OwnR (Array f64 17) bcells ocells κcells γcells yscells)) ⊛ ((‵ (flft κedges qedges) ⊛ ‵ (OwnR (Array f64 512) bedges oedges κedges γedges ysedges)) ⊛ ((‵ (flft κacross qacross) ⊛ ‵ (OwnR (Array bool 256) bacross oacross κacross γacross ysacross)) ⊛ ((‵ (flft κcmds qcmds)
+      ⊛ ‵ (Own u64 mcmds bcmds ocmds κcmds γcmds yscmds)) ⊛ (‵ (flft κstems qstems)
+      ⊛ ‵ (Own T.the-row mstems bstems ostems κstems γstems ysstems))))))))))) (C #type1·run·run (sliceVal (xcode .ptr) (length (xcode .now)) ∷ sliceVal (xbank .ptr) (length (xbank .now)) ∷ machY rd ∷ vint w64 levels ∷ machS st ∷ vptr bops oops ∷ vptr bps ops ∷ vptr bcells ocells ∷ vptr bedges oedges ∷ vptr bacross oacross ∷ sliceVal (bcmds, ocmds) mcmds ∷ sliceVal (bstems, ostems) mstems ∷ [])
+      (λ w. mean 𝓤 H A (GotAll 𝓤 N.the-row (Unit {0} × (Unit {0} × (Unit {0} × (Unit {0} × (Unit {0} × (List Float × (List Float × (List Float × (List Float × (List Bool × (List ℕ × (List Stem × Unit {0}))))))))))))
+      (λ (r : N.the-row .Denot) (lasts : (Unit {0} × (Unit {0} × (Unit {0} × (Unit {0} × (Unit {0} × (List Float × (List Float × (List Float × (List Float × (List Bool × (List ℕ × (List Stem × Unit {0}))))))))))))). MeetsFrom r (memOf (lasts .1 .1 .1 .1 .1 .0) (lasts .1 .1 .1 .1 .1 .1 .0) (lasts .1 .1 .1 .1 .1 .1 .1 .0) (lasts .1 .1 .1 .1 .1 .1 .1 .1 .0) (lasts .1 .1 .1 .1 .1 .1 .1 .1 .1 .0) (lasts .1 .1 .1 .1 .1 .1 .1 .1 .1 .1 .0) (lasts .1 .1 .1 .1 .1 .1 .1 .1 .1 .1 .1 .0)) (runD (xbank .now) rd levels (xcode .now) st (memOf ysops ysps yscells ysedges ysacross yscmds ysstems)))
+      (λ (lasts : (Unit {0} × (Unit {0} × (Unit {0} × (Unit {0} × (Unit {0} × (List Float × (List Float × (List Float × (List Float × (List Bool × (List ℕ × (List Stem × Unit {0}))))))))))))). (fsep ftrue (fsep ftrue (fsep ftrue (fsep ftrue (fsep ftrue (fsep (fres γops ((Array f64 256) .coded .code (lasts .1 .1 .1 .1 .1 .0))) (fsep (fres γps ((Array f64 256) .coded .code (lasts .1 .1 .1 .1 .1 .1 .0)))
+      (fsep (fres γcells ((Array f64 17) .coded .code (lasts .1 .1 .1 .1 .1 .1 .1 .0))) (fsep (fres γedges ((Array f64 512) .coded .code (lasts .1 .1 .1 .1 .1 .1 .1 .1 .0))) (fsep (fres γacross ((Array bool 256) .coded .code (lasts .1 .1 .1 .1 .1 .1 .1 .1 .1 .0))) (fsep (fsep (finally u64 γcmds (lasts .1 .1 .1 .1 .1 .1 .1 .1 .1 .1 .0)) (feq ℕ (length (lasts .1 .1 .1 .1 .1 .1 .1 .1 .1 .1 .0))
+      (length yscmds))) (fsep (fsep (finally T.the-row γstems (lasts .1 .1 .1 .1 .1 .1 .1 .1 .1 .1 .1 .0)) (feq ℕ (length (lasts .1 .1 .1 .1 .1 .1 .1 .1 .1 .1 .1 .0)) (length ysstems))) ftrue))))))))))))) (‵ (flft κcode qcode)
+      ⊛ (‵ (flft κbank qbank) ⊛ (‵ (flft κops qops) ⊛ (‵ (flft κps qps) ⊛ (‵ (flft κcells qcells) ⊛ (‵ (flft κedges qedges) ⊛ (‵ (flft κacross qacross) ⊛ (‵ (flft κcmds qcmds) ⊛ (‵ (flft κstems qstems) ⊛ ‵ ftrue))))))))) w)))
   run-as t known κcode qcode xcode κbank qbank xbank κops qops bops oops γops ysops κps qps bps ops γps ysps κcells qcells bcells ocells γcells yscells κedges qedges bedges oedges γedges ysedges κacross qacross bacross oacross γacross ysacross κcmds qcmds mcmds bcmds ocmds γcmds yscmds κstems qstems mstems bstems ostems γstems ysstems rd levels st rd-fits levels-fits st-fits need lt =
-      let y : RunC 𝓤 H A mem run′ .Ghost = (((κcode, (κbank, (κops, (κps, (κcells, (κedges, (κacross, (κcmds, (κstems, tt))))))))), (qcode, (qbank, (qops, (qps, (qcells, (qedges, (qacross, (qcmds, (qstems, tt))))))))), tt, (xcode, (xbank, (rd, (levels, (st, (at-one (Array f64 256) bops oops γops ysops, (at-one (Array f64 256) bps ops γps ysps, (at-one (Array f64 17) bcells ocells γcells yscells, (at-one (Array f64 512) bedges oedges γedges ysedges, (at-one (Array bool 256) bacross oacross γacross ysacross, (at-list u64 mcmds bcmds ocmds γcmds yscmds, (at-list T.the-row mstems bstems ostems γstems ysstems, tt)))))))))))), (sliceVal (xcode .ptr) (length (xcode .now)) ∷ [], (sliceVal (xbank .ptr) (length (xbank .now)) ∷ [], (machY rd ∷ [], (vint w64 levels ∷ [], (machS st ∷ [], (vptr bops oops ∷ [], (vptr bps ops ∷ [], (vptr bcells ocells ∷ [], (vptr bedges oedges ∷ [], (vptr bacross oacross ∷ [], (sliceVal (bcmds, ocmds) mcmds ∷ [], (sliceVal (bstems, ostems) mstems ∷ [], tt))))))))))))), tt) in
-      via 𝓤 (RunC 𝓤 H A mem run′ .pre y) (qed W (((‵ (flft κcode qcode) ⊛ ‵ (ShrSlice (named 0) κcode u8 .own xcode (sliceVal (xcode .ptr) (length (xcode .now)) ∷ []))) ⊛ ((‵ (flft κbank qbank) ⊛ ‵ (ShrSlice (named 0) κbank u8 .own xbank (sliceVal (xbank .ptr) (length (xbank .now)) ∷ []))) ⊛ ((‵ (flft κops qops) ⊛ ‵ (OwnR (Array f64 256) bops oops κops γops ysops)) ⊛ ((‵ (flft κps qps) ⊛ ‵ (OwnR (Array f64 256) bps ops κps γps ysps)) ⊛ ((‵ (flft κcells qcells) ⊛ ‵ (OwnR (Array f64 17) bcells ocells κcells γcells yscells)) ⊛ ((‵ (flft κedges qedges) ⊛ ‵ (OwnR (Array f64 512) bedges oedges κedges γedges ysedges)) ⊛ ((‵ (flft κacross qacross) ⊛ ‵ (OwnR (Array bool 256) bacross oacross κacross γacross ysacross)) ⊛ ((‵ (flft κcmds qcmds) ⊛ ‵ (Own u64 mcmds bcmds ocmds κcmds γcmds yscmds)) ⊛ (‵ (flft κstems qstems) ⊛ ‵ (Own T.the-row mstems bstems ostems κstems γstems ysstems)))))))))) ∷ []) ∵ says ! need $ split ! $ move ! (1 ∷ []) $ split ! $ move ! (1 ∷ []) $ split ! $ move ! (1 ∷ []) $ split ! $ move ! (1 ∷ []) $ split ! $ move ! (1 ∷ []) $ split ! $ move ! (1 ∷ []) $ split ! $ move ! (1 ∷ []) $ split ! $ move ! (8 ∷ []) $ split ! $ move ! (9 ∷ []) $ split ! $ move ! (10 ∷ []) $ split ! $ move ! (11 ∷ []) $ split ! $ move ! (12 ∷ []) $ split ! $ move ! (13 ∷ []) $ split ! $ move ! (14 ∷ []) $ split ! $ move ! (14 ∷ []) $ split ! $ move ! (16 ∷ []) $ split ! $ nothing ! $ move ! (2 ∷ 0 ∷ []) $ fjoin ! $ move ! (3 ∷ 0 ∷ []) $ fjoin ! $ move ! (4 ∷ 0 ∷ []) $ fjoin ! $ move ! (5 ∷ 0 ∷ []) $ fjoin ! $ move ! (6 ∷ 0 ∷ []) $ fjoin ! $ move ! (7 ∷ 0 ∷ []) $ fjoin ! $ move ! (8 ∷ 0 ∷ []) $ fjoin ! $ owned ! S.the-row (Is S.the-row) (LL.makes S.the-type S′.the-plain 𝓤 H A) st _ st-fits $ fjoin ! $ owned ! usize (Is usize) (uint-makes 𝓤 H A W w64) levels _ (refl, levels-fits) $ fjoin ! $ owned ! Y.the-row (Is Y.the-row) (LL.makes Y.the-type Y′.the-plain 𝓤 H A) rd _ rd-fits $ fjoin ! $ move ! (9 ∷ 0 ∷ []) $ fjoin ! $ move ! (10 ∷ 0 ∷ []) $ fjoin ! $ nothing ! $ move ! (2 ∷ 0 ∷ []) $ join ! $ move ! (2 ∷ 0 ∷ []) $ join ! $ move ! (2 ∷ 0 ∷ []) $ join ! $ move ! (2 ∷ 0 ∷ []) $ join ! $ move ! (2 ∷ 0 ∷ []) $ join ! $ move ! (2 ∷ 0 ∷ []) $ join ! $ move ! (2 ∷ 0 ∷ []) $ join ! $ move ! (2 ∷ 0 ∷ []) $ join ! $ move ! (2 ∷ 0 ∷ []) $ join ! $ frame ! $ done !) (known y lt)
+      let y : RunC 𝓤 H A mem run′ .Ghost = (
+        (
+          (κcode, (κbank, (κops, (κps, (κcells, (κedges, (κacross, (κcmds, (κstems, tt))))))))),
+          (qcode, (qbank, (qops, (qps, (qcells, (qedges, (qacross, (qcmds, (qstems, tt))))))))),
+          tt,
+          (xcode, (xbank, (rd, (levels, (st, (at-one (Array f64 256) bops oops γops ysops, (at-one (Array f64 256) bps ops γps ysps, (at-one (Array f64 17) bcells ocells γcells yscells, (at-one (Array f64 512) bedges oedges γedges ysedges, (at-one (Array bool 256) bacross oacross γacross ysacross, (at-list u64 mcmds bcmds ocmds γcmds yscmds, (at-list T.the-row mstems bstems ostems γstems ysstems, tt)))))))))))),
+          (
+            sliceVal (xcode .ptr) (length (xcode .now)) ∷
+                [],
+            (sliceVal (xbank .ptr) (length (xbank .now)) ∷ [], (machY rd ∷ [], (vint w64 levels ∷ [], (machS st ∷ [], (vptr bops oops ∷ [], (vptr bps ops ∷ [], (vptr bcells ocells ∷ [], (vptr bedges oedges ∷ [], (vptr bacross oacross ∷ [], (sliceVal (bcmds, ocmds) mcmds ∷ [], (sliceVal (bstems, ostems) mstems ∷ [], tt))))))))))),
+          ),
+        ),
+        tt,
+      ) in
+      via 𝓤 (RunC 𝓤 H A mem run′ .pre y) (qed W (((‵ (flft κcode qcode) ⊛ ‵ (ShrSlice (named 0) κcode u8 .own xcode (sliceVal (xcode .ptr) (length (xcode .now)) ∷ []))) ⊛ ((‵ (flft κbank qbank) ⊛ ‵ (ShrSlice (named 0) κbank u8 .own xbank (sliceVal (xbank .ptr) (length (xbank .now)) ∷ []))) ⊛ ((‵ (flft κops qops) ⊛ ‵ (OwnR (Array f64 256) bops oops κops γops ysops)) ⊛ ((‵ (flft κps qps)
+      ⊛ ‵ (OwnR (Array f64 256) bps ops κps γps ysps)) ⊛ ((‵ (flft κcells qcells) ⊛ ‵ (OwnR (Array f64 17) bcells ocells κcells γcells yscells)) ⊛ ((‵ (flft κedges qedges) ⊛ ‵ (OwnR (Array f64 512) bedges oedges κedges γedges ysedges)) ⊛ ((‵ (flft κacross qacross) ⊛ ‵ (OwnR (Array bool 256) bacross oacross κacross γacross ysacross)) ⊛ ((‵ (flft κcmds qcmds)
+      ⊛ ‵ (Own u64 mcmds bcmds ocmds κcmds γcmds yscmds)) ⊛ (‵ (flft κstems qstems) ⊛ ‵ (Own T.the-row mstems bstems ostems κstems γstems ysstems)))))))))) ∷ []) ∵ says ! need $ split ! $ move ! (1 ∷ []) $ split ! $ move ! (1 ∷ []) $ split ! $ move ! (1 ∷ []) $ split ! $ move ! (1 ∷ []) $ split ! $ move ! (1 ∷ []) $ split ! $ move ! (1 ∷ []) $ split ! $ move ! (1 ∷ []) $ split ! $ move ! (8 ∷ []) $
+      split ! $ move ! (9 ∷ []) $ split ! $ move ! (10 ∷ []) $ split ! $ move ! (11 ∷ []) $ split ! $ move ! (12 ∷ []) $ split ! $ move ! (13 ∷ []) $ split ! $ move ! (14 ∷ []) $ split ! $ move ! (14 ∷ []) $ split ! $ move ! (16 ∷ []) $ split ! $ nothing ! $ move ! (2 ∷ 0 ∷ []) $ fjoin ! $ move ! (3 ∷ 0 ∷ []) $ fjoin ! $ move ! (4 ∷ 0 ∷ []) $ fjoin ! $ move ! (5 ∷ 0 ∷ []) $ fjoin ! $
+      move ! (6 ∷ 0 ∷ []) $ fjoin ! $ move ! (7 ∷ 0 ∷ []) $ fjoin ! $ move ! (8 ∷ 0 ∷ []) $ fjoin ! $ owned ! S.the-row (Is S.the-row) (LL.makes S.the-type S′.the-plain 𝓤 H A) st _ st-fits $ fjoin ! $ owned ! usize (Is usize) (uint-makes 𝓤 H A W w64) levels _ (refl, levels-fits) $ fjoin ! $ owned ! Y.the-row (Is Y.the-row) (LL.makes Y.the-type Y′.the-plain 𝓤 H A) rd _ rd-fits $ fjoin ! $
+      move ! (9 ∷ 0 ∷ []) $ fjoin ! $ move ! (10 ∷ 0 ∷ []) $ fjoin ! $ nothing ! $ move ! (2 ∷ 0 ∷ []) $ join ! $ move ! (2 ∷ 0 ∷ []) $ join ! $ move ! (2 ∷ 0 ∷ []) $ join ! $ move ! (2 ∷ 0 ∷ []) $ join ! $ move ! (2 ∷ 0 ∷ []) $ join ! $ move ! (2 ∷ 0 ∷ []) $ join ! $ move ! (2 ∷ 0 ∷ []) $ join ! $ move ! (2 ∷ 0 ∷ []) $ join ! $ move ! (2 ∷ 0 ∷ []) $ join ! $ frame ! $ done !) (known y lt)
