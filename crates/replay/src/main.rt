@@ -61,7 +61,8 @@ fn with_stems(answer: type1::Interpreted, stems: [outline::Stem; RECORDS]) -> Af
 
 // Runs a charstring with a stem store of its own.
 fn run(charstring: &[u8], bank: &[u8], reading: Reading, words: &mut [u64]) -> AfterRun
-    ensures { λ r. ⌜ Leaves (r .answer) (now (words .exit)) (r .stems) (now (words .entry)) (replicate 512 usedStem) (outcome (sourceOf (now (charstring .entry)) (now (bank .entry))) reading 512 (length (now (words .entry)))) ⌝ }
+    ensures { λ r. ⌜ Leaves (r .answer) (now (words .exit)) (r .stems) (now (words .entry)) (replicate 512 usedStem)
+        (outcome (sourceOf (now (charstring .entry)) (now (bank .entry))) reading 512 (length (now (words .entry)))) ⌝ }
 {
     let mut stems = stem_store();
     let answer = type1::run_charstring(charstring, bank, reading, words, &mut stems);
