@@ -1,0 +1,509 @@
+// The table of a font's glyphs, and the row of a font.
+use crate::bytes::larger;
+use crate::bytes::less;
+use crate::bytes::listed;
+use crate::bytes::place;
+use crate::bytes::put_word;
+use crate::bytes::sum;
+use crate::bytes::word;
+use crate::converting;
+use crate::converting::Measured;
+use crate::converting::Setup;
+use crate::doubles;
+use crate::font::Font;
+use crate::names;
+use crate::options::Options;
+use crate::page;
+use crate::say;
+use crate::tokens;
+
+// What a font's glyphs add up to: how many there are, are shown and convert, and the largest stores that
+// one needs.
+pub(crate) struct Totals {
+    pub glyphs: usize,
+    pub shown: usize,
+    pub converted: usize,
+    pub stems: usize,
+    pub commands: usize,
+    pub output: usize,
+}
+
+fn no_totals() -> Totals {
+    Totals {
+        glyphs: 0,
+        shown: 0,
+        converted: 0,
+        stems: 0,
+        commands: 0,
+        output: 0,
+    }
+}
+
+// The totals with one more glyph.
+fn with_glyph(t: Totals, m: Measured, shown: usize) -> Totals {
+    let mut u = t;
+    u.glyphs = place(t.glyphs, 1);
+    u.shown = place(t.shown, shown);
+    if m.number == 0 {
+        u.converted = place(t.converted, 1);
+    }
+    u.stems = larger(t.stems, m.stems);
+    u.commands = larger(t.commands, m.commands);
+    u.output = larger(t.output, m.output);
+    u
+}
+
+// A line of the table.
+fn print_row(page: &mut [u8], name: &[u8], m: Measured) {
+    page::left(page, name, 28);
+    page::whole_right(page, m.number, 6);
+    if m.number != 0 {
+        page::text(page, b"      -           -      -  ");
+        say::refusal(page, m.number as usize);
+        page::end(page);
+        return;
+    }
+    page::count_right(page, m.len, 7);
+    doubles::right(page, m.width, 12);
+    page::count_right(page, m.ran, 7);
+    page::end(page);
+}
+
+// Prints a glyph's bytes, where they are wanted and it has some.
+fn show_bytes(page: &mut [u8], m: Measured, wanted: bool, out: &mut [u8]) {
+    if wanted && m.number == 0 {
+        let program = type1_to_type2::finished_program(out, m.len);
+        page::hex_line(page, program);
+    }
+}
+
+// Prints a glyph's line, and its bytes, where they are shown; the answer is how many lines.
+fn show(
+    page: &mut [u8],
+    name: &[u8],
+    m: Measured,
+    marked: bool,
+    o: Options,
+    out: &mut [u8],
+) -> usize {
+    if !o.table || !marked {
+        return 0;
+    }
+    print_row(page, name, m);
+    show_bytes(page, m, o.hex, out);
+    1
+}
+
+// One more glyph has this number.
+fn count_number(refusals: &mut [u64], number: u64) {
+    let at = number as usize;
+    let before = word(refusals, at);
+    put_word(refusals, at, sum(before, 1));
+}
+
+// Measures glyph i, shows it where it is marked, and counts its number.
+fn glyph(
+    page: &mut [u8],
+    v: &[u8],
+    list: &[u64],
+    codes: &[u64],
+    marks: &[u64],
+    i: usize,
+    bank: &[u8],
+    s: Setup,
+    most: widths::Chosen,
+    w: widths::Chosen,
+    o: Options,
+    t: Totals,
+    words: &mut [u64],
+    refusals: &mut [u64],
+) -> Totals {
+    let mut program = converting::output_store();
+    let mut out = converting::output_store();
+    let code = listed(v, codes, i);
+    let m = converting::measure(code, bank, s, most, w, words, &mut program, &mut out);
+    count_number(refusals, m.number);
+    let name = listed(v, list, i);
+    let marked = names::is_marked(marks, i);
+    let shown = show(page, name, m, marked, o, &mut out);
+    with_glyph(t, m, shown)
+}
+
+// Measures so many glyphs, counts the numbers, and shows those that are marked.
+pub(crate) fn glyphs(
+    page: &mut [u8],
+    v: &[u8],
+    list: &[u64],
+    codes: &[u64],
+    marks: &[u64],
+    count: usize,
+    bank: &[u8],
+    s: Setup,
+    most: widths::Chosen,
+    w: widths::Chosen,
+    o: Options,
+    words: &mut [u64],
+    refusals: &mut [u64],
+) -> Totals {
+    let mut t = no_totals();
+    let mut left = count;
+    while left > 0 {
+        let i = less(count, left);
+        t = glyph(
+            page,
+            v,
+            list,
+            codes,
+            marks,
+            i,
+            bank,
+            s,
+            most,
+            w,
+            o,
+            t,
+            words,
+            refusals,
+        );
+        left -= 1;
+    }
+    t
+}
+
+// A label and a number, or a width.
+fn print_item(page: &mut [u8], label: usize, n: usize) {
+    say::label(page, label);
+    page::count(page, n);
+}
+
+fn print_width(page: &mut [u8], label: usize, x: f64) {
+    say::label(page, label);
+    doubles::text(page, x);
+}
+
+// A number that was given, with its count and its meaning.
+fn print_refusal(page: &mut [u8], number: usize, n: u64) {
+    if n == 0 {
+        return;
+    }
+    print_item(page, 8, number);
+    say::label(page, 9);
+    page::whole(page, n);
+    say::label(page, 10);
+    say::refusal(page, number);
+    page::end(page);
+}
+
+fn print_refusals(page: &mut [u8], refusals: &[u64]) {
+    let mut i: usize = 1;
+    while i < refusals.len() {
+        print_refusal(page, i, refusals[i]);
+        i += 1;
+    }
+}
+
+// What is needed of a store, or that it is over what the program lends.
+pub(crate) fn print_need(page: &mut [u8], n: usize, limit: usize) {
+    if n > limit {
+        say::label(page, 21);
+        page::count(page, limit);
+        return;
+    }
+    page::count(page, n);
+}
+
+fn print_stores(page: &mut [u8], t: Totals) {
+    say::label(page, 5);
+    print_need(page, t.stems, crate::STEMS);
+    say::label(page, 6);
+    print_need(page, t.commands, converting::ENTRIES);
+    say::label(page, 7);
+    print_need(page, t.output, converting::OUTPUT);
+    page::end(page);
+}
+
+fn print_totals(page: &mut [u8], t: Totals, w: widths::Chosen, refusals: &[u64]) {
+    print_item(page, 0, t.glyphs);
+    print_item(page, 1, t.converted);
+    print_item(page, 2, less(t.glyphs, t.converted));
+    page::end(page);
+    print_refusals(page, refusals);
+    print_width(page, 3, w.widths.default_width_x);
+    print_width(page, 4, w.widths.nominal_width_x);
+    page::end(page);
+    print_stores(page, t);
+}
+
+// A number that was given, with its count, in a cell; the answer is whether one stands there.
+fn print_number(page: &mut [u8], number: usize, n: u64, before: bool) -> bool {
+    if n == 0 {
+        return before;
+    }
+    page::text_if(page, before, b" ");
+    page::count(page, number);
+    page::text(page, b"x");
+    page::whole(page, n);
+    true
+}
+
+fn print_numbers(page: &mut [u8], refusals: &[u64]) {
+    let mut i: usize = 1;
+    let mut before = false;
+    while i < refusals.len() {
+        before = print_number(page, i, refusals[i], before);
+        i += 1;
+    }
+    page::text_if(page, !before, b"-");
+}
+
+fn cell(page: &mut [u8], n: usize) {
+    page::tab(page);
+    page::count(page, n);
+}
+
+// So many cells with nothing in them.
+pub(crate) fn empty_cells(page: &mut [u8], n: usize) {
+    let mut left = n;
+    while left > 0 {
+        left -= 1;
+        page::text(page, b"\t-");
+    }
+}
+
+// Between two notes.
+fn note_after(page: &mut [u8], before: bool) {
+    page::text_if(page, before, b"; ");
+}
+
+// So many of those declared.
+fn note_count(page: &mut [u8], n: usize, declared: usize, what: &[u8], before: bool) -> bool {
+    if n == declared {
+        return before;
+    }
+    note_after(page, before);
+    page::text(page, what);
+    page::count(page, n);
+    print_item(page, 23, declared);
+    true
+}
+
+// So many that were defined again.
+fn note_again(page: &mut [u8], n: usize, what: &[u8], before: bool) -> bool {
+    if n == 0 {
+        return before;
+    }
+    note_after(page, before);
+    page::text(page, what);
+    print_item(page, 24, n);
+    true
+}
+
+// What the font does not define.
+fn note_lack(page: &mut [u8], defined: bool, label: usize, before: bool) -> bool {
+    if defined {
+        return before;
+    }
+    note_after(page, before);
+    say::label(page, label);
+    true
+}
+
+// What is lawful but worth knowing of a font; the answer is whether there is something.
+fn some_notes(page: &mut [u8], f: Font) -> bool {
+    let before = note_counts(page, f);
+    note_lacks(page, f, before)
+}
+
+fn note_counts(page: &mut [u8], f: Font) -> bool {
+    let a = note_count(page, f.glyphs, f.room, b"glyphs ", false);
+    let b = note_count(page, f.bodies, f.count, b"subroutines ", a);
+    let c = note_again(page, f.again, b"glyphs", b);
+    note_again(page, f.rewritten, b"subroutines", c)
+}
+
+fn note_lacks(page: &mut [u8], f: Font, before: bool) -> bool {
+    let a = note_lack(page, f.matrix != 0, 25, before);
+    let b = note_lack(page, f.typed, 26, a);
+    note_lack(page, f.subrs != 0, 27, b)
+}
+
+fn has_notes(f: Font) -> bool {
+    f.glyphs != f.room
+        || f.bodies != f.count
+        || f.again != 0
+        || f.rewritten != 0
+        || f.matrix == 0
+        || !f.typed
+        || f.subrs == 0
+}
+
+// The cell of notes.
+pub(crate) fn notes(page: &mut [u8], f: Font) {
+    page::tab(page);
+    let some = some_notes(page, f);
+    page::text_if(page, !some, b"-");
+    page::end(page);
+}
+
+// A row for a font: cells with tabs between them.
+fn print_line(
+    page: &mut [u8],
+    path: &[u8],
+    f: Font,
+    t: Totals,
+    w: widths::Chosen,
+    refusals: &[u64],
+) {
+    page::name(page, path);
+    count_cells(page, t);
+    page::tab(page);
+    print_numbers(page, refusals);
+    width_cell(page, w.widths.default_width_x);
+    width_cell(page, w.widths.nominal_width_x);
+    need_cell(page, t.stems, crate::STEMS);
+    need_cell(page, t.commands, converting::ENTRIES);
+    need_cell(page, t.output, converting::OUTPUT);
+    notes(page, f);
+}
+
+fn count_cells(page: &mut [u8], t: Totals) {
+    cell(page, t.glyphs);
+    cell(page, t.converted);
+    cell(page, less(t.glyphs, t.converted));
+}
+
+fn width_cell(page: &mut [u8], x: f64) {
+    page::tab(page);
+    doubles::text(page, x);
+}
+
+fn need_cell(page: &mut [u8], n: usize, limit: usize) {
+    page::tab(page);
+    print_need(page, n, limit);
+}
+
+// The row of a font that cannot be read.
+pub(crate) fn print_unreadable(page: &mut [u8], path: &[u8]) {
+    page::name(page, path);
+    empty_cells(page, 9);
+    page::text(page, b"\tunreadable\n");
+}
+
+// The six numbers of the font's matrix.
+fn print_matrix(page: &mut [u8], v: &[u8], from: usize) {
+    if from == 0 {
+        page::text(page, b"-");
+        return;
+    }
+    let mut at = from;
+    let mut left: usize = 6;
+    while left > 0 {
+        left -= 1;
+        let t = tokens::next(v, at);
+        page::name(page, tokens::text(v, t));
+        page::text_if(page, left > 0, b" ");
+        at = t.end;
+    }
+}
+
+// The bytes that a charstring drops, or that there are none.
+fn print_len_iv(page: &mut [u8], len_iv: usize) {
+    if len_iv == usize::MAX {
+        say::label(page, 13);
+        return;
+    }
+    print_item(page, 12, len_iv);
+}
+
+// A line of notes, if there are any.
+fn notes_line(page: &mut [u8], f: Font) {
+    if has_notes(f) {
+        say::label(page, 20);
+        some_notes(page, f);
+        page::end(page);
+    }
+}
+
+// The line of what the font defines.
+fn definitions(page: &mut [u8], v: &[u8], f: Font, bank: &[u8]) {
+    say::label(page, 11);
+    print_matrix(page, v, f.matrix);
+    print_len_iv(page, f.len_iv);
+    print_item(page, 14, f.count);
+    print_item(page, 15, bank.len());
+    page::end(page);
+}
+
+// What is known of a font before its glyphs are converted.
+fn print_font(page: &mut [u8], path: &[u8], v: &[u8], f: Font, bank: &[u8]) {
+    page::name(page, path);
+    page::end(page);
+    definitions(page, v, f, bank);
+    notes_line(page, f);
+    say::label(page, 16);
+    page::end(page);
+}
+
+// A name that was asked, if no glyph has it.
+fn print_missing(page: &mut [u8], name: &[u8], lacks: bool) {
+    if !lacks {
+        return;
+    }
+    say::label(page, 17);
+    page::name(page, name);
+    page::end(page);
+}
+
+// The names that were asked and no glyph has.
+pub(crate) fn print_all_missing(
+    page: &mut [u8],
+    v: &[u8],
+    list: &[u64],
+    table: &[u64],
+    asked: &[u8],
+) {
+    let mut at: usize = 0;
+    let mut turns = asked.len();
+    while turns > 0 {
+        turns -= 1;
+        let n = names::next(asked, at);
+        if names::is_none(asked, n) {
+            return;
+        }
+        let lacks = names::is_missing(v, list, table, asked, n);
+        print_missing(page, names::text(asked, n), lacks);
+        at = n.end;
+    }
+}
+
+pub(crate) fn font_if(page: &mut [u8], wanted: bool, path: &[u8], v: &[u8], f: Font, bank: &[u8]) {
+    if wanted {
+        print_font(page, path, v, f, bank);
+    }
+}
+
+pub(crate) fn totals_if(
+    page: &mut [u8],
+    wanted: bool,
+    t: Totals,
+    w: widths::Chosen,
+    refusals: &[u64],
+) {
+    if wanted {
+        print_totals(page, t, w, refusals);
+    }
+}
+
+pub(crate) fn line_if(
+    page: &mut [u8],
+    wanted: bool,
+    path: &[u8],
+    f: Font,
+    t: Totals,
+    w: widths::Chosen,
+    refusals: &[u64],
+) {
+    if wanted {
+        print_line(page, path, f, t, w, refusals);
+    }
+}
