@@ -9,8 +9,10 @@
 #     target/bench/bench --ours-only FONT            one pass over a font's glyphs, ours alone, to be profiled
 set -euo pipefail
 cd "$(dirname "$0")/.."
-stet=${STET_SRC:-../shared/docs/src/crates/stet-fonts/src}
-archive=${ARCHIVE:-target/staticlib/libboard.a}
+. tools/need.sh
+need_rust
+need_stet
+need_archive
 to=target/bench
 mkdir -p "$to/src"
 cp tools/oracle/src/*.rs "$to/src/"

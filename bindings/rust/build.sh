@@ -5,7 +5,9 @@
 #     rustc --edition 2024 --extern cribstork=target/bindings/libcribstork.rlib YOURS.rs
 set -euo pipefail
 cd "$(dirname "$0")/../.."
-archive=${ARCHIVE:-target/staticlib/libboard.a}
+. tools/need.sh
+need_rust
+need_archive
 to=target/bindings
 mkdir -p "$to"
 rustc --edition 2024 -O --crate-type rlib --crate-name cribstork -L native="$(dirname "$archive")" -l static=board \

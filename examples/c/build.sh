@@ -3,7 +3,9 @@
 # ARCHIVE names the archive (rt staticlib board).
 set -euo pipefail
 cd "$(dirname "$0")/../.."
-archive=${ARCHIVE:-target/staticlib/libboard.a}
+. tools/need.sh
+need_c
+need_archive
 mkdir -p target/examples
 "${CC:-cc}" -std=c11 -Wall -Wextra -Werror -O2 -I include -o target/examples/worked examples/c/worked.c "$archive" ${LINK_ARGS:-}
 target/examples/worked | tee target/examples/worked.out

@@ -4,7 +4,9 @@
 # Their text is copied to target/oracle/ at each build and is never committed.
 set -euo pipefail
 cd "$(dirname "$0")/../.."
-stet=${STET_SRC:-../shared/docs/src/crates/stet-fonts/src}
+. tools/need.sh
+need_rust
+need_stet
 to=target/oracle
 mkdir -p "$to/src"
 cp "$stet/charstring.rs" "$stet/geometry.rs" "$to/src/"

@@ -10,8 +10,10 @@
 # ("out of range at N": N bytes are written before that number), which tells 13 from 18 where the output is short.
 set -euo pipefail
 cd "$(dirname "$0")/../.."
-stet=${STET_SRC:-../shared/docs/src/crates/stet-fonts/src}
-archive=${ARCHIVE:-target/staticlib/libboard.a}
+. tools/need.sh
+need_rust
+need_stet
+need_archive
 to=target/scale
 mkdir -p "$to/src"
 cp tools/oracle/src/*.rs "$to/src/"
