@@ -1,15 +1,17 @@
 //! Cribstork from Rust: a safe wrapper of the five functions of include/cribstork.h.
 //!
-//! The caller lends the stores and the output; nothing is allocated here but by [`bank`].
+//! It needs no `std` and no allocator: the caller lends the stores and the output.
 //! Stores may hold anything before a call and are all zeros after it. An output holds the result's bytes and then
 //! zeros; after a refusal zeros only.
+
+#![no_std]
 
 mod ffi;
 
 #[cfg(test)]
 mod tests;
 
-use std::fmt;
+use core::fmt;
 
 pub use ffi::Stem;
 
@@ -95,7 +97,7 @@ impl fmt::Display for Refusal {
     }
 }
 
-impl std::error::Error for Refusal {}
+impl core::error::Error for Refusal {}
 
 /// A number as a result. The archive gives no number beyond 20.
 fn accepted(number: u64) -> Result<(), Refusal> {
@@ -147,17 +149,30 @@ pub struct Glyph<'a> {
     pub program: &'a [u8],
 }
 
-/// The subroutine bank of these bodies; none where there are over 65,535 or their bytes are over 4,294,967,295.
-pub fn bank<B: AsRef<[u8]>>(bodies: &[B]) -> Option<Vec<u8>> {
-    let mut all = u16::try_from(bodies.len()).ok()?.to_be_bytes().to_vec();
+/// How many bytes the bank of these bodies has; none where there are over 65,535 or their bytes are over 4,294,967,295.
+pub fn bank_len<B: AsRef<[u8]>>(bodies: &[B]) -> Option<usize> {
+    u16::try_from(bodies.len()).ok()?;
     let mut end: u32 = 0;
-    all.extend(end.to_be_bytes());
     for body in bodies {
         end = end.checked_add(u32::try_from(body.as_ref().len()).ok()?)?;
-        all.extend(end.to_be_bytes());
     }
-    for body in bodies {
-        all.extend(body.as_ref());
+    (2 + 4 * (bodies.len() + 1)).checked_add(usize::try_from(end).ok()?)
+}
+
+/// The subroutine bank of these bodies, written to the front of `out`; none where [`bank_len`] has none, or `out` is
+/// shorter than that.
+pub fn bank<'a, B: AsRef<[u8]>>(bodies: &[B], out: &'a mut [u8]) -> Option<&'a [u8]> {
+    let all = out.get_mut(..bank_len(bodies)?)?;
+    let (count, rest) = all.split_at_mut(2);
+    let (offsets, places) = rest.split_at_mut(4 * (bodies.len() + 1));
+    count.copy_from_slice(&u16::try_from(bodies.len()).ok()?.to_be_bytes());
+    offsets[..4].fill(0);
+    let mut end = 0;
+    for (offset, body) in offsets[4..].chunks_exact_mut(4).zip(bodies) {
+        let body = body.as_ref();
+        places[end..end + body.len()].copy_from_slice(body);
+        end += body.len();
+        offset.copy_from_slice(&u32::try_from(end).ok()?.to_be_bytes());
     }
     Some(all)
 }

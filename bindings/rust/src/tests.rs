@@ -1,4 +1,9 @@
+extern crate std;
+
 use super::*;
+use std::string::ToString;
+use std::vec;
+use std::vec::Vec;
 
 /// Stores that are not zeros before a call.
 struct Lent {
@@ -53,6 +58,12 @@ fn plain<'a>(charstring: &'a [u8], bank: &'a [u8]) -> Input<'a> {
     }
 }
 
+fn bank_of<B: AsRef<[u8]>>(bodies: &[B]) -> Vec<u8> {
+    let mut out = vec![0xA5; bank_len(bodies).unwrap()];
+    bank(bodies, &mut out).unwrap();
+    out
+}
+
 /// The number that a charstring is refused with; the output and the stores are then zeros.
 fn refused(input: &Input) -> u64 {
     let mut lent = Lent::usual();
@@ -95,7 +106,7 @@ fn thirds_do_not_drift() {
 
 #[test]
 fn subroutine_from_a_bank() {
-    let bank = bank(&[&[0x95, 0x9F, 0x15, 0x90, 0x8B, 0x05, 0x0B][..], &[]]).unwrap();
+    let bank = bank_of(&[&[0x95, 0x9F, 0x15, 0x90, 0x8B, 0x05, 0x0B][..], &[]]);
     let mut lent = Lent::usual();
     let glyph = lent.convert(&plain(&[0x8B, 0x0A, 0x8C, 0x0A, 0x0E], &bank)).unwrap();
     assert_eq!(glyph.program, PROGRAM);
@@ -193,7 +204,7 @@ fn refusals() {
         stems.extend([0xF7 + (i / 256) as u8, (i % 256) as u8, 0x8C, 0x01]);
     }
     assert_eq!(code(&stems), 16);
-    let itself = bank(&[[0x8B, 0x0A]]).unwrap();
+    let itself = bank_of(&[[0x8B, 0x0A]]);
     assert_eq!(refused(&plain(&[0x8B, 0x0A], &itself)), 4);
     assert_eq!(refused(&plain(&WORKED, &[0, 1])), 2);
     let mut input = plain(&WORKED, &NO_SUBRS);
@@ -217,8 +228,16 @@ fn numbers_of_refusals() {
 
 #[test]
 fn banks() {
-    assert_eq!(bank::<&[u8]>(&[]).unwrap(), NO_SUBRS);
-    let two = bank(&[&[1u8, 2][..], &[3]]).unwrap();
-    assert_eq!(two, [0, 2, 0, 0, 0, 0, 0, 0, 0, 2, 0, 0, 0, 3, 1, 2, 3]);
-    assert_eq!(bank(&vec![&[][..] as &[u8]; 65_536]), None);
+    assert_eq!(bank_of::<&[u8]>(&[]), NO_SUBRS);
+    let bodies = [&[1u8, 2][..], &[3]];
+    let two = [0, 2, 0, 0, 0, 0, 0, 0, 0, 2, 0, 0, 0, 3, 1, 2, 3];
+    assert_eq!(bank_of(&bodies), two);
+    let mut out = [0xA5; 20];
+    assert_eq!(bank(&bodies, &mut out).unwrap(), two);
+    assert_eq!(out[17..], [0xA5; 3]);
+    assert_eq!(bank(&bodies, &mut out[..16]), None);
+    let many = vec![&[][..] as &[u8]; 65_536];
+    assert_eq!(bank_len(&many[1..]), Some(2 + 4 * 65_536));
+    assert_eq!(bank_len(&many), None);
+    assert_eq!(bank(&many, &mut [0; 300_000]), None);
 }
