@@ -6,8 +6,8 @@ missing() { # WHAT TO DO
     exit 2
 }
 
-need_command() { # COMMAND WHAT IT IS
-    command -v "$1" >/dev/null || missing "$1 is not installed: it needs $2"
+need_command() { # COMMAND WHAT TO INSTALL
+    command -v "$1" >/dev/null || missing "there is no command $1: install $2"
 }
 
 # The archive of the crate board, named by ARCHIVE; sets `archive`.
@@ -32,5 +32,5 @@ need_rust() {
 }
 
 need_c() {
-    need_command "${CC:-cc}" "a C compiler, which CC may name"
+    need_command "${CC:-cc}" "a C compiler, or name one by CC"
 }

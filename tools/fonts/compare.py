@@ -143,4 +143,8 @@ def main():
 
 
 if __name__ == "__main__":
-    sys.exit(main())
+    try:
+        sys.exit(main())
+    except FileNotFoundError as missing:
+        print(f"tools/fonts/compare.py: there is no {missing.filename}; tools/fonts/build.sh and 'rt check cribstork' make the programs", file=sys.stderr)
+        sys.exit(2)
