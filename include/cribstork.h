@@ -27,12 +27,38 @@
  *       20  the width scratch is shorter than the list
  *
  * An answer's first word is the number again; on a refusal its other words are 0.
+ * Bytes run: the charstring's, and each subroutine's at every call of it. Stems in force: the hints that hold for what is
+ * drawn next; a group: those that held for a stretch of the path. Folded: put through the matrix.
  *
  * Pointers: each is not null, aligned for its type and valid for its length. For a length of 0 any aligned address
  * that is not null will do. What a function writes overlaps nothing else that it is given.
  * Lent stores may hold any values of their types before a call (a bool is 0 or 1). After every call they are all zeros;
  * the bytes between a stem record's fields may be anything.
  * An output holds the result's bytes and then zeros, to its end; on a refusal zeros only.
+ *
+ * Processor: x86-64 with SSE2, System V calling convention; the kit's compiler makes code for no other. MXCSR as after
+ * a reset, 1F80: exceptions masked, round to nearest, no flush to zero, denormals are not zeros. A port needs the kit's
+ * compiler to make code for that processor; doubles that are IEEE 754's binary64, each operation rounded once to
+ * nearest (no extended precision, no fused multiply-add); a size_t of 64 bits; and all tests run again there.
+ *
+ * Stack, in bytes, from the caller's stack pointer down: arguments on the stack and the return address are in it,
+ * memset's own frame is not. "Measured" is the most on painted stacks, "bound" the most that the code can take on any
+ * input (bench/stack.sh has both).
+ *
+ *   function                    measured   bound
+ *   cribstork_convert             20,888  20,888
+ *   cribstork_finish                 136     136
+ *   cribstork_convert_finished    21,000  21,000
+ *   cribstork_choose_widths        3,960   4,032
+ *   cribstork_decrypt                 56      56
+ *
+ * Reserve 24 KiB for a call, which is 3,576 bytes over the largest. What interrupts take comes on top, and a handler on
+ * the same stack leaves the 128 bytes below the stack pointer as they are (the red zone; 32 of them are used). No
+ * function tests how much stack is left: that it returns is proved of a machine that has enough.
+ *
+ * Nothing is kept between calls, nothing is allocated and there is no writable data. Functions may run in several
+ * threads at once, or in a handler that interrupts one, if no two share what they write. Of C's library the archive
+ * needs memset, and nothing else.
  */
 #ifndef CRIBSTORK_H
 #define CRIBSTORK_H
