@@ -1,11 +1,11 @@
 #!/usr/bin/env python3
-"""A specimen page of a Type 1 font: each glyph as Type 1 draws it, and above it as Type 2 draws what `convert` made of it.
+"""A specimen page of a Type 1 font: each glyph as Type 1 draws it, and above it as Type 2 draws what `cribstork` made of it.
 
-    specimen.py --convert PATH/TO/convert FONT > page.html
-    specimen.py --convert PATH/TO/convert --font-matrix FONT > page.html
-    specimen.py --convert PATH/TO/convert --matrix A B C D TX TY FONT > page.html
+    specimen.py [--cribstork target/bin/cribstork] FONT > page.html
+    specimen.py [--cribstork target/bin/cribstork] --font-matrix FONT > page.html
+    specimen.py [--cribstork target/bin/cribstork] --matrix A B C D TX TY FONT > page.html
 
-The font is read and run here, and the finished bytes that `convert --hex` prints are run here on a Type 2 machine of
+The font is read and run here, and the finished bytes that `cribstork --hex` prints are run here on a Type 2 machine of
 document 01, which counts in whole 1/65536. The two drawn lists are compared entry by entry. A line on standard error
 sums it up; the exit status is 1 where something differs, and 2 where there is nothing to compare.
 """
@@ -20,6 +20,7 @@ from fractions import Fraction
 
 UNIT = 65536
 RUN_LIMIT = 1048576
+IDENTITY = [1.0, 0.0, 0.0, 1.0, 0.0, 0.0]
 
 MEANINGS = {
     1: "matrix entry not finite", 2: "bank breaks its layout", 3: "more than 1,048,576 bytes run", 4: "subroutine calls over 10 deep",
@@ -460,7 +461,7 @@ class Fold:
     """A matrix put on points, stems and the width."""
 
     def __init__(self, entries, number=float):
-        self.identity = entries == [1.0, 0.0, 0.0, 1.0, 0.0, 0.0]
+        self.identity = entries == IDENTITY
         self.a, self.b, self.c, self.d, self.tx, self.ty = (number(v) for v in entries)
 
     def point(self, p):
@@ -669,29 +670,40 @@ def compare(listed, drawn):
     return wrong, largest
 
 
-class Glyph:
-    """A glyph's two runs, and what differs between them."""
+class Outline:
+    """What a glyph's Type 1 run draws under a matrix."""
 
-    def __init__(self, font, name, charstring, row, widths, matrix):
-        self.name, self.row = name, row
-        self.differs = []
-        self.wrong, self.deviation, self.exact = [], None, None
+    def __init__(self, font, name, charstring, matrix):
+        self.name = name
         self.machine = None
         fold = Fold(matrix)
         self.run = Type1Run(font).glyph(charstring)
         self.listed = fold.entries(self.run.listed)
         self.groups = fold.groups(self.run.groups)
         self.width = fold.width(self.run.width)
+
+    def keep_finite(self):
+        """Of a refused glyph only what can be shown is kept."""
+        if not all(is_finite(v) for _, points in self.listed for p in points for v in p):
+            self.listed = []
+        if not is_finite(self.width):
+            self.width = 0.0
+
+
+class Glyph(Outline):
+    """A glyph's two runs, and what differs between them."""
+
+    def __init__(self, font, name, charstring, row, widths, matrix):
+        super().__init__(font, name, charstring, matrix)
+        self.row = row
+        self.differs = []
+        self.wrong, self.deviation, self.exact = [], None, None
         if row.number or self.run.number_given:
             self.compare_numbers()
-            # Of a refused glyph only what can be shown is kept.
-            if not all(is_finite(v) for _, points in self.listed for p in points for v in p):
-                self.listed = []
-            if not is_finite(self.width):
-                self.width = 0.0
+            self.keep_finite()
         else:
             self.machine = Type2Machine().glyph(row.code)
-            self.compare_runs(widths, fold.identity)
+            self.compare_runs(widths, matrix == IDENTITY)
         if self.machine and self.run.divided:
             exact = Type1Run(font, Fraction).glyph(charstring)
             entries = Fold(matrix, Fraction).entries(exact.listed)
@@ -732,7 +744,7 @@ class Glyph:
             self.differs.append("bytes run: %d here" % self.run.ran)
 
 
-# ---- what `convert` prints
+# ---- what `cribstork` prints
 
 class Row:
     def __init__(self, name, number, ran):
@@ -917,7 +929,7 @@ def card(g, frame):
     return "".join(out)
 
 
-STYLE = """
+HEAD_STYLE = """
 :root{--ink:#23303d;--dim:#74808c;--line:#e3e0da;--red:#b3261e}
 *{box-sizing:border-box}
 body{margin:0;padding:24px 28px;background:#f7f5f1;color:var(--ink);font:13px/1.4 system-ui,sans-serif}
@@ -929,6 +941,10 @@ td:first-child{color:var(--dim)}
 label{margin-right:16px;cursor:pointer;user-select:none}
 .key{display:inline-block;width:12px;height:12px;margin-right:5px;vertical-align:-2px}
 main{display:grid;grid-template-columns:repeat(auto-fill,minmax(136px,1fr));gap:10px;margin-top:14px}
+"""
+
+# The glyphs' figures, which banks.py has too.
+FIGURE_STYLE = """\
 figure{margin:0;background:#fff;border:1px solid var(--line);border-radius:5px;overflow:hidden;content-visibility:auto;contain-intrinsic-size:136px 205px}
 svg{display:block;width:100%;aspect-ratio:1}
 figcaption{padding:5px 8px 7px;border-top:1px solid var(--line);font-size:11px}
@@ -942,6 +958,9 @@ figcaption>.differs,.red{color:var(--red);font-weight:600}
 path{vector-effect:non-scaling-stroke}
 .em{fill:none;stroke:#dcd8d0;stroke-width:1px}
 .t1{fill:#f2cf94;stroke:#f2cf94;stroke-width:2.5px;stroke-linejoin:round}
+"""
+
+LAYER_STYLE = """\
 .t2{fill:none;stroke:#1d3f66;stroke-width:1.1px;stroke-linejoin:round}
 .dots{fill:none;stroke:#1d3f66;stroke-width:4px;stroke-linecap:round}
 .h{fill:#c8443a;fill-opacity:.22}
@@ -1011,7 +1030,7 @@ def page(font, path, matrix, widths, glyphs):
         ("default and nominal width", "%s and %s" % (decimal(Fraction(widths.default, UNIT)), decimal(Fraction(widths.nominal, UNIT)))),
     ]
     out = ['<!DOCTYPE html><html lang="en"><head><meta charset="utf-8"><meta name="viewport" content="width=device-width">']
-    out.append("<title>%s</title><style>%s</style></head><body>" % (html.escape(font.name), STYLE))
+    out.append("<title>%s</title><style>%s</style></head><body>" % (html.escape(font.name), HEAD_STYLE + FIGURE_STYLE + LAYER_STYLE))
     out.append("<h1>%s</h1>" % html.escape(font.name))
     out.append("<p>Beneath, filled: the Type 1 glyph. Above, a line: the Type 2 glyph, from its finished bytes.</p><table>")
     out += ["<tr><td>%s</td><td>%s</td></tr>" % f for f in facts]
@@ -1032,7 +1051,7 @@ def asked_matrix(options, font):
         return [float(v) for v in options.matrix]
     if options.font_matrix and font.matrix and len(font.matrix) == 6:
         return [1000.0 * float(v) for v in font.matrix]
-    return [1.0, 0.0, 0.0, 1.0, 0.0, 0.0]
+    return IDENTITY
 
 
 def asked_options(options):
@@ -1046,7 +1065,7 @@ def stop(text):
 
 def main():
     p = argparse.ArgumentParser(description="A specimen page of a Type 1 font and of its Type 2 glyphs.")
-    p.add_argument("--convert", required=True, metavar="PROGRAM", help="the program convert")
+    p.add_argument("--cribstork", default="target/bin/cribstork", metavar="PROGRAM", help="the program (default: %(default)s)")
     p.add_argument("--font-matrix", action="store_true", help="apply the font's matrix, in thousandths")
     p.add_argument("--matrix", nargs=6, metavar=("A", "B", "C", "D", "TX", "TY"), help="apply this matrix")
     p.add_argument("font", metavar="FONT")
@@ -1054,15 +1073,15 @@ def main():
     try:
         with open(options.font, "rb") as f:
             font = Font(f.read())
-        ran = subprocess.run([options.convert, options.font, "--hex"] + asked_options(options), stdout=subprocess.PIPE, check=True)
-    except (OSError, NoFont, subprocess.CalledProcessError) as e:
+        ran = subprocess.run([options.cribstork, options.font, "--hex"] + asked_options(options),
+                             stdout=subprocess.PIPE, stderr=subprocess.PIPE)
+    except (OSError, NoFont) as e:
         stop(e)
-    text = ran.stdout.decode("latin-1")
-    rows, widths = read_table(text)
+    rows, widths = read_table(ran.stdout.decode("latin-1"))
     if widths is None:
-        stop("convert printed no table: " + text.strip()[:200])
+        stop("cribstork printed no table: " + (ran.stderr or ran.stdout).decode("latin-1").strip()[:200])
     if [r.name for r in rows] != [name for name, _ in font.glyphs]:
-        stop("convert printed other glyphs than the font has: %d for %d" % (len(rows), len(font.glyphs)))
+        stop("cribstork printed other glyphs than the font has: %d for %d" % (len(rows), len(font.glyphs)))
     matrix = asked_matrix(options, font)
     glyphs = [Glyph(font, name, code, row, widths, matrix) for (name, code), row in zip(font.glyphs, rows)]
     out, sums = page(font, options.font, matrix, widths, glyphs)
