@@ -23,6 +23,7 @@ REFUSALS = os.path.join(os.path.dirname(os.path.abspath(__file__)), "..", "..", 
 WORDS = ("yes", "no", "unreadable")
 NEEDED_COLUMNS = ("font", "bank", "prints", "failing", "which")
 LABELS = {"short": "short of", "default": "default width", "nominal": "nominal width"}
+PRINTED = ("short", "notes")  # on paper, beside what fails
 MATRIX = ["a", "b", "c", "d", "tx", "ty"]
 
 
@@ -243,9 +244,11 @@ def facts(n, row, columns, messages, needed):
     if row.prints == "unreadable":
         said = message_for(row.font, messages) or ["The file cannot be read as a Type 1 font."]
         out += ['<p class="message">%s</p>' % shown(line) for line in said]
-    rest = [(LABELS.get(c, c.replace("_", " ")), row.of[c]) for c in columns if c not in NEEDED_COLUMNS and row.of[c]]
+    rest = [(c, LABELS.get(c, c.replace("_", " ")), row.of[c]) for c in columns if c not in NEEDED_COLUMNS and row.of[c]]
     if rest:
-        out.append("<table>%s</table>" % "".join('<tr><th scope="row">%s</th><td>%s</td></tr>' % (shown(k), parts(v)) for k, v in rest))
+        lines = ['<tr%s><th scope="row">%s</th><td>%s</td></tr>'
+                 % (' class="printed"' if c in PRINTED else "", shown(label), parts(value)) for c, label, value in rest]
+        out.append("<table>%s</table>" % "".join(lines))
     return "".join(out)
 
 
@@ -386,8 +389,9 @@ body{padding:14px 12px 60px}
 @media print{
 body{padding:0;background:#fff}
 .scroll{max-height:none;max-width:none;overflow:visible}
-#banks>thead th,#banks>tbody>tr>th{position:static;background:#fff}
-#only,label,.hint,.title,.facts table{display:none!important}
+#banks>thead th,#banks>tbody>tr>th{position:static;background:#fff;vertical-align:top}
+#only,label,.hint,.title,.facts tr:not(.printed){display:none!important}
+.facts table{margin:0}
 .facts,.js .facts{display:block;position:static;width:auto;max-height:none;padding:2px 4px;border:0;box-shadow:none;font-size:11px}
 .yes .facts{display:none}
 .cell{vertical-align:top;height:auto}

@@ -16,6 +16,7 @@ import tempfile
 import time
 
 from selenium import webdriver
+from selenium.common.exceptions import WebDriverException
 from selenium.webdriver.chrome.service import Service
 from selenium.webdriver.common.action_chains import ActionChains
 from selenium.webdriver.common.actions.action_builder import ActionBuilder
@@ -81,7 +82,8 @@ class Expected:
     def first(self, word):
         """The cell of this word that has most to show."""
         found = [at for at, row in self.cells.items() if row["prints"] == word]
-        return max(found, key=lambda at: len(self.cells[at]["which"])) if found else None
+        refused = {at: [number for _, number in self.cells[at]["which"] if number != "missing"] for at in found}
+        return max(found, key=lambda at: (len(refused[at]), len(self.cells[at]["which"]))) if found else None
 
 
 def colour_of(rgb):
@@ -119,7 +121,7 @@ class Look:
     def __init__(self, driver, url, expected, size, drawn):
         self.driver, self.url, self.expected, self.drawn = driver, url, expected, drawn
         self.name, self.width, self.height = size
-        self.checks = self.differences = 0
+        self.checks = self.differences = self.followed = self.paths = 0
 
     def same(self, what, got, wanted):
         self.checks += 1
@@ -137,7 +139,10 @@ class Look:
         return self.driver.find_element(By.ID, name)
 
     def button(self, at):
-        return self.one("cell-%d-%d" % at).find_element(By.TAG_NAME, "button")
+        """The cell's button, scrolled to where the heads of the table do not cover it."""
+        b = self.one("cell-%d-%d" % at).find_element(By.TAG_NAME, "button")
+        self.driver.execute_script("arguments[0].scrollIntoView({block: 'nearest', inline: 'nearest'})", b)
+        return b
 
     def open_facts(self):
         return self.driver.execute_script(OPEN)
@@ -165,8 +170,8 @@ class Look:
         ActionChains(self.driver).send_keys(*keys).perform()
 
     def away(self):
-        """The mouse where there is no cell, and nothing that one shows."""
-        self.driver.execute_script("window.scrollTo(0, 0)")
+        """The mouse where there is no cell, and nothing that one shows; the page and the table at their start."""
+        self.driver.execute_script("window.scrollTo(0, 0); document.querySelector('.scroll').scrollTo(0, 0)")
         move = ActionBuilder(self.driver)
         move.pointer_action.move_to_location(*self.driver.execute_script(FREE))
         move.perform()
@@ -241,9 +246,8 @@ class Look:
 
     def links(self):
         """Each failing glyph of the first cells: its link, its drawing, and the way back."""
-        followed = paths = 0
         for at, row in self.expected.cells.items():
-            for i, (name, number) in enumerate([w for w in row["which"] if w[1] != "missing"][:6]):
+            for name, number in [w for w in row["which"] if w[1] != "missing"][:6]:
                 self.away()
                 self.button(at).click()
                 self.shows("cell %d %d: click" % at, at)
@@ -252,12 +256,11 @@ class Look:
                 if not link:
                     continue
                 link[0].click()
-                paths += self.drawing(at, name, number)
-                followed += 1
-            if followed >= 20:
+                self.followed += 1
+                self.paths += self.drawing(at, name, number)
+            if self.followed >= 20:
                 break
-        self.holds("links followed: %d, drawings with a path: %d" % (followed, paths), paths or not followed)
-        return followed, paths
+        self.holds("a drawing with a path", self.paths or not self.followed)
 
     def drawing(self, at, name, number):
         what = "drawing of %s" % name
@@ -313,6 +316,16 @@ class Look:
             self.driver.save_screenshot(os.path.join(folder, "%s-%s.png" % (self.name, name)))
 
     def all(self, shots):
+        """Everything; what stops the browser is a difference too."""
+        try:
+            self.steps(shots)
+        except WebDriverException as e:
+            self.same("the browser stopped", str(e).split("\n")[0], "")
+        print("%s, %d by %d: checks %d, different %d; links followed %d, drawings with a path %d"
+              % (self.name, self.width, self.height, self.checks, self.differences, self.followed, self.paths))
+        return self.differences
+
+    def steps(self, shots):
         self.load()
         self.cells()
         for word in WORDS:
@@ -324,14 +337,11 @@ class Look:
             self.press(Keys.ESCAPE)
         self.hover_to_link()
         self.keys()
-        followed, paths = self.links()
+        self.links()
         self.shot(shots, "drawing")
         self.only()
         self.printed()
         self.quiet()
-        print("%s, %d by %d: checks %d, different %d; links followed %d, drawings with a path %d"
-              % (self.name, self.width, self.height, self.checks, self.differences, followed, paths))
-        return self.differences
 
 
 def browser():
