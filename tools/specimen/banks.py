@@ -1,7 +1,7 @@
 #!/usr/bin/env python3
 """A page that says which fonts each locker bank may print: fonts down, banks across, and the glyphs that fail, drawn.
 
-    banks.py [--cribstork target/bin/cribstork] --banks banks.tsv --need label.txt FONT.. > page.html
+    banks.py [--cribstork target/bin/cribstork] --banks banks.tsv [--need label.txt] FONT.. > page.html
     banks.py --table rows.tsv [--messages errors.txt] [--banks banks.tsv] [--need label.txt] > page.html
 
 The rows are those that `cribstork --banks` prints; nothing is judged here. With --table they are read from a file, and
@@ -168,7 +168,8 @@ class Drawings:
         except specimen.NoFont as e:
             self.fault = str(e)
             return
-        for name, charstring in font.glyphs:
+        for full, charstring in font.glyphs:
+            name = specimen.printed(full)
             if name in names:
                 g = self.of[name] = specimen.Outline(font, name, charstring, specimen.IDENTITY)
                 g.keep_finite()
@@ -549,7 +550,8 @@ def read(path):
 
 def ask(options):
     """The table and the messages of the command."""
-    ran = subprocess.run([options.cribstork, "--banks", options.banks, "--need", options.need] + options.font,
+    need = ["--need", options.need] if options.need else []
+    ran = subprocess.run([options.cribstork, "--banks", options.banks] + need + options.font,
                          stdout=subprocess.PIPE, stderr=subprocess.PIPE)
     sys.stderr.buffer.write(ran.stderr)
     return ran.stdout.decode("latin-1"), ran.stderr.decode("latin-1")
@@ -564,8 +566,8 @@ def main():
     p.add_argument("--messages", metavar="LINES", help="with --table: what the command said on standard error")
     p.add_argument("font", nargs="*", metavar="FONT")
     options = p.parse_args()
-    if not options.table and not (options.banks and options.need and options.font):
-        p.error("--banks, --need and a font are needed, or --table")
+    if not options.table and not (options.banks and options.font):
+        p.error("--banks and a font are needed, or --table")
     try:
         text, errors = (read(options.table), read(options.messages)) if options.table else ask(options)
         columns, rows = read_rows(text)
@@ -573,7 +575,7 @@ def main():
         if totals and [int(v) for v in totals[-1].groups()] != sums_of(*by_font(rows)):
             raise BadTable("the totals differ from the rows: " + totals[-1].group())
         said = read_banks(read(options.banks))
-        needed = read(options.need).split()
+        needed = list(dict.fromkeys(read(options.need).split()))
         refusals = read_refusals(open(REFUSALS, encoding="utf-8").read()) if os.path.exists(REFUSALS) else {}
     except (OSError, BadTable) as e:
         stop(e)

@@ -156,14 +156,14 @@ class Font:
         if at < 0:
             raise NoFont("no CharStrings")
         t = Text(private, at + 12)
-        glyphs = []
+        glyphs = {}  # A name that comes again replaces its charstring.
         while t.skip():
             if private[t.at] == ord("/"):
                 name = t.word(DELIMITERS)[1:].decode("latin-1")
-                glyphs.append((name, t.binary()))
+                glyphs[name] = t.binary()
             elif t.word() == b"end":
                 break
-        return glyphs
+        return list(glyphs.items())
 
 
 # ---- the Type 1 run
@@ -771,6 +771,11 @@ HEX = re.compile(r" {4}((?:[0-9a-f]{2})+)$")
 PAIR = re.compile(r"default width: (-?[\d.]+); nominal width: (-?[\d.]+)$")
 
 
+def printed(name):
+    """A name as the program prints it: a byte that would break a line or a column is a question mark."""
+    return re.sub(r"[\0-\x1f\x7f]", "?", name)
+
+
 def read_table(text):
     """The rows of the table, and the widths below it."""
     rows, widths, inside = [], None, False
@@ -1080,7 +1085,7 @@ def main():
     rows, widths = read_table(ran.stdout.decode("latin-1"))
     if widths is None:
         stop("cribstork printed no table: " + (ran.stderr or ran.stdout).decode("latin-1").strip()[:200])
-    if [r.name for r in rows] != [name for name, _ in font.glyphs]:
+    if [r.name for r in rows] != [printed(name) for name, _ in font.glyphs]:
         stop("cribstork printed other glyphs than the font has: %d for %d" % (len(rows), len(font.glyphs)))
     matrix = asked_matrix(options, font)
     glyphs = [Glyph(font, name, code, row, widths, matrix) for (name, code), row in zip(font.glyphs, rows)]

@@ -29,11 +29,12 @@ def encrypt(plain, key):
 
 
 def odd_font():
-    """A font of two glyphs that are not encrypted: a square, and an unknown operator after a line."""
+    """A font of two glyphs that are not encrypted: a square, and an unknown operator after a line. The first is
+    there twice; the second has a byte in its name that the program prints as a question mark."""
     square = bytes.fromhex("8B F8 88 0D EF EF 15 EF 06 EF 07 27 06 09 0E")
     halted = bytes.fromhex("8B F8 88 0D EF EF 15 EF 06 02")
     private = b"0000/lenIV -1 def /CharStrings 2 dict dup begin\n"
-    for name, code in ((ODD, square), ("halted", halted)):
+    for name, code in ((ODD, b"\x0e"), ("halt\x01ed", halted), (ODD, square)):
         private += b"/%s %d RD %s ND\n" % (name.encode("latin-1"), len(code), code)
     return b"%!PS\n/FontName /Odd def\ncurrentfile eexec\n" + encrypt(private + b"end\n", 55665)
 
@@ -50,8 +51,8 @@ def write_sample(folder):
     rows = [
         [paths[0], "small", "no", "5", ["eight 18", "accent 12", "space 18", "aring missing", "<script> missing"], "output 128 < 203"] + widths + ["-", "-"],
         [paths[0], "large & <wide>", "yes", "0", [], "-"] + widths + ["-", "16 < 32"],
-        [paths[1], "small", "no", "2", [ODD + " 17", "halted 6"], "commands 1 < 5", "500", "500", "-", "6", "<b>bold</b>", "-"],
-        [paths[1], "large & <wide>", "no", "1", ["halted 6"], "-", "500", "500", "14", "6", "-", "-"],
+        [paths[1], "small", "no", "2", [ODD + " 17", "halt?ed 6"], "commands 1 < 5", "500", "500", "-", "6", "<b>bold</b>", "-"],
+        [paths[1], "large & <wide>", "no", "1", ["halt?ed 6"], "-", "500", "500", "14", "6", "-", "-"],
         [paths[2], "small", "unreadable", "-", []] + ["-"] * 7,
         [paths[2], "large & <wide>", "unreadable", "-", []] + ["-"] * 7,
         [paths[3], "small", "no", "1", ["one 18"], "output 1 < 38"] + widths + ["-", "-"],
@@ -69,7 +70,7 @@ def write_sample(folder):
         f.write("# banks\nname\tstems\tcommands\toutput\ta\tb\tc\td\ttx\tty\n\n"
                 "small\t7\t20\t128\t0.5\t0\t0\t0.5\t0\t0 # half\nlarge & <wide>\t64\t256\t1024\t1\t0\t0\t1\t0\t0\n")
     with open(files[3], "w") as f:
-        f.write("space one\n eight\taccent aring <script>\n")
+        f.write("space one\n eight\taccent aring <script> one\n")
     return files, rows
 
 
@@ -110,19 +111,43 @@ class Tree(html.parser.HTMLParser):
         return [x for x in self.all if x["tag"] == tag and e in x["in"]]
 
 
+def run(*arguments):
+    return subprocess.run([sys.executable, os.path.join(HERE, "banks.py"), *arguments], stdout=subprocess.PIPE, stderr=subprocess.PIPE)
+
+
 class Page(unittest.TestCase):
     @classmethod
     def setUpClass(cls):
         cls.folder = tempfile.TemporaryDirectory()
-        (table, messages, banks, label), cls.rows = write_sample(cls.folder.name)
-        made = subprocess.run([sys.executable, os.path.join(HERE, "banks.py"), "--table", table, "--messages", messages,
-                               "--banks", banks, "--need", label], stdout=subprocess.PIPE, check=True)
+        cls.files, cls.rows = write_sample(cls.folder.name)
+        table, messages, banks, label = cls.files
+        made = run("--table", table, "--messages", messages, "--banks", banks, "--need", label)
         cls.text = made.stdout.decode("utf-8")
         cls.tree = Tree(cls.text)
 
     @classmethod
     def tearDownClass(cls):
         cls.folder.cleanup()
+
+    def test_a_program_that_prints_the_table(self):
+        table, messages, banks, label = self.files
+        program = os.path.join(self.folder.name, "program")
+        with open(program, "w") as f:
+            f.write("#!/bin/sh\n[ \"$*\" = '--banks %s --need %s a.pfb b.pfb' ] && cat %s && cat %s >&2\nexit 1\n"
+                    % (banks, label, table, messages))
+        os.chmod(program, 0o755)
+        made = run("--cribstork", program, "--banks", banks, "--need", label, "a.pfb", "b.pfb")
+        self.assertEqual((made.returncode, made.stdout.decode("utf-8")), (0, self.text))
+        with open(messages, "rb") as f:
+            self.assertEqual(made.stderr, f.read())
+
+    def test_totals_that_differ(self):
+        wrong = os.path.join(self.folder.name, "wrong.txt")
+        with open(wrong, "w") as f:
+            f.write("cribstork: fonts 4, banks 2, yes 3, no 3, unreadable 2\n")
+        made = run("--table", self.files[0], "--messages", wrong)
+        self.assertEqual((made.returncode, made.stdout), (2, b""))
+        self.assertIn(b"the totals differ from the rows", made.stderr)
 
     def facts(self, n, m):
         return self.tree.with_id("facts-%d-%d" % (n, m))
@@ -169,7 +194,7 @@ class Page(unittest.TestCase):
         self.assertIn("18 output short, at small", text)
         self.assertTrue(len(paths) == 1 and len(paths[0]) > 200)
         self.assertEqual(self.drawing("font-2-glyph-" + "a~26b~22c~27~7E~E9~2C")[1], ["M100 100L200 100L200 200L100 200Z"])
-        text, paths = self.drawing("font-2-glyph-halted")
+        text, paths = self.drawing("font-2-glyph-halt~3Fed")
         self.assertIn("6 unknown operator, at small, large & <wide>Drawn as far as its run goes.", text)
         self.assertEqual(paths, ["M100 100L200 100Z"])
         text, paths = self.drawing("font-1-glyph-accent")
