@@ -205,11 +205,11 @@ def count(n, word):
     return "%d %s%s" % (n, word, "" if n == 1 else "s")
 
 
-def file_of(path):
-    """A path in two parts: the file, and where it lies."""
+def file_of(path, said=""):
+    """A path in two parts: the file, with what is said of it, and where it lies."""
     folder, name = os.path.split(path)
     folder = '<span class="folder">%s</span>' % shown(folder) if folder else ""
-    return "<b>%s</b>%s" % (shown(name), folder)
+    return "<b>%s</b>%s%s" % (shown(name), said, folder)
 
 
 def parts(text):
@@ -237,7 +237,7 @@ def failing_list(n, row):
 
 def facts(n, row, columns, messages, needed):
     """What a cell shows: why, and then every other column of the row."""
-    out = ['<p class="title"><b>%s</b> at <b>%s</b>: %s</p>' % (shown(os.path.basename(row.font)), shown(row.bank), row.prints)]
+    out = ['<p class="title">%s</p>' % file_of(row.font, " at <b>%s</b>: %s" % (shown(row.bank), row.prints))]
     if row.failing:
         out.append(failing_list(n, row))
     elif row.prints == "yes":
@@ -364,7 +364,7 @@ label{cursor:pointer}
 .number{font-weight:700}
 .glyphs{display:grid;grid-template-columns:repeat(auto-fill,minmax(150px,1fr));gap:10px}
 .blank{display:grid;place-items:center;aspect-ratio:1;padding:10px;color:var(--dim);text-align:center}
-.numbers dt{margin-top:10px;font-weight:600}
+.numbers dt{max-width:71em;margin-top:10px;font-weight:600}
 .numbers dd{margin:0;max-width:70em}
 """ + specimen.FIGURE_STYLE + """\
 .refused .t1{fill:#3d4a57;stroke:#3d4a57;stroke-width:1px}
@@ -373,7 +373,8 @@ figcaption{font-size:12px}
 figcaption b{font-size:13px}
 figcaption>.note{color:var(--ink)}
 figure{scroll-margin:60px 8px 8px}
-figure:target,dt:target{outline:3px solid #1a4f8b;outline-offset:1px}
+figure:target{outline:3px solid #1a4f8b;outline-offset:1px}
+dt:target{background:#dbe6f2;outline:none}
 #only:checked~.scroll .prints{display:none}
 @media(max-width:699px){
 body{padding:14px 12px 60px}
@@ -382,7 +383,7 @@ body{padding:14px 12px 60px}
 #banks>thead th{min-width:80px;max-width:110px;padding:4px}
 #banks>thead b{font-size:13px}
 #banks>tbody>tr>th{min-width:84px;max-width:32vw;padding:4px 4px 4px 2px;font-size:12px}
-#banks .folder{display:none}
+#banks>tbody>tr>th .folder{display:none}
 .cell button{padding:4px 5px;font-size:12px;scroll-margin-left:130px}
 .cell button span{font-size:11px}
 .failing dd>*{padding:6px 10px}
