@@ -310,7 +310,10 @@ def refusal_section(numbers, refusals):
     return '<section class="numbers"><h2>The numbers</h2><dl>%s</dl></section>' % "".join(out) if out else ""
 
 
-MEANT = {"yes": "every needed glyph prints", "no": "a needed glyph is refused or missing", "unreadable": "the file cannot be read as a Type 1 font"}
+MEANT = {
+    "yes": "every needed glyph prints", "no": "a needed glyph is refused or missing",
+    "unreadable": "the file cannot be read as a Type 1 font",
+}
 
 STYLE = """
 :root{--ink:#1f2a35;--dim:#5d6873;--line:#d9d5cd;--red:#b3261e;--paper:#f7f5f1}

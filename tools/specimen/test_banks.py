@@ -49,7 +49,8 @@ def write_sample(folder):
         f.write(b"no font")
     widths = ["480", "347", "996", "117"]
     rows = [
-        [paths[0], "small", "no", "5", ["eight 18", "accent 12", "space 18", "aring missing", "<script> missing"], "output 128 < 203"] + widths + ["-", "-"],
+        [paths[0], "small", "no", "5", ["eight 18", "accent 12", "space 18", "aring missing", "<script> missing"],
+         "output 128 < 203"] + widths + ["-", "-"],
         [paths[0], "large & <wide>", "yes", "0", [], "-"] + widths + ["-", "16 < 32"],
         [paths[1], "small", "no", "2", [ODD + " 17", "halt?ed 6"], "commands 1 < 5", "500", "500", "-", "6", "<b>bold</b>", "-"],
         [paths[1], "large & <wide>", "no", "1", ["halt?ed 6"], "-", "500", "500", "14", "6", "-", "-"],
