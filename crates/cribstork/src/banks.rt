@@ -440,7 +440,7 @@ fn reason(page: &mut [u8], what: usize) {
     page::text(
         page,
         line(
-            b"\nno bank\nno column \nno value for \n is no whole number for \n is more than the program lends, \n is no finite number for \nmore cells than the header has\na bank before has the same name, ",
+            b"\nno bank\nno column \nno value for \n is no whole number for \n is more than the program lends for \n is no finite number for \nmore cells than the header has\na bank before has the same name, ",
             what,
         ),
     );
@@ -487,6 +487,8 @@ fn is_of_cell(what: usize) -> bool {
 // What stands after the words.
 fn say_rest(page: &mut [u8], v: &[u8], f: Fault) {
     if f.what == TOO_MANY {
+        say_column(page, f.column);
+        page::text(page, b", ");
         page::count(page, limit(f.column));
         return;
     }
