@@ -1,7 +1,7 @@
 #!/usr/bin/env python3
-"""Writes the example font `digits.pfb`, and the damaged copies that the program `convert` is tried on.
+"""Writes the example font `digits.pfb`, and the damaged copies that the program `cribstork` is tried on.
 
-    python3 examples/make_digits.py            writes examples/digits.pfb and crates/convert/data/
+    python3 examples/make_digits.py            writes examples/digits.pfb and crates/cribstork/data/
     python3 examples/make_digits.py --check    compares them with what would be written
 
 The digits are drawn here, of strokes of one weight. Between them the glyphs have what a Type 1 font has: hsbw and sbw,
@@ -15,7 +15,7 @@ import sys
 from fractions import Fraction
 
 HERE = os.path.dirname(os.path.abspath(__file__))
-DATA = os.path.join(HERE, "..", "crates", "convert", "data")
+DATA = os.path.join(HERE, "..", "crates", "cribstork", "data")
 LEN_IV = 4
 
 

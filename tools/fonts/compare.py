@@ -1,12 +1,12 @@
 #!/usr/bin/env python3
-"""Compares what the program `convert` prints of fonts with what stet's Rust gives, glyph for glyph.
+"""Compares what the program `cribstork` prints of fonts with what stet's Rust gives, glyph for glyph.
 
     tools/fonts/build.sh
     python3 tools/fonts/compare.py FONT.. [--matrix A B C D TX TY]
 
 It reads the fonts by itself (PFB or plain, eexec in bytes or in hexadecimal digits). Of each glyph it compares the finished
 bytes, their length and the width, of each font both widths, and of a refusal that both refuse. Last are the times: the
-Rust's for converting, choosing the widths and finishing, and the whole program's for `convert`, its table and bytes included.
+Rust's for converting, choosing the widths and finishing, and the whole program's for `cribstork`, its table and bytes included.
 """
 import os
 import re
@@ -81,7 +81,7 @@ def packed(paths):
 def ours(paths, matrix):
     words = ["--table", "--hex"] + (["--matrix"] + matrix if matrix else []) + paths + ["/dev/null", "/dev/null"]
     began = os.times()
-    lines = subprocess.run([os.path.join(HOME, "bin", "convert"), *words], capture_output=True).stdout.decode("latin1").split("\n")
+    lines = subprocess.run([os.path.join(HOME, "bin", "cribstork"), *words], capture_output=True).stdout.decode("latin1").split("\n")
     ended = os.times()
     took = ended.children_user - began.children_user + ended.children_system - began.children_system
     fonts, here = {}, None
@@ -138,7 +138,7 @@ def main():
     for at in range(0, len(words), 20):
         sums = [a + b for a, b in zip(sums, compare(words[at:at + 20], matrix))]
     print(f"fonts: {len(words)}, glyphs: {sums[0]}, refused by both: {sums[1]}, different: {sums[2]}; "
-          f"the Rust: {sums[3]:.3f} s, convert: {sums[4]:.3f} s of processor time")
+          f"the Rust: {sums[3]:.3f} s, cribstork: {sums[4]:.3f} s of processor time")
     return sums[2] != 0
 
 
