@@ -216,6 +216,9 @@ fn step(v: &[u8], f: Font, t: Token) -> Font {
     if t.kind == tokens::OPEN {
         return after_procedure(v, f, t);
     }
+    if t.kind == tokens::OPEN_ARRAY {
+        return passed(f, tokens::array_end(v, t.end));
+    }
     if t.kind == tokens::NAME {
         return named(v, f, t);
     }
@@ -302,8 +305,11 @@ fn charstrings(
     let u = tokens::next(v, t.end);
     let n = tokens::whole(v, u);
     let w = tokens::next(v, u.end);
-    if !n.found || n.negative || !tokens::is_word(v, w, b"dict") {
+    if takes_name(v, u) {
         return passed(f, t.end);
+    }
+    if !n.found || n.negative || !tokens::is_word(v, w, b"dict") {
+        return failed(f, trouble::DAMAGED, t.at);
     }
     if f.chars != 0 {
         return failed(f, trouble::SECOND, t.at);
@@ -331,6 +337,14 @@ fn private_end(f: Font, at: usize) -> Font {
     ended(f)
 }
 
+// What a step gives: once CharStrings is read, what does not end ends the private part.
+fn private_after(f: Font, g: Font) -> Font {
+    if f.chars != 0 && g.what == trouble::NOT_CLOSED {
+        return private_end(f, g.at);
+    }
+    g
+}
+
 // A token of the private part: `closefile` ends it.
 fn private_step(
     v: &[u8],
@@ -344,11 +358,8 @@ fn private_step(
     if t.kind == tokens::END || tokens::is_word(v, t, b"closefile") {
         return private_end(f, t.at);
     }
-    if t.kind == tokens::BROKEN && f.chars != 0 {
-        return private_end(f, t.at);
-    }
     if t.kind != tokens::NAME {
-        return step(v, f, t);
+        return private_after(f, step(v, f, t));
     }
     match line_number(b"Subrs\nCharStrings", 2, tokens::text(v, t)) {
         0 => subrs(v, f, t, list),

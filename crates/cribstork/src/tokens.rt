@@ -210,12 +210,12 @@ pub(crate) fn next(v: &[u8], from: usize) -> Token {
     token_of(WORD, at, name_end(v, at))
 }
 
-// How deep the procedures are after a token.
-fn depth_after(depth: usize, kind: usize) -> usize {
-    if kind == OPEN {
+// How deep procedures or arrays are after a token; one kind opens them, another closes them.
+fn depth_after(depth: usize, kind: usize, open: usize, close: usize) -> usize {
+    if kind == open {
         return place(depth, 1);
     }
-    if kind == CLOSE {
+    if kind == close {
         return less(depth, 1);
     }
     depth
@@ -226,9 +226,9 @@ fn is_binary(v: &[u8], t: Token) -> bool {
     (t.kind == WORD || t.kind == NAME) && !is_printable(text(v, t))
 }
 
-// The place after the procedure whose first token stands from a place on; the largest number where it does
-// not end.
-pub(crate) fn procedure_end(v: &[u8], from: usize) -> usize {
+// The place after the procedure or array whose first token stands from a place on; the largest number where it
+// does not end.
+fn closed_end(v: &[u8], from: usize, open: usize, close: usize) -> usize {
     let mut at = from;
     let mut depth: usize = 1;
     let mut turns = v.len();
@@ -238,13 +238,27 @@ pub(crate) fn procedure_end(v: &[u8], from: usize) -> usize {
         if t.kind == END || t.kind == BROKEN || is_binary(v, t) {
             return usize::MAX;
         }
-        depth = depth_after(depth, t.kind);
+        depth = depth_after(depth, t.kind, open, close);
         at = t.end;
         if depth == 0 {
             return at;
         }
     }
     usize::MAX
+}
+
+// The place after the procedure.
+pub(crate) fn procedure_end(v: &[u8], from: usize) -> usize {
+    closed_end(v, from, OPEN, CLOSE)
+}
+
+// The place after the array; the place asked where it does not end.
+pub(crate) fn array_end(v: &[u8], from: usize) -> usize {
+    let end = closed_end(v, from, OPEN_ARRAY, CLOSE_ARRAY);
+    if end == usize::MAX {
+        return from;
+    }
+    end
 }
 
 // A token's bytes.
