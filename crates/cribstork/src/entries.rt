@@ -138,16 +138,18 @@ fn stores(v: &[u8], t: Token) -> bool {
         < 5
 }
 
-// The first word after an entry's bytes: the word that stored the first one, or PostScript's own.
+// The first word after an entry's bytes: one of PostScript's own, or the word that stored the first one that was
+// stored by another.
 fn stored(v: &[u8], e: Entries, t: Token) -> Entries {
-    if !is_same_word(v, t, e.stores) && !stores(v, t) {
-        return failed(e, trouble::OTHER_WORD, t.at);
-    }
     let mut f = passed(e, t.end);
     f.waits = false;
-    if e.stores == 0 {
-        f.stores = token_span(t);
+    if stores(v, t) {
+        return f;
     }
+    if !is_same_word(v, t, e.stores) {
+        return failed(e, trouble::OTHER_WORD, t.at);
+    }
+    f.stores = token_span(t);
     f
 }
 
@@ -213,7 +215,7 @@ fn is_length(v: &[u8], e: Entries, t: Token) -> bool {
 
 // A token that can be neither in the array nor after it.
 fn is_damage(v: &[u8], e: Entries, t: Token) -> bool {
-    if t.kind == tokens::BROKEN {
+    if t.kind == tokens::BROKEN || t.kind == tokens::CLOSE {
         return true;
     }
     t.kind == tokens::WORD && (!tokens::is_number(v, t) || is_length(v, e, t))

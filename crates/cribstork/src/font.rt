@@ -210,7 +210,7 @@ fn after_procedure(v: &[u8], f: Font, t: Token) -> Font {
 
 // A token of either part.
 fn step(v: &[u8], f: Font, t: Token) -> Font {
-    if t.kind == tokens::BROKEN {
+    if t.kind == tokens::BROKEN || t.kind == tokens::CLOSE {
         return failed(f, trouble::NOT_CLOSED, t.at);
     }
     if t.kind == tokens::OPEN {
