@@ -1,9 +1,21 @@
 // Reading and writing bytes at any place: what is beyond the end reads as 0, and is not written.
-ghost use Prim.Native.Nat.{_≤_};
+ghost use Prim.Native.Nat.{_≤_, _<_};
 
 // The byte at a place; 0 beyond the end.
 pub(crate) fn byte(v: &[u8], at: usize) -> u8 {
     if at < v.len() { v[at] } else { 0 }
+}
+
+// A byte as a larger number.
+pub(crate) fn wide(b: u8) -> usize
+    ensures { λ r. ⌜ r < 256 ⌝ }
+{
+    b as usize
+}
+
+// A number's lowest byte.
+pub(crate) fn low_byte(n: usize) -> u8 {
+    (n % 256) as u8
 }
 
 // Writes a byte at a place; nothing beyond the end.

@@ -1,5 +1,4 @@
 // A font's file: what kind it is, PFB segments, the eexec part.
-ghost use Prim.Native.Nat.{_<_};
 use crate::bytes::byte;
 use crate::bytes::copy;
 use crate::bytes::is_space;
@@ -8,6 +7,7 @@ use crate::bytes::place;
 use crate::bytes::put;
 use crate::bytes::smaller;
 use crate::bytes::starts;
+use crate::bytes::wide;
 use crate::number::hex_value;
 use crate::number::is_hex;
 use crate::trouble;
@@ -105,12 +105,6 @@ fn other_text(v: &[u8]) -> usize {
         return 12;
     }
     0
-}
-
-fn wide(b: u8) -> usize
-    ensures { λ r. ⌜ r < 256 ⌝ }
-{
-    b as usize
 }
 
 // A PFB segment's length: four bytes, the lowest first.

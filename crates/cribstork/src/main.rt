@@ -191,9 +191,9 @@ fn shows_progress(o: Options) -> bool {
 }
 
 // The names of the columns.
-fn columns_if(page: &mut [u8], wanted: bool, label: usize) {
+fn columns_if(page: &mut [u8], wanted: bool, label: &[u8]) {
     if wanted {
-        say::label(page, label);
+        page::text(page, label);
         page::end(page);
     }
 }
@@ -206,7 +206,11 @@ fn do_tables(page: &mut [u8], o: Options, progress: bool) {
         say_fault(options::with_long_names(o));
         return;
     }
-    columns_if(page, o.fonts > 1, 18);
+    columns_if(
+        page,
+        o.fonts > 1,
+        b"font\tglyphs\tconverted\trefused\tnumbers\tdefault\tnominal\tstems\tcommands\toutput\tnotes",
+    );
     let t = do_arguments(page, o, b"", part(&names, 0, n), progress);
     finish(page, t, 0, progress);
 }
@@ -268,7 +272,11 @@ fn say_no_names(i: usize) {
 
 // The rows of all fonts, with the banks and the names that were read.
 fn do_rows(page: &mut [u8], o: Options, banks: &[u8], need: &[u8], progress: bool) {
-    columns_if(page, true, 19);
+    columns_if(
+        page,
+        true,
+        b"font\tbank\tprints\tfailing\twhich\tshort\tdefault\tnominal\tglyph_bytes\tsubroutine_bytes\tnotes",
+    );
     let t = do_arguments(page, o, banks, need, progress);
     finish(page, t, banks::count(banks), progress);
 }

@@ -2,14 +2,15 @@
 // wait, the fourth whether a write failed, and the fifth the file that they go to.
 ghost use mathlib.Core.Path.{_≡_};
 ghost use lib.ListN.{length};
-ghost use Prim.Native.Nat.{_≤_};
 use crate::bytes::byte;
 use crate::bytes::copy;
 use crate::bytes::less;
+use crate::bytes::low_byte;
 use crate::bytes::part;
 use crate::bytes::place;
 use crate::bytes::put;
 use crate::bytes::smaller;
+use crate::bytes::wide;
 
 const HEAD: usize = 5;
 
@@ -30,19 +31,9 @@ pub(crate) fn errors() -> [u8; 4096]
     page
 }
 
-fn wide(b: u8) -> usize
-    ensures { λ r. ⌜ r ≤ 255 ⌝ }
-{
-    b as usize
-}
-
 // How many bytes wait.
 fn waiting(page: &[u8]) -> usize {
     wide(byte(page, 0)) + 256 * wide(byte(page, 1)) + 65536 * wide(byte(page, 2))
-}
-
-fn low_byte(n: usize) -> u8 {
-    (n % 256) as u8
 }
 
 fn set_waiting(page: &mut [u8], n: usize) {

@@ -17,17 +17,6 @@ pub(crate) fn refusal(page: &mut [u8], number: usize) {
     );
 }
 
-// The words between numbers, each on its line.
-pub(crate) fn label(page: &mut [u8], n: usize) {
-    text(
-        page,
-        line(
-            b"glyphs: \n; converted: \n; refused: \ndefault width: \n; nominal width: \nlargest stores needed: stems \n, commands \n, output \n  refused with \n, glyphs: \n; \nFontMatrix: \n; lenIV: \n; not encrypted\n; subroutines: \n; bytes of the bank: \nglyph                       number  bytes       width    run\nno glyph named \nfont\tglyphs\tconverted\trefused\tnumbers\tdefault\tnominal\tstems\tcommands\toutput\tnotes\nfont\tbank\tprints\tfailing\twhich\tshort\tdefault\tnominal\tglyph_bytes\tsubroutine_bytes\tnotes\nnotes: \nover \n of \n, declared \n defined again \nno FontMatrix\nno FontType\nno Subrs",
-            n,
-        ),
-    );
-}
-
 // What is wrong with a file, each on its line: trouble's numbers.
 fn form(page: &mut [u8], what: usize) {
     text(

@@ -1,6 +1,7 @@
 // The subroutine bank of a font: a count, the offsets, the bodies.
 use crate::bytes::copy;
 use crate::bytes::four_times;
+use crate::bytes::low_byte;
 use crate::bytes::place;
 use crate::bytes::put;
 use crate::bytes::span_at;
@@ -16,11 +17,6 @@ pub(crate) fn bank_length(list: &[u64], count: usize) -> usize {
         i += 1;
     }
     n
-}
-
-// A number's lowest byte.
-fn low_byte(n: usize) -> u8 {
-    (n % 256) as u8
 }
 
 fn put_u16(v: &mut [u8], at: usize, n: usize) {

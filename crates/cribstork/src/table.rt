@@ -171,13 +171,13 @@ pub(crate) fn glyphs(
 }
 
 // A label and a number, or a width.
-fn print_item(page: &mut [u8], label: usize, n: usize) {
-    say::label(page, label);
+fn print_item(page: &mut [u8], label: &[u8], n: usize) {
+    page::text(page, label);
     page::count(page, n);
 }
 
-fn print_width(page: &mut [u8], label: usize, x: f64) {
-    say::label(page, label);
+fn print_width(page: &mut [u8], label: &[u8], x: f64) {
+    page::text(page, label);
     doubles::text(page, x);
 }
 
@@ -186,10 +186,10 @@ fn print_refusal(page: &mut [u8], number: usize, n: u64) {
     if n == 0 {
         return;
     }
-    print_item(page, 8, number);
-    say::label(page, 9);
+    print_item(page, b"  refused with ", number);
+    page::text(page, b", glyphs: ");
     page::whole(page, n);
-    say::label(page, 10);
+    page::text(page, b"; ");
     say::refusal(page, number);
     page::end(page);
 }
@@ -205,7 +205,7 @@ fn print_refusals(page: &mut [u8], refusals: &[u64]) {
 // What is needed of a store, or that it is over what the program lends.
 pub(crate) fn print_need(page: &mut [u8], n: usize, limit: usize) {
     if n > limit {
-        say::label(page, 21);
+        page::text(page, b"over ");
         page::count(page, limit);
         return;
     }
@@ -213,24 +213,32 @@ pub(crate) fn print_need(page: &mut [u8], n: usize, limit: usize) {
 }
 
 fn print_stores(page: &mut [u8], t: Totals) {
-    say::label(page, 5);
+    page::text(page, b"largest stores needed: stems ");
     print_need(page, t.stems, crate::STEMS);
-    say::label(page, 6);
+    page::text(page, b", commands ");
     print_need(page, t.commands, converting::ENTRIES);
-    say::label(page, 7);
+    page::text(page, b", output ");
     print_need(page, t.output, converting::OUTPUT);
     page::end(page);
 }
 
+fn print_counts(page: &mut [u8], t: Totals) {
+    print_item(page, b"glyphs: ", t.glyphs);
+    print_item(page, b"; converted: ", t.converted);
+    print_item(page, b"; refused: ", less(t.glyphs, t.converted));
+    page::end(page);
+}
+
+fn print_widths(page: &mut [u8], w: widths::Chosen) {
+    print_width(page, b"default width: ", w.widths.default_width_x);
+    print_width(page, b"; nominal width: ", w.widths.nominal_width_x);
+    page::end(page);
+}
+
 fn print_totals(page: &mut [u8], t: Totals, w: widths::Chosen, refusals: &[u64]) {
-    print_item(page, 0, t.glyphs);
-    print_item(page, 1, t.converted);
-    print_item(page, 2, less(t.glyphs, t.converted));
-    page::end(page);
+    print_counts(page, t);
     print_refusals(page, refusals);
-    print_width(page, 3, w.widths.default_width_x);
-    print_width(page, 4, w.widths.nominal_width_x);
-    page::end(page);
+    print_widths(page, w);
     print_stores(page, t);
 }
 
@@ -283,7 +291,7 @@ fn note_count(page: &mut [u8], n: usize, declared: usize, what: &[u8], before: b
     note_after(page, before);
     page::text(page, what);
     page::count(page, n);
-    print_item(page, 23, declared);
+    print_item(page, b", declared ", declared);
     true
 }
 
@@ -294,17 +302,17 @@ fn note_again(page: &mut [u8], n: usize, what: &[u8], before: bool) -> bool {
     }
     note_after(page, before);
     page::text(page, what);
-    print_item(page, 24, n);
+    print_item(page, b" defined again ", n);
     true
 }
 
 // What the font does not define.
-fn note_lack(page: &mut [u8], defined: bool, label: usize, before: bool) -> bool {
+fn note_lack(page: &mut [u8], defined: bool, label: &[u8], before: bool) -> bool {
     if defined {
         return before;
     }
     note_after(page, before);
-    say::label(page, label);
+    page::text(page, label);
     true
 }
 
@@ -322,9 +330,9 @@ fn note_counts(page: &mut [u8], f: Font) -> bool {
 }
 
 fn note_lacks(page: &mut [u8], f: Font, before: bool) -> bool {
-    let a = note_lack(page, f.matrix != 0, 25, before);
-    let b = note_lack(page, f.typed, 26, a);
-    note_lack(page, f.subrs != 0, 27, b)
+    let a = note_lack(page, f.matrix != 0, b"no FontMatrix", before);
+    let b = note_lack(page, f.typed, b"no FontType", a);
+    note_lack(page, f.subrs != 0, b"no Subrs", b)
 }
 
 fn has_notes(f: Font) -> bool {
@@ -409,16 +417,16 @@ fn print_matrix(page: &mut [u8], v: &[u8], from: usize) {
 // The bytes that a charstring drops, or that there are none.
 fn print_len_iv(page: &mut [u8], len_iv: usize) {
     if len_iv == usize::MAX {
-        say::label(page, 13);
+        page::text(page, b"; not encrypted");
         return;
     }
-    print_item(page, 12, len_iv);
+    print_item(page, b"; lenIV: ", len_iv);
 }
 
 // A line of notes, if there are any.
 fn notes_line(page: &mut [u8], f: Font) {
     if has_notes(f) {
-        say::label(page, 20);
+        page::text(page, b"notes: ");
         some_notes(page, f);
         page::end(page);
     }
@@ -426,11 +434,11 @@ fn notes_line(page: &mut [u8], f: Font) {
 
 // The line of what the font defines.
 fn definitions(page: &mut [u8], v: &[u8], f: Font, bank: &[u8]) {
-    say::label(page, 11);
+    page::text(page, b"FontMatrix: ");
     print_matrix(page, v, f.matrix);
     print_len_iv(page, f.len_iv);
-    print_item(page, 14, f.count);
-    print_item(page, 15, bank.len());
+    print_item(page, b"; subroutines: ", f.count);
+    print_item(page, b"; bytes of the bank: ", bank.len());
     page::end(page);
 }
 
@@ -440,7 +448,10 @@ fn print_font(page: &mut [u8], path: &[u8], v: &[u8], f: Font, bank: &[u8]) {
     page::end(page);
     definitions(page, v, f, bank);
     notes_line(page, f);
-    say::label(page, 16);
+    page::text(
+        page,
+        b"glyph                       number  bytes       width    run",
+    );
     page::end(page);
 }
 
@@ -449,7 +460,7 @@ fn print_missing(page: &mut [u8], name: &[u8], lacks: bool) {
     if !lacks {
         return;
     }
-    say::label(page, 17);
+    page::text(page, b"no glyph named ");
     page::name(page, name);
     page::end(page);
 }
