@@ -285,20 +285,18 @@ def read_ours(binary, paths):
 # ---- comparing
 
 class Run(specimen.Type1Run):
-    """The Type 1 run of decrypted bytes, with the bodies that it used. Each body counts `lead` bytes more."""
+    """The Type 1 run of decrypted bytes, with the bodies that it used. `charged` counts the charstrings that it ran, to each of
+    which lenIV bytes are added. A body that is not there has none, and runs as an empty one."""
 
     def __init__(self, subrs):
-        super().__init__(SimpleNamespace(subrs=subrs, len_iv=None))
-        self.used, self.charged = {}, 0
-
-    def charge(self, data):
-        self.charged += 1
-        super().charge(data)
+        super().__init__(SimpleNamespace(subrs=[s or b"" for s in subrs], len_iv=None))
+        self.given, self.used, self.charged = subrs, {}, 1
 
     def call(self, depth):
         n = self.stack[-1] if self.stack else None
         if n is not None and 0 <= n < len(self.subrs):
-            self.used[int(n)] = self.subrs[int(n)]
+            self.used[int(n)] = self.given[int(n)]
+            self.charged += self.given[int(n)] is not None
         return super().call(depth)
 
 
@@ -394,6 +392,11 @@ def same_outline(drawn, theirs, matrix):
         len(a) == len(b) and all(s == t and near(p, q) for (s, p), (t, q) in zip(a, b)) for a, b in zip(mine, other))
 
 
+def shown(name):
+    """A glyph's name as our table shows it."""
+    return bytes(ord("?") if b < 32 or b == 127 else b for b in name)
+
+
 def by_name(pairs):
     out = {}
     for name, value in pairs:
@@ -404,11 +407,12 @@ def by_name(pairs):
 def against(ours, theirs, contents):
     """What differs between ours and another reader's reading."""
     mine = by_name((row.name, row) for row in ours.rows)
+    theirs = dict(theirs, glyphs=[(shown(name), code) for name, code in theirs["glyphs"]])
     other = by_name(theirs["glyphs"])
     lead = ours.len_iv if ours.len_iv is not None else 0
-    subrs = [s or b"" for s in theirs["subrs"]]
-    # A body that is declared and not there is empty.
-    subrs += [b""] * (ours.subrs - len(subrs))
+    # A body that is declared and not there: none. FreeType shows it as an empty one.
+    subrs = [(s or None) if "declared" in theirs else s for s in theirs["subrs"]]
+    subrs += [None] * (ours.subrs - len(subrs))
     found = {
         "only ours": sorted(set(mine) - set(other)), "only theirs": sorted(set(other) - set(mine)),
         "twice ours": sorted(n for n, v in mine.items() if len(v) > 1), "twice theirs": sorted(n for n, v in other.items() if len(v) > 1),
