@@ -1,20 +1,277 @@
-"""The classes of disagreements between readers."""
+"""The classes of disagreements between our reader, fontTools and FreeType, and the rule that each follows.
+
+`classify` takes what readers.py found of a file. It gives the disagreements, each as (class, what it is), with None for a class where
+none applies, and the faults of our program. A class is given by what a reader said and by what is known of the copy, and not by the
+kind of damage alone: our message, the other's error, where the copy differs from its font (before eexec, in the private part, behind
+CharStrings), and whether our glyphs are those of the undamaged font.
+"""
+import re
+
+# Copies of these kinds are lawful fonts: we are to read them.
+LAWFUL = {"segments-split", "hex-case", "recoded", "glyph-moved", "comment", "form", "glyph-removed", "body-removed", "glyph-doubled", "body-doubled",
+          "clear-names", "private-names", "charstring-byte", "charstring-part"}
+# Copies of these kinds have other glyphs than their font, in ways that no reader can tell from a font that was made so.
+OTHER_GLYPHS = {"charstring-byte", "charstring-part", "other-subr", "glyph-removed", "glyph-doubled", "glyph-renamed", "body-removed", "body-doubled", "short", "lenIV"}
+
 CLASSES = {}
+
+
+def new(name, why):
+    CLASSES[name] = why
+    return name
+
+
+# ---- we refuse, the other reads
+
+REFUSED = [
+    (r"no PFB segment|a PFB segment runs past", "FreeType",
+     new("a PFB segment behind the private part is damaged: FreeType reads",
+         "FreeType takes the first segment and the binary ones after it, and looks at nothing behind them. We follow all segments up to the end mark, as fontTools does: "
+         "where one is damaged, nothing says which bytes of the file are the font's.")),
+    (r"FontType is not 1", None,
+     new("FontType is not 1: FreeType reads", "FreeType does not look at FontType. Another type has other charstrings.")),
+    (r"multiple-master font", None,
+     new("a multiple-master font: fontTools and FreeType read", "WeightVector, or a call of OtherSubrs 14 to 18: a glyph is blended from several designs. The board has no such blending; "
+         "FreeType has it, and fontTools does not run the charstrings.")),
+    (r"FontMatrix is not six", "fontTools",
+     new("FontMatrix is not six finite numbers: fontTools reads", "fontTools takes any object as FontMatrix.")),
+    (r"FontMatrix is not six", "FreeType",
+     new("FontMatrix is not six finite numbers: FreeType reads", "FreeType takes the first six numbers, whatever follows, and does not ask for the closing bracket.")),
+    (r"lenIV is neither", "fontTools",
+     new("lenIV beyond 65535: fontTools reads", "fontTools drops that many bytes of each charstring: nothing is left of any glyph.")),
+    (r"lenIV is neither", "FreeType",
+     new("lenIV is no whole number, or below -1: FreeType reads", "FreeType reads 4.0 and (4) as 4 or as 0, and takes every negative number for charstrings that are not encrypted; T1 has only -1.")),
+    (r"(charstring|subroutine) shorter than lenIV", "fontTools",
+     new("a charstring or subroutine shorter than lenIV: fontTools reads", "fontTools takes it as an empty one. FreeType refuses the font, as we do.")),
+    (r"CharStrings ends without its end|no hexadecimal digit", "FreeType",
+     new("CharStrings is cut before its end: FreeType reads", "The text ends, or in a part of hexadecimal digits another byte ends it. FreeType keeps the glyphs before the cut, and nothing tells that others "
+         "are lost.")),
+    (r"CharStrings is damaged|an entry with no length|a length runs past", "FreeType",
+     new("CharStrings is damaged before its end: FreeType reads", "FreeType passes over every token that is no name, and takes the next name for a glyph: a glyph may be lost or have a part of another's bytes.")),
+    (r"Subrs is damaged|an entry with no length", "FreeType",
+     new("Subrs is damaged: FreeType reads", "FreeType ends the array at the first token that is not dup. The subroutines behind it are lost, and nothing tells.")),
+    (r"a subroutine number beyond", "FreeType",
+     new("a subroutine number beyond the array: FreeType reads", "Where an array is declared that the rest of the file has no room for, FreeType keeps subroutines by number and takes any number.")),
+    (r"too many subroutines", None,
+     new("more than 16,384 subroutines are declared: the other reads", "The limit of our program, which it names. The count is damaged in each of these copies.")),
+    (r"no eexec|that does not end|no CharStrings is defined", "FreeType",
+     new("eexec is not executed: FreeType reads", "In a PFB file FreeType takes the binary segment for the private part, whether the text before it executes eexec or not.")),
+    (r"a string or a procedure that does not end", "FreeType",
+     new("a stray delimiter in the private part: FreeType reads", "A parenthesis or an angle bracket that nothing opened or closes. FreeType's private part begins at /Private, "
+         "and it passes over more than PostScript does.")),
+    (r"defined a second time", None,
+     new("Subrs or CharStrings is defined a second time: the other reads", "FreeType keeps the first, fontTools the second. We do not choose.")),
+    (r"no CharStrings is defined|that does not end", "fontTools",
+     new("the count of CharStrings is negative: fontTools reads", "fontTools throws the count away. PostScript's dict refuses a negative one.")),
+    (r"a subroutine number beyond", "fontTools",
+     new("a negative subroutine number: fontTools reads", "Python counts it from the end of the list.")),
+    (r"an entry with no length, or no bytes|CharStrings is damaged|Subrs is damaged", "fontTools",
+     new("no space behind the word that reads a charstring: fontTools reads", "fontTools passes over any byte there, as FreeType does. PostScript's readstring begins with a byte that is no white space: the charstring would be shifted.")),
+]
+
+
+def refused_by_us(r, other):
+    message, o = r["ours"]["message"], r[other]
+    for pattern, reader, name in REFUSED:
+        if reader in (None, other) and re.search(pattern, message):
+            if name.startswith("eexec is not executed") and r.get("where") != "clear":
+                continue
+            return name
+    return None
+
+
+# ---- the other refuses, we read
+
+FONTTOOLS = [
+    (r"'NoneType' object has no attribute 'value'",
+     new("a subroutine of the array is not defined: fontTools refuses", "fontTools fails on the null that PostScript has there. We say how many there are of how many (a note); FreeType reads too.")),
+    (r"^T1Error: not a Type 1 font",
+     new("FontType is not written '/FontType 1 def': fontTools refuses", "fontTools searches the text for exactly that.")),
+    (r"^T1Error: not a PostScript font",
+     new("the first line is not '%!PS-AdobeFont' or '%!FontType1': fontTools and FreeType refuse", "A comment, which PostScript passes over, and we too.")),
+    (r"^T1Error: not an encrypted Type 1 font",
+     new("'currentfile eexec' is not written so: fontTools refuses", "fontTools searches the text for exactly that. We ask for eexec, executed.")),
+    (r"^T1Error: can't find end of eexec part|^T1Error: invalid end",
+     new("no 512 zeros, or no 'currentfile closefile': fontTools refuses", "fontTools finds the end of a private part without segments by them, and the beginning by the first 'currentfile eexec', "
+         "also in a comment. All glyphs stand before it.")),
+    (r"^T1Error: (corrupt PFB|bad chunk)|^ValueError: string must be 4 bytes|^TypeError: ord\(\)",
+     new("no end mark of the PFB file: fontTools refuses", "All segments before it are whole.")),
+    (r"^AssertionError",
+     new("lenIV is -1: fontTools refuses", "fontTools has no charstrings that are not encrypted.")),
+    (r"Odd-length string|Non-hexadecimal digit",
+     new("hexadecimal digits behind CharStrings are damaged: fontTools refuses", "fontTools wants whole bytes up to the zeros. All glyphs stand before the damage.")),
+    (r"^(PSError|PSTokenError|TypeError|IndexError|RuntimeError|KeyError|AttributeError|ValueError|UnicodeDecodeError|RecursionError|MemoryError|OverflowError|UnboundLocalError|Error)",
+     new("a token that defines nothing we read is damaged: fontTools refuses", "fontTools executes every token of the program: a word that is not known, a missing operand, a number that is none. "
+         "We read what is defined, and our glyphs are those of the undamaged font, or those that FreeType reads too.")),
+]
+
+STRINGS = new("an escaped parenthesis in a string: fontTools refuses", "fontTools' pattern for strings does not know it. FreeType and we read.")
+NOT_ENDING = new("fontTools does not end", "Its pattern for strings tries every way to split a long string.")
+
+HEADER = "the first line is not '%!PS-AdobeFont' or '%!FontType1': fontTools and FreeType refuse"
+FIRST_SEGMENT = new("the first segment of a PFB file is of kind 2: FreeType refuses", "FreeType wants kind 1 first. We and fontTools take both kinds alike.")
+ENCODING = new("a code beyond 255 in Encoding: fontTools and FreeType refuse", "We do not read Encoding: a board asks by name.")
+EMPTY = new("a charstring of exactly lenIV bytes: FreeType refuses", "It has no byte to run. FreeType wants one at least; we and fontTools read a glyph that draws nothing.")
+MATRIX = new("the fourth number of FontMatrix is 0: FreeType refuses", "FreeType divides by it. Six finite numbers are a matrix for us; a board that asks for it is told.")
+MORE = new("more glyphs than are declared: FreeType refuses", "FreeType makes room for five more, and refuses a dictionary that is declared to be empty. We read all and say how many are declared (a note); PostScript's "
+           "dictionaries grow.")
+CLEAR = new("a key or a token before eexec that we do not read is damaged: FreeType refuses",
+            "FontBBox, FontInfo, Encoding or a brace that nothing opened. FreeType reads these; the glyphs do not depend on them, and ours are those of the undamaged font.")
+AFTER = new("the text behind CharStrings is damaged: FreeType refuses", "FreeType reads on up to closefile. All glyphs and subroutines stand before it, and ours are those of the undamaged font.")
+PRIVATE = new("a key or a token of the private part that we do not read is damaged: FreeType refuses",
+              "A brace that nothing opened, hints that are no numbers, or /Private itself, without which FreeType looks for no CharStrings. Our glyphs are those of the undamaged font.")
+
+
+def unchanged(r):
+    """Our glyphs and subroutines are those of the undamaged font; a copy with other glyphs is judged by another reader."""
+    f = r["ours"].get("from source")
+    return f is not None and not (f["missing"] or f["added"] or f["changed"]) and f["subroutines"][0] == f["subroutines"][1]
+
+
+def agrees(r, other):
+    """The other reader has the same glyphs with the same bytes."""
+    d = r[other].get("differs")
+    return d is not None and not (d["only ours"] or set(d["only theirs"]) - {b".notdef"} or d["contents"])
+
+
+def refused_by_fonttools(r):
+    error = r["fontTools"]["error"]
+    if r["fontTools"]["state"] == "hang":
+        return NOT_ENDING
+    if re.search(r"\\\\[()]", r["what"]) and re.match(r"PS(Token)?Error", error) and agrees(r, "FreeType"):
+        return STRINGS
+    if "list assignment index out of range" in error and r.get("where") == "clear" and unchanged(r):
+        return ENCODING
+    for pattern, name in FONTTOOLS:
+        if re.search(pattern, error):
+            known = name.startswith(("a subroutine of the array", "lenIV is -1"))
+            return name if known or unchanged(r) or agrees(r, "FreeType") or r["kind"] == "as it is" and agrees(r, "FreeType") else None
+    return None
+
+
+def notes(r):
+    return " ".join(r["ours"]["notes"])
+
+
+def refused_by_freetype(r):
+    error, f = r["FreeType"]["error"], r["ours"].get("from source")
+    good = unchanged(r) or agrees(r, "fontTools")
+    if "unknown file format" in error and good:
+        return FIRST_SEGMENT if r["kind"] == "segment-kind" else HEADER
+    found = re.search(r"(\d+) glyphs, (\d+) declared", notes(r))
+    if found and int(found.group(1)) > int(found.group(2)) and ("invalid argument" in error or found.group(2) == "0"):
+        return MORE
+    if r["ours"]["empty"] and agrees(r, "fontTools"):
+        return EMPTY
+    if not good:
+        return None
+    numbers = r["ours"]["matrix"].split()
+    if len(numbers) == 6 and float(numbers[3]) == 0:
+        return MATRIX
+    if r.get("where") == "clear":
+        return ENCODING if "invalid argument" in error else CLEAR
+    if r.get("where") == "after":
+        return AFTER
+    return PRIVATE if r.get("where") == "private" else None
+
+
+# ---- both read
+
+TWICE = new("a glyph is defined twice: FreeType lists both", "PostScript and fontTools keep the later one, and so do we, with a note. FreeType has two glyphs of that name, and finds the first by name.")
+NOTDEF = new("no .notdef: FreeType adds one", "FreeType makes one of its own, 500 wide. We list what the font defines.")
+COUNT = new("fewer subroutines than declared: FreeType shortens the array", "It allows one subroutine for eight bytes that are left of the file. The subroutines that are there are the same.")
+STOPPED = new("FreeType loses subroutines", "It ends the array at a token that is not dup, or is misled by a string within a procedure (it passes over the byte behind the string's end). "
+              "Ours are those of the undamaged font, or fontTools has the same as we.")
+EMPTY_BODY = new("a subroutine of exactly lenIV bytes: the bytes run are counted otherwise", "FreeType gives it as one that is not there. What is drawn is the same.")
+DRAWN = new("the same bytes, drawn otherwise by FreeType", "The charstring or a subroutine is damaged, or one that is called is not there. Both readers have the same bytes: the difference is in how FreeType runs them, "
+            "and docs/DIFFERENCES.md has how we do.")
+UNDRAWN = new("the same bytes, refused by FreeType's interpreter", "As above: it refuses what document 01 runs, as OtherSubrs that it does not know, or bytes behind a closepath.")
+PUT = new("the FontMatrix is not the usual one: FreeType applies it", "FreeType puts it on the outlines, scaled by its fourth number, with its offsets. We print it, and apply it where --font-matrix asks.")
+SECOND_LENIV = new("lenIV is no number: FreeType takes 0", "FreeType reads a word as 0.")
+
+
+def matrix_moves(r):
+    numbers = r["ours"]["matrix"].split()
+    return len(numbers) == 6 and [float(n) for n in numbers] != [0.001, 0, 0, 0.001, 0, 0]
+
+
+def both_read(r, other):
+    """The classes of what differs where both read."""
+    d, out = r[other]["differs"], []
+    here = d["contents"]
+    if d["twice theirs"] or d["first counts"]:
+        out.append((TWICE, "twice: %r" % d["twice theirs"][:3]))
+    if d["only theirs"]:
+        added = other == "FreeType" and d["only theirs"] == [b".notdef"]
+        out.append((NOTDEF if added else None, "only theirs: %r" % d["only theirs"][:5]))
+    if d["only ours"]:
+        out.append((None, "only ours: %r" % d["only ours"][:5]))
+    if d["twice ours"]:
+        out.append((None, "twice ours: %r" % d["twice ours"][:5]))
+    if d["lenIV"][0] != d["lenIV"][1]:
+        out.append((None, "lenIV %s and %s" % d["lenIV"]))
+        here = []
+    fewer = other == "FreeType" and "subroutines," in notes(r) and d["subroutines"][0] > d["subroutines"][1]
+    if here and all(what == ["bytes run: %s here" % w] for _, what, _, _ in here for w in [re.sub(r"\D", "", what[0])]):
+        out.append((EMPTY_BODY if r["kind"] in ("short", "charstring-part") else None, "contents: %r" % (here[:3],)))
+    elif here:
+        good = other == "FreeType" and (unchanged(r) or agrees(r, "fontTools"))
+        out.append((STOPPED if good else None, "contents: %r" % (here[:3],)))
+    elif d["subroutines"][0] != d["subroutines"][1]:
+        out.append((COUNT if fewer else None, "subroutines %d and %d" % d["subroutines"]))
+    drawn = [name for name, differs in d["outlines"] if not differs]
+    if drawn:
+        damaged = r.get("where") == "private" or r["kind"] == "as it is"
+        out.append((PUT if matrix_moves(r) else DRAWN if damaged else None, "outlines: %r" % drawn[:5]))
+    undrawn = [n for n in d["not drawn"] if n[0] not in [h[0] for h in d["contents"]]]
+    if undrawn:
+        out.append((UNDRAWN, "not drawn: %r" % undrawn[:3]))
+    return out
+
+
+# ---- all together
+
+def faults(r):
+    """What is wrong with our program on this file."""
+    ours, out = r["ours"], []
+    if ours["state"] not in ("read", "refused"):
+        out.append("our program: " + ours["state"] + " " + ours["message"])
+    found = re.search(r"at byte (\d+)", ours["message"])
+    if found and int(found.group(1)) > r["size"]:
+        out.append(f"the place is beyond the file's {r['size']} bytes: {ours['message']}")
+    if "no hexadecimal digit" in ours["message"] and ours["there"].startswith(b"cleartomark"[:8]):
+        out.append("the place is that of the lawful cleartomark: " + ours["message"])
+    if r["kind"] in LAWFUL and ours["state"] == "refused":
+        out.append("a lawful font is refused: " + ours["message"])
+    f = ours.get("from source")
+    if f and not ours["notes"]:
+        lost = len(f["missing"]) > len(f["added"])
+        if lost and r["kind"] not in ("glyph-renamed",):
+            out.append("glyphs are lost, and nothing says so: %r" % f["missing"][:5])
+        if f["subroutines"][0] != f["subroutines"][1]:
+            out.append("subroutines are lost, and nothing says so: %d of %d" % f["subroutines"])
+        elif f["changed"] and r["kind"] not in OTHER_GLYPHS:
+            out.append("glyphs are changed, and nothing says so: %r" % f["changed"][:5])
+    if ours["state"] == "read" and not ours["notes"]:
+        both = [r[o]["differs"]["only theirs"] for o in ("fontTools", "FreeType") if "differs" in r[o]]
+        if len(both) == 2 and set(both[0]) & set(both[1]):
+            out.append("both others have glyphs that we have not: %r" % sorted(set(both[0]) & set(both[1]))[:5])
+    if ours["said"] is not None and ours["said"] != ours["glyphs"]:
+        out.append(f"{ours['glyphs']} rows, {ours['said']} said")
+    return out
 
 
 def classify(r):
     out = []
     for other in ("fontTools", "FreeType"):
-        o = r[other]
-        if r["ours"]["state"] != o["state"]:
-            out.append((None, f"{other}: {o['state']} {o['error'] or ''} | ours {r['ours']['state']} {r['ours']['message']}"))
-        elif "differs" in o:
-            d = o["differs"]
-            bad = {k: d[k] for k in ("only ours", "only theirs", "twice ours", "twice theirs", "contents", "first counts", "outlines", "not drawn") if d[k]}
-            if d["subroutines"][0] != d["subroutines"][1]:
-                bad["subroutines"] = d["subroutines"]
-            if d["lenIV"][0] != d["lenIV"][1]:
-                bad["lenIV"] = d["lenIV"]
-            if bad:
-                out.append((None, f"{other}: {str(bad)[:300]}"))
-    return out, []
+        ours, o = r["ours"]["state"], r[other]["state"]
+        if ours == "read" and o == "read":
+            out += [(name, f"{other}: {what}") for name, what in both_read(r, other)]
+        elif ours == "read":
+            name = refused_by_fonttools(r) if other == "fontTools" else refused_by_freetype(r)
+            out.append((name, f"{other} {o}: {r[other]['error']}"))
+        elif o == "read":
+            out.append((refused_by_us(r, other), f"{other} read; ours: {r['ours']['message']}"))
+        elif o != "refused":
+            out.append((NOT_ENDING if other == "fontTools" and o == "hang" else None, f"{other} {o}: {r[other]['error']}"))
+    return out, faults(r)

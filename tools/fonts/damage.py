@@ -101,6 +101,9 @@ class Source:
             plain = plain[:end]
         self.lead, self.text = plain[:4], plain[4:]
         assert self.made("pfb" if self.is_pfb else "t1") == data, path
+        # fontTools finds the end of a font without segments by 512 zeros.
+        if self.trailer.count(b"0") < 512:
+            self.trailer = (b"0" * 64 + b"\n") * 8 + b"cleartomark\n"
         self.clear_tokens = self.tokens(self.clear)
         self.read = re.search(rb"/(\S+?)\s*\{\s*string currentfile exch readstring pop\s*\}", self.text).group(1)
         self.private_tokens = self.tokens(self.text, self.read)
@@ -200,7 +203,7 @@ def bit(rng, data):
 
 
 def zeros(rng, data):
-    n = rng.choice((1, 2, 4, 16, 64, 256, 1024))
+    n = min(rng.choice((1, 2, 4, 16, 64, 256, 1024)), len(data) // 4)
     at = rng.randrange(len(data) - n)
     return put(data, at, at + n, bytes(n)), f"{n} bytes from {at} on made zero"
 
@@ -223,14 +226,14 @@ def cut(rng, data):
 
 
 def swapped(rng, data):
-    n = rng.choice((1, 4, 64, 512))
+    n = min(rng.choice((1, 4, 64, 512)), len(data) // 4)
     a = rng.randrange(len(data) - 2 * n)
     b = rng.randrange(a + n, len(data) - n)
     return data[:a] + data[b:b + n] + data[a + n:b] + data[a:a + n] + data[b + n:], f"{n} bytes at {a} and at {b} swapped"
 
 
 def repeated(rng, data):
-    n = rng.choice((1, 16, 512, 4096))
+    n = min(rng.choice((1, 16, 512, 4096)), len(data) // 4)
     at = rng.randrange(len(data) - n)
     return data[:at + n] + data[at:], f"{n} bytes from {at} on doubled"
 
@@ -629,9 +632,9 @@ class Damage:
         """Name, kind, path of the font, what was done, and the copy's bytes."""
         rng = random.Random(f"{self.seed}/{number}")
         kind, change = KINDS[number % len(KINDS)]
-        source = self.source(rng.choice(self.fonts))
-        form, data, what = change(rng, source)
-        return f"{number:06}-{kind}.{form}", kind, source.name, what, data
+        path = rng.choice(self.fonts)
+        form, data, what = change(rng, self.source(path))
+        return f"{number:06}-{kind}.{form}", kind, path, what, data
 
 
 def option(words, name, default):
@@ -661,7 +664,7 @@ def main():
             name, kind, font, what, data = damage.case(n)
             with open(os.path.join(out, name), "wb") as file:
                 file.write(data)
-            index.write(f"{n}\t{kind}\t{font}\t{what}\n")
+            index.write(f"{n}\t{kind}\t{os.path.basename(font)}\t{what}\n")
     return 0
 
 

@@ -443,25 +443,78 @@ def against(ours, theirs, contents):
 
 
 OTHERS = ("fontTools", "FreeType")
+AS_IT_IS = "as it is"
+
+
+def where(path, source):
+    """Where a copy differs from its font first: before eexec (clear), up to the end of CharStrings (private), or behind it (after)."""
+    with open(path, "rb") as file:
+        data = file.read()
+    if data[:1] == b"\x80":
+        parts, at = b"", 0
+        while data[at:at + 1] == b"\x80" and data[at + 1:at + 2] in (b"\1", b"\2"):
+            n = int.from_bytes(data[at + 2:at + 6], "little")
+            parts += data[at + 6:at + 6 + n]
+            at += 6 + n
+        data = parts
+    if not data.startswith(source.clear):
+        return "clear"
+    cipher = data[len(source.clear):]
+    if re.match(rb"[0-9a-fA-F]{4}", cipher):
+        digits = re.match(rb"[0-9a-fA-F\s]*", cipher).group()
+        digits = b"".join(digits.split())
+        cipher = bytes.fromhex(digits[:len(digits) // 2 * 2].decode())
+    tokens = source.private_tokens
+    last = source.glyphs[-1][1]
+    end = next(b for a, b in tokens if a >= last)
+    plain = damage.decrypt(cipher[:4 + end], damage.EEXEC_KEY)
+    return "after" if plain == source.lead + source.text[:end] else "private"
 
 
 class Comparison:
-    def __init__(self, binary):
-        self.binary = binary
+    def __init__(self, binary, maker=None):
+        self.binary, self.maker = binary, maker
         self.workers = {name: Worker(name) for name in OTHERS}
-        self.contents = Contents()
+        self.contents, self.sources = Contents(), {}
 
     def files(self, cases):
-        """A record of each case: (path, kind, font, what)."""
+        """A record of each case: (path, kind, font, what), the font's path for a copy and its name for a font as it is."""
+        for font in {c[2] for c in cases if c[1] != AS_IT_IS} - set(self.sources):
+            self.sources[font] = read_ours(self.binary, [font])[font]
         ours = read_ours(self.binary, [c[0] for c in cases])
         return [self.file(ours[c[0]], *c) for c in cases]
+
+    def from_source(self, ours, source):
+        """In what our reading of a copy differs from that of its font."""
+        mine, other = ({row.name: row for row in o.rows} for o in (ours, source))
+
+        def same(a, b):
+            if a.number or b.number or ours.widths == source.widths:
+                return (a.number, a.code) == (b.number, b.code)
+            m, n = self.contents.machine(a.code), self.contents.machine(b.code)
+            return (m.drawn, m.stems, m.masks) == (n.drawn, n.stems, n.masks)
+
+        return {"missing": sorted(set(other) - set(mine)), "added": sorted(set(mine) - set(other)),
+                "changed": sorted(n for n in mine if n in other and not same(mine[n], other[n])), "subroutines": (ours.subrs, source.subrs)}
 
     def file(self, ours, path, kind, font, what):
         record = {"name": os.path.basename(path), "path": path, "kind": kind, "font": font, "what": what, "size": os.path.getsize(path),
                   "ours": {"state": ours.state, "message": ours.message, "notes": ours.notes, "glyphs": len(ours.rows), "said": ours.glyphs,
-                           "subrs": ours.subrs, "len_iv": ours.len_iv, "matrix": ours.matrix}}
+                           "subrs": ours.subrs, "len_iv": ours.len_iv, "matrix": ours.matrix,
+                           # A charstring of lenIV bytes has none that are run.
+                           "empty": sum(row.number == 0 and row.ran == (ours.len_iv or 0) for row in ours.rows)}}
+        record["font"] = os.path.basename(font)
+        found = re.search(r"at byte (\d+)", ours.message)
+        if found:
+            with open(path, "rb") as file:
+                file.seek(max(0, int(found.group(1)) - 1))
+                record["ours"]["there"] = file.read(12)
+        if kind != AS_IT_IS:
+            record["where"] = where(path, self.maker.source(font))
+            if ours.state == "read":
+                record["ours"]["from source"] = self.from_source(ours, self.sources[font])
         for name, worker in self.workers.items():
-            theirs = worker.read(path, None if kind == "as it is" else SAMPLE)
+            theirs = worker.read(path, None if kind == AS_IT_IS else SAMPLE)
             record[name] = {k: theirs.get(k) for k in ("state", "error", "len_iv", "matrix", "declared")}
             if theirs["state"] == "read":
                 record[name]["glyphs"] = len(theirs["glyphs"])
@@ -545,10 +598,10 @@ def main():
                 records += pickle.load(file)
     else:
         began = time.time()
-        c = Comparison(o.binary)
+        c = Comparison(o.binary, maker)
         if not o.only_damaged:
             for at in range(0, len(o.fonts), PER_CALL):
-                records += c.files([(path, "as it is", os.path.basename(path), "as it is") for path in o.fonts[at:at + PER_CALL]])
+                records += c.files([(path, AS_IT_IS, path, AS_IT_IS) for path in o.fonts[at:at + PER_CALL]])
         numbers = range(o.first, o.first + o.damaged)
         for at in range(0, len(numbers), PER_CALL):
             with tempfile.TemporaryDirectory() as folder:
@@ -571,7 +624,7 @@ def main():
     if o.keep and maker:
         os.makedirs(o.keep, exist_ok=True)
         for r in {r["name"]: r for r, _ in unexplained + faults}.values():
-            if r["kind"] != "as it is":
+            if r["kind"] != AS_IT_IS:
                 with open(os.path.join(o.keep, r["name"]), "wb") as file:
                     file.write(maker.case(int(r["name"].split("-")[0]))[4])
     return 1 if unexplained or faults else 0
