@@ -24,6 +24,8 @@ def new(name, why):
 # ---- we refuse, the other reads
 
 REFUSED = [
+    (r"CharStrings|that does not end", "fontTools",
+     new("the count of CharStrings is negative: fontTools reads", "fontTools throws the count away. PostScript's dict refuses a negative one.")),
     (r"no PFB segment|a PFB segment runs past", "FreeType",
      new("a PFB segment behind the private part is damaged: FreeType reads",
          "FreeType takes the first segment and the binary ones after it, and looks at nothing behind them. We follow all segments up to the end mark, as fontTools does: "
@@ -46,35 +48,50 @@ REFUSED = [
     (r"CharStrings ends without its end|no hexadecimal digit", "FreeType",
      new("CharStrings is cut before its end: FreeType reads", "The text ends, or in a part of hexadecimal digits another byte ends it. FreeType keeps the glyphs before the cut, and nothing tells that others "
          "are lost.")),
-    (r"CharStrings is damaged|an entry with no length|a length runs past", "FreeType",
-     new("CharStrings is damaged before its end: FreeType reads", "FreeType passes over every token that is no name, and takes the next name for a glyph: a glyph may be lost or have a part of another's bytes.")),
-    (r"Subrs is damaged|an entry with no length", "FreeType",
-     new("Subrs is damaged: FreeType reads", "FreeType ends the array at the first token that is not dup. The subroutines behind it are lost, and nothing tells.")),
+    (r"CharStrings is damaged|Subrs is damaged|an entry with no length|a length runs past", "FreeType",
+     new("CharStrings or Subrs is damaged: FreeType reads", "Of CharStrings FreeType passes over every token that is no name, and takes the next name for a glyph; Subrs ends for it at the first token that is not dup. "
+         "Glyphs and subroutines may be lost or have a part of another's bytes, and nothing tells.")),
+    (r"read or stored by another word", "FreeType",
+     new("an entry is read or stored by another word than the first: FreeType reads", "FreeType passes over the word before the bytes and the one behind them, whatever they are. By these words we see that a length is "
+         "wrong, where PostScript would fail on them.")),
     (r"a subroutine number beyond", "FreeType",
      new("a subroutine number beyond the array: FreeType reads", "Where an array is declared that the rest of the file has no room for, FreeType keeps subroutines by number and takes any number.")),
     (r"too many subroutines", None,
      new("more than 16,384 subroutines are declared: the other reads", "The limit of our program, which it names. The count is damaged in each of these copies.")),
     (r"no eexec|that does not end|no CharStrings is defined", "FreeType",
-     new("eexec is not executed: FreeType reads", "In a PFB file FreeType takes the binary segment for the private part, whether the text before it executes eexec or not.")),
-    (r"a string or a procedure that does not end", "FreeType",
-     new("a stray delimiter in the private part: FreeType reads", "A parenthesis or an angle bracket that nothing opened or closes. FreeType's private part begins at /Private, "
-         "and it passes over more than PostScript does.")),
+     new("eexec is not executed, or too soon: FreeType reads", "In a PFB file FreeType takes the binary segment for the private part, whether the text before it executes eexec or not.")),
+    (r"that does not end", None,
+     new("a stray delimiter, or a byte that is no ASCII in a procedure: the other reads", "A brace, parenthesis or angle bracket is lost or added. Where a brace is lost, FreeType takes the Subrs for a part of a procedure, and nothing tells; "
+         "by a byte that is no printable ASCII in a procedure we see that its end is lost. fontTools reads such a byte in a procedure that is never executed.")),
     (r"defined a second time", None,
      new("Subrs or CharStrings is defined a second time: the other reads", "FreeType keeps the first, fontTools the second. We do not choose.")),
-    (r"no CharStrings is defined|that does not end", "fontTools",
-     new("the count of CharStrings is negative: fontTools reads", "fontTools throws the count away. PostScript's dict refuses a negative one.")),
     (r"a subroutine number beyond", "fontTools",
      new("a negative subroutine number: fontTools reads", "Python counts it from the end of the list.")),
-    (r"an entry with no length, or no bytes|CharStrings is damaged|Subrs is damaged", "fontTools",
+    (r"an entry with no length, or no bytes|CharStrings is damaged|Subrs is damaged|by another word", "fontTools",
      new("no space behind the word that reads a charstring: fontTools reads", "fontTools passes over any byte there, as FreeType does. PostScript's readstring begins with a byte that is no white space: the charstring would be shifted.")),
 ]
 
 
+def refuses_lawful(r):
+    """We refuse a lawful font; a damaged byte may make a charstring call one of OtherSubrs 14 to 18."""
+    return r["kind"] in LAWFUL and r["ours"]["state"] == "refused" and "multiple-master" not in r["ours"]["message"]
+
+
+def misses_eexec(r):
+    """The text before eexec is damaged, and what we refuse stands behind it."""
+    found = re.search(r"at byte (\d+)", r["ours"]["message"])
+    return r.get("where") == "clear" and found and int(found.group(1)) > r["clear"] or "in the encrypted part" in r["ours"]["message"] and r.get("where") == "clear"
+
+
 def refused_by_us(r, other):
-    message, o = r["ours"]["message"], r[other]
+    message = r["ours"]["message"]
+    if refuses_lawful(r):
+        return None
     for pattern, reader, name in REFUSED:
         if reader in (None, other) and re.search(pattern, message):
-            if name.startswith("eexec is not executed") and r.get("where") != "clear":
+            if name.startswith("eexec is not executed") and not misses_eexec(r):
+                continue
+            if name.startswith("the count of CharStrings") and not re.search(r"the count at \d+ from \d+ to -", r["what"]):
                 continue
             return name
     return None
@@ -109,7 +126,7 @@ STRINGS = new("an escaped parenthesis in a string: fontTools refuses", "fontTool
 NOT_ENDING = new("fontTools does not end", "Its pattern for strings tries every way to split a long string.")
 
 HEADER = "the first line is not '%!PS-AdobeFont' or '%!FontType1': fontTools and FreeType refuse"
-FIRST_SEGMENT = new("the first segment of a PFB file is of kind 2: FreeType refuses", "FreeType wants kind 1 first. We and fontTools take both kinds alike.")
+FIRST_SEGMENT = new("a PFB segment is of the other kind: FreeType refuses", "FreeType wants kind 1 first, then kind 2. We and fontTools take both kinds alike.")
 ENCODING = new("a code beyond 255 in Encoding: fontTools and FreeType refuse", "We do not read Encoding: a board asks by name.")
 EMPTY = new("a charstring of exactly lenIV bytes: FreeType refuses", "It has no byte to run. FreeType wants one at least; we and fontTools read a glyph that draws nothing.")
 MATRIX = new("the fourth number of FontMatrix is 0: FreeType refuses", "FreeType divides by it. Six finite numbers are a matrix for us; a board that asks for it is told.")
@@ -120,6 +137,9 @@ CLEAR = new("a key or a token before eexec that we do not read is damaged: FreeT
 AFTER = new("the text behind CharStrings is damaged: FreeType refuses", "FreeType reads on up to closefile. All glyphs and subroutines stand before it, and ours are those of the undamaged font.")
 PRIVATE = new("a key or a token of the private part that we do not read is damaged: FreeType refuses",
               "A brace that nothing opened, hints that are no numbers, or /Private itself, without which FreeType looks for no CharStrings. Our glyphs are those of the undamaged font.")
+
+
+NO_SUBRS = new("the name /Subrs is damaged: fontTools and FreeType refuse", "No array of that name is left. We read the glyphs and say that there is no Subrs (a note); each glyph that calls a subroutine is refused with 8.")
 
 
 def unchanged(r):
@@ -138,6 +158,8 @@ def refused_by_fonttools(r):
     error = r["fontTools"]["error"]
     if r["fontTools"]["state"] == "hang":
         return NOT_ENDING
+    if "no Subrs" in notes(r) and r.get("where") == "private":
+        return NO_SUBRS
     if re.search(r"\\\\[()]", r["what"]) and re.match(r"PS(Token)?Error", error) and agrees(r, "FreeType"):
         return STRINGS
     if "list assignment index out of range" in error and r.get("where") == "clear" and unchanged(r):
@@ -154,10 +176,14 @@ def notes(r):
 
 
 def refused_by_freetype(r):
-    error, f = r["FreeType"]["error"], r["ours"].get("from source")
+    error = r["FreeType"]["error"]
+    if "no Subrs" in notes(r) and r.get("where") == "private":
+        return NO_SUBRS
     good = unchanged(r) or agrees(r, "fontTools")
+    if r["kind"] == "segment-kind" and good:
+        return FIRST_SEGMENT
     if "unknown file format" in error and good:
-        return FIRST_SEGMENT if r["kind"] == "segment-kind" else HEADER
+        return HEADER
     found = re.search(r"(\d+) glyphs, (\d+) declared", notes(r))
     if found and int(found.group(1)) > int(found.group(2)) and ("invalid argument" in error or found.group(2) == "0"):
         return MORE
@@ -241,7 +267,7 @@ def faults(r):
         out.append(f"the place is beyond the file's {r['size']} bytes: {ours['message']}")
     if "no hexadecimal digit" in ours["message"] and ours["there"].startswith(b"cleartomark"[:8]):
         out.append("the place is that of the lawful cleartomark: " + ours["message"])
-    if r["kind"] in LAWFUL and ours["state"] == "refused":
+    if refuses_lawful(r):
         out.append("a lawful font is refused: " + ours["message"])
     f = ours.get("from source")
     if f and not ours["notes"]:

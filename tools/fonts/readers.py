@@ -118,6 +118,8 @@ class FreeTypeReader:
 
 
 def serve(name, pipe):
+    """Answers until the process that asks is gone."""
+    asking = os.getppid()
     limit_memory()
     if name == "fontTools":
         from fontTools.misc import eexec
@@ -126,6 +128,9 @@ def serve(name, pipe):
     else:
         read = FreeTypeReader()
     while True:
+        while not pipe.poll(5):
+            if os.getppid() != asking:
+                return
         path, asked = pipe.recv()
         try:
             answer = dict(read(path, asked), state="read")
@@ -511,6 +516,7 @@ class Comparison:
                 record["ours"]["there"] = file.read(12)
         if kind != AS_IT_IS:
             record["where"] = where(path, self.maker.source(font))
+            record["clear"] = len(self.maker.source(font).clear)
             if ours.state == "read":
                 record["ours"]["from source"] = self.from_source(ours, self.sources[font])
         for name, worker in self.workers.items():
@@ -537,10 +543,8 @@ def report(records, out):
         named, wrong = classify(r)
         for text in wrong:
             faults.append((r, text))
-        for name, other in named:
-            if name is None:
-                unexplained.append((r, other))
-                continue
+        unexplained += [(r, other) for name, other in named if name is None]
+        for name in {name for name, _ in named if name is not None}:
             counts[name] += 1
             if name not in smallest or r["size"] < smallest[name]["size"]:
                 smallest[name] = r
@@ -548,7 +552,7 @@ def report(records, out):
             if not any(o.startswith(other) for _, o in named):
                 agree[other] += 1
     states = {name: collections.Counter(r[name]["state"] for r in records) for name in ("ours",) + OTHERS}
-    print(f"files: {len(records)}", file=out)
+    print(f"files: {len(records)}, glyphs in our tables: {sum(r['ours']['glyphs'] for r in records)}", file=out)
     for name, count in states.items():
         print(f"  {name}: " + ", ".join(f"{s} {n}" for s, n in sorted(count.items())), file=out)
     for other in OTHERS:
