@@ -9,7 +9,7 @@ import re
 
 # Copies of these kinds are lawful fonts: we are to read them.
 LAWFUL = {"segments-split", "hex-case", "recoded", "glyph-moved", "comment", "form", "glyph-removed", "body-removed", "glyph-doubled", "body-doubled",
-          "clear-names", "private-names", "charstring-byte", "charstring-part"}
+          "clear-names", "private-names", "charstring-byte", "charstring-part", "segments-hex", "words", "stored-plainly", "line-ends"}
 # Copies of these kinds have other glyphs than their font, in ways that no reader can tell from a font that was made so.
 OTHER_GLYPHS = {"charstring-byte", "charstring-part", "other-subr", "glyph-removed", "glyph-doubled", "glyph-renamed", "body-removed", "body-doubled", "short", "lenIV"}
 
@@ -139,6 +139,7 @@ PRIVATE = new("a key or a token of the private part that we do not read is damag
               "A brace that nothing opened, hints that are no numbers, or /Private itself, without which FreeType looks for no CharStrings. Our glyphs are those of the undamaged font.")
 
 
+HEX_SEGMENT = new("hexadecimal digits in a PFB file: fontTools and FreeType refuse", "Both take the private part of a PFB file for bytes. eexec takes either (T1 7.2), and so do we; our glyphs are those of the font.")
 NO_SUBRS = new("the name /Subrs is damaged: fontTools and FreeType refuse", "No array of that name is left. We read the glyphs and say that there is no Subrs (a note); each glyph that calls a subroutine is refused with 8.")
 
 
@@ -158,6 +159,8 @@ def refused_by_fonttools(r):
     error = r["fontTools"]["error"]
     if r["fontTools"]["state"] == "hang":
         return NOT_ENDING
+    if r["kind"] == "segments-hex" and unchanged(r):
+        return HEX_SEGMENT
     if "no Subrs" in notes(r) and r.get("where") == "private":
         return NO_SUBRS
     if re.search(r"\\\\[()]", r["what"]) and re.match(r"PS(Token)?Error", error) and agrees(r, "FreeType"):
@@ -177,6 +180,8 @@ def notes(r):
 
 def refused_by_freetype(r):
     error = r["FreeType"]["error"]
+    if r["kind"] == "segments-hex" and unchanged(r):
+        return HEX_SEGMENT
     if "no Subrs" in notes(r) and r.get("where") == "private":
         return NO_SUBRS
     good = unchanged(r) or agrees(r, "fontTools")
@@ -184,7 +189,7 @@ def refused_by_freetype(r):
         return FIRST_SEGMENT
     if "unknown file format" in error and good:
         return HEADER
-    found = re.search(r"(\d+) glyphs, (\d+) declared", notes(r))
+    found = re.search(r"glyphs (\d+), declared (\d+)", notes(r))
     if found and int(found.group(1)) > int(found.group(2)) and ("invalid argument" in error or found.group(2) == "0"):
         return MORE
     if r["ours"]["empty"] and agrees(r, "fontTools"):
@@ -206,6 +211,7 @@ def refused_by_freetype(r):
 TWICE = new("a glyph is defined twice: FreeType lists both", "PostScript and fontTools keep the later one, and so do we, with a note. FreeType has two glyphs of that name, and finds the first by name.")
 NOTDEF = new("no .notdef: FreeType adds one", "FreeType makes one of its own, 500 wide. We list what the font defines.")
 COUNT = new("fewer subroutines than declared: FreeType shortens the array", "It allows one subroutine for eight bytes that are left of the file. The subroutines that are there are the same.")
+AT_DEF = new("entries stored by the word def: FreeType loses glyphs", "FreeType ends CharStrings at the first def, which is meant for fonts that define it elsewhere. fontTools has the same glyphs as we.")
 STOPPED = new("FreeType loses subroutines", "It ends the array at a token that is not dup, or is misled by a string within a procedure (it passes over the byte behind the string's end). "
               "Ours are those of the undamaged font, or fontTools has the same as we.")
 EMPTY_BODY = new("a subroutine of exactly lenIV bytes: the bytes run are counted otherwise", "FreeType gives it as one that is not there. What is drawn is the same.")
@@ -231,13 +237,14 @@ def both_read(r, other):
         added = other == "FreeType" and d["only theirs"] == [b".notdef"]
         out.append((NOTDEF if added else None, "only theirs: %r" % d["only theirs"][:5]))
     if d["only ours"]:
-        out.append((None, "only ours: %r" % d["only ours"][:5]))
+        lost = other == "FreeType" and agrees(r, "fontTools") and r["kind"] == "stored-plainly"
+        out.append((AT_DEF if lost else None, "only ours: %r" % d["only ours"][:5]))
     if d["twice ours"]:
         out.append((None, "twice ours: %r" % d["twice ours"][:5]))
     if d["lenIV"][0] != d["lenIV"][1]:
         out.append((None, "lenIV %s and %s" % d["lenIV"]))
         here = []
-    fewer = other == "FreeType" and "subroutines," in notes(r) and d["subroutines"][0] > d["subroutines"][1]
+    fewer = other == "FreeType" and re.search(r"subroutines \d+, declared", notes(r)) and d["subroutines"][0] > d["subroutines"][1]
     if here and all(what == ["bytes run: %s here" % w] for _, what, _, _ in here for w in [re.sub(r"\D", "", what[0])]):
         out.append((EMPTY_BODY if r["kind"] in ("short", "charstring-part") else None, "contents: %r" % (here[:3],)))
     elif here:

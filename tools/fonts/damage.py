@@ -600,6 +600,55 @@ def segments_split(rng, source):
     return "pfb", data[:first] + b"".join(segment(2, p) for p in parts) + data[second:], f"the private part in {len(parts)} segments"
 
 
+def segments_hex(rng, source):
+    """Lawful: hexadecimal digits in a segment of text."""
+    return "pfb", segment(1, source.made("pfa")) + b"\x80\x03", "hexadecimal digits in a segment of text"
+
+
+def other_words(rng, source):
+    """Lawful: the three words that read and store entries have other names."""
+    text = source.text
+    old = [source.read] + [re.search(rb"/(\S+?)\s*\{\s*noaccess " + w + rb"\s*\}", text).group(1) for w in (b"def", b"put")]
+    new = rng.choice(([b"-|", b"|-", b"|"], [b"a", b"b", b"c"], [b"RD.", b"ND.", b"NP."]))
+    names = dict(zip(old, new))
+    out, at = bytearray(), 0
+    for a, b in source.private_tokens:
+        word = text[a:b]
+        slash = word[:1] == b"/"
+        if word[slash:] in names:
+            # A word that follows its bytes at once stands apart from them.
+            out += text[at:a] + (b"/" if slash else b"" if text[a - 1:a].isspace() else b" ") + names[word[slash:]]
+            at = b
+    return bytes(out + text[at:]), f"the words {b' '.join(old).decode()} renamed to {b' '.join(new).decode()}"
+
+
+def stored_plainly(rng, source):
+    """Lawful: entries stored by PostScript's own words, some or all of them."""
+    text, every = source.text, rng.randrange(2)
+    out, at = bytearray(), 0
+    for entries, last in ((source.bodies, b"put"), (source.glyphs, b"def")):
+        for _, end, size, _, code in entries:
+            n = int(text[slice(*size)])
+            if every or rng.randrange(4) == 0:
+                out += text[at:code + n] + b" " + rng.choice((b"noaccess ", b"readonly ", b"")) + last
+                at = end
+    return bytes(out + text[at:]), ("all" if every else "some") + " entries stored by put and def"
+
+
+def line_ends(rng, source):
+    """Lawful: other ends of lines before eexec and between the tokens of the private part."""
+    new = rng.choice((b"\r", b"\r\n", b"\n\n", b" \n\t"))
+    text = source.text
+    spaces = [i for (_, a), (b, _) in zip(source.private_tokens, source.private_tokens[1:]) if text[a:b].isspace() for i in range(a, b) if text[i] == 10]
+    out, at = bytearray(), 0
+    for i in spaces:
+        out += text[at:i] + new
+        at = i + 1
+    clear = source.clear[:-1].replace(b"\n", new) + source.clear[-1:]
+    form = any_form(rng)
+    return form, source.made(form, clear=clear, text=bytes(out + text[at:])), f"lines that end with {new!r}"
+
+
 KINDS = [
     ("byte", raw(byte)), ("bit", raw(bit)), ("zeros", raw(zeros)), ("removed", raw(removed)), ("inserted", raw(inserted)), ("cut", raw(cut)), ("swapped", raw(swapped)),
     ("repeated", raw(repeated)), ("segment-length", segment_length), ("segment-kind", segment_kind), ("segments-split", segments_split),
@@ -612,7 +661,8 @@ KINDS = [
     ("glyph-removed", in_private(removed_entry("glyphs"))), ("glyph-doubled", in_private(doubled_entry("glyphs"))), ("glyph-renamed", in_private(renamed)),
     ("glyph-moved", in_private(moved_entry)), ("body-removed", in_private(removed_entry("bodies"))), ("body-doubled", in_private(doubled_entry("bodies"))),
     ("comment", in_private(comment_between)), ("charstring-byte", in_private(charstring(charstring_byte))), ("charstring-part", in_private(charstring(charstring_part))),
-    ("other-subr", in_private(charstring(other_subr))), ("form", other_form),
+    ("other-subr", in_private(charstring(other_subr))), ("form", other_form), ("segments-hex", segments_hex), ("words", in_private(other_words)),
+    ("stored-plainly", in_private(stored_plainly)), ("line-ends", line_ends),
 ]
 
 
