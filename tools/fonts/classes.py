@@ -42,7 +42,7 @@ REFUSED = [
     (r"lenIV is neither", "fontTools",
      new("lenIV beyond 65535: fontTools reads", "fontTools drops that many bytes of each charstring: nothing is left of any glyph.")),
     (r"lenIV is neither", "FreeType",
-     new("lenIV is no whole number, or below -1: FreeType reads", "FreeType reads 4.0 and (4) as 4 or as 0, and takes every negative number for charstrings that are not encrypted; T1 has only -1.")),
+     new("lenIV is no whole number, or below -1: FreeType reads", "FreeType reads 4.0 as 4, (4) and a word as 0, and takes every negative number for charstrings that are not encrypted; T1 has only -1.")),
     (r"(charstring|subroutine) shorter than lenIV", "fontTools",
      new("a charstring or subroutine shorter than lenIV: fontTools reads", "fontTools takes it as an empty one. FreeType refuses the font, as we do.")),
     (r"CharStrings ends without its end|no hexadecimal digit", "FreeType",
@@ -64,7 +64,7 @@ REFUSED = [
      new("a stray delimiter, or a byte that is no ASCII in a procedure: the other reads", "A brace, parenthesis or angle bracket is lost or added. Where a brace is lost, FreeType takes the Subrs for a part of a procedure, and nothing tells; "
          "by a byte that is no printable ASCII in a procedure we see that its end is lost. fontTools reads such a byte in a procedure that is never executed.")),
     (r"defined a second time", None,
-     new("Subrs or CharStrings is defined a second time: the other reads", "FreeType keeps the first, fontTools the second. We do not choose.")),
+     new("Subrs or CharStrings is defined a second time: the other reads", "FreeType keeps the first Subrs, fontTools the second. We do not choose.")),
     (r"a subroutine number beyond", "fontTools",
      new("a negative subroutine number: fontTools reads", "Python counts it from the end of the list.")),
     (r"an entry with no length, or no bytes|CharStrings is damaged|Subrs is damaged|by another word", "fontTools",
@@ -130,7 +130,7 @@ FIRST_SEGMENT = new("a PFB segment is of the other kind: FreeType refuses", "Fre
 ENCODING = new("a code beyond 255 in Encoding: fontTools and FreeType refuse", "We do not read Encoding: a board asks by name.")
 EMPTY = new("a charstring of exactly lenIV bytes: FreeType refuses", "It has no byte to run. FreeType wants one at least; we and fontTools read a glyph that draws nothing.")
 MATRIX = new("the fourth number of FontMatrix is 0: FreeType refuses", "FreeType divides by it. Six finite numbers are a matrix for us; a board that asks for it is told.")
-MORE = new("more glyphs than are declared: FreeType refuses", "FreeType makes room for five more, and refuses a dictionary that is declared to be empty. We read all and say how many are declared (a note); PostScript's "
+MORE = new("more glyphs than are declared: FreeType refuses", "FreeType makes room for six more, and refuses a dictionary that is declared to be empty. We read all and say how many are declared (a note); PostScript's "
            "dictionaries grow.")
 CLEAR = new("a key or a token before eexec that we do not read is damaged: FreeType refuses",
             "FontBBox, FontInfo, Encoding or a brace that nothing opened. FreeType reads these; the glyphs do not depend on them, and ours are those of the undamaged font.")
@@ -219,7 +219,6 @@ DRAWN = new("the same bytes, drawn otherwise by FreeType", "The charstring or a 
             "and docs/DIFFERENCES.md has how we do.")
 UNDRAWN = new("the same bytes, refused by FreeType's interpreter", "As above: it refuses what document 01 runs, as OtherSubrs that it does not know, or bytes behind a closepath.")
 PUT = new("the FontMatrix is not the usual one: FreeType applies it", "FreeType puts it on the outlines, scaled by its fourth number, with its offsets. We print it, and apply it where --font-matrix asks.")
-SECOND_LENIV = new("lenIV is no number: FreeType takes 0", "FreeType reads a word as 0.")
 
 
 def matrix_moves(r):
