@@ -211,6 +211,7 @@ def refused_by_freetype(r):
 TWICE = new("a glyph is defined twice: FreeType lists both", "PostScript and fontTools keep the later one, and so do we, with a note. FreeType has two glyphs of that name, and finds the first by name.")
 NOTDEF = new("no .notdef: FreeType adds one", "FreeType makes one of its own, 500 wide. We list what the font defines.")
 COUNT = new("fewer subroutines than declared: FreeType shortens the array", "It allows one subroutine for eight bytes that are left of the file. The subroutines that are there are the same.")
+TAB = new("a vertical tab in a glyph's name: fontTools ends the name", "It is white space to Python, and not to PostScript.")
 AT_DEF = new("entries stored by the word def: FreeType loses glyphs", "FreeType ends CharStrings at the first def, which is meant for fonts that define it elsewhere. fontTools has the same glyphs as we.")
 STOPPED = new("FreeType loses subroutines", "It ends the array at a token that is not dup, or is misled by a string within a procedure (it passes over the byte behind the string's end). "
               "Ours are those of the undamaged font, or fontTools has the same as we.")
@@ -232,6 +233,8 @@ def both_read(r, other):
     here = d["contents"]
     if d["twice theirs"] or d["first counts"]:
         out.append((TWICE, "twice: %r" % d["twice theirs"][:3]))
+    if other == "fontTools" and "x0b" in r["what"] and len(d["only theirs"]) == len(d["only ours"]) == 1:
+        return out + [(TAB, "names %r and %r" % (d["only ours"], d["only theirs"]))]
     if d["only theirs"]:
         added = other == "FreeType" and d["only theirs"] == [b".notdef"]
         out.append((NOTDEF if added else None, "only theirs: %r" % d["only theirs"][:5]))
@@ -271,7 +274,7 @@ def faults(r):
     found = re.search(r"at byte (\d+)", ours["message"])
     if found and int(found.group(1)) > r["size"]:
         out.append(f"the place is beyond the file's {r['size']} bytes: {ours['message']}")
-    if "no hexadecimal digit" in ours["message"] and ours["there"].startswith(b"cleartomark"[:8]):
+    if "no hexadecimal digit" in ours["message"] and ours["there"].startswith(b"cleartom") and int(found.group(1)) > r["size"] - 40:
         out.append("the place is that of the lawful cleartomark: " + ours["message"])
     if refuses_lawful(r):
         out.append("a lawful font is refused: " + ours["message"])
