@@ -9,7 +9,7 @@ import re
 
 # Copies of these kinds are lawful fonts: we are to read them.
 LAWFUL = {"segments-split", "hex-case", "recoded", "glyph-moved", "comment", "form", "glyph-removed", "body-removed", "glyph-doubled", "body-doubled",
-          "clear-names", "private-names", "charstring-byte", "charstring-part", "segments-hex", "words", "stored-plainly", "line-ends"}
+          "clear-names", "private-names", "charstring-byte", "charstring-part", "segments-hex", "words", "stored-plainly", "line-ends", "directly"}
 # Copies of these kinds have other glyphs than their font, in ways that no reader can tell from a font that was made so.
 OTHER_GLYPHS = {"charstring-byte", "charstring-part", "other-subr", "glyph-removed", "glyph-doubled", "glyph-renamed", "body-removed", "body-doubled", "short", "lenIV"}
 
@@ -211,7 +211,7 @@ def refused_by_freetype(r):
 TWICE = new("a glyph is defined twice: FreeType lists both", "PostScript and fontTools keep the later one, and so do we, with a note. FreeType has two glyphs of that name, and finds the first by name.")
 NOTDEF = new("no .notdef: FreeType adds one", "FreeType makes one of its own, 500 wide. We list what the font defines.")
 COUNT = new("fewer subroutines than declared: FreeType shortens the array", "It allows one subroutine for eight bytes that are left of the file. The subroutines that are there are the same.")
-TAB = new("a vertical tab in a glyph's name: fontTools ends the name", "It is white space to Python, and not to PostScript.")
+TAB = new("a vertical tab or a zero byte in a glyph's name: fontTools ends the name elsewhere", "A vertical tab is white space to Python and not to PostScript, a zero byte to PostScript and not to Python.")
 AT_DEF = new("entries stored by the word def: FreeType loses glyphs", "FreeType ends CharStrings at the first def, which is meant for fonts that define it elsewhere. fontTools has the same glyphs as we.")
 STOPPED = new("FreeType loses subroutines", "It ends the array at a token that is not dup, or is misled by a string within a procedure (it passes over the byte behind the string's end). "
               "Ours are those of the undamaged font, or fontTools has the same as we.")
@@ -233,7 +233,7 @@ def both_read(r, other):
     here = d["contents"]
     if d["twice theirs"] or d["first counts"]:
         out.append((TWICE, "twice: %r" % d["twice theirs"][:3]))
-    if other == "fontTools" and "x0b" in r["what"] and len(d["only theirs"]) == len(d["only ours"]) == 1:
+    if other == "fontTools" and re.search(r"x0b|x00", r["what"]) and len(d["only theirs"]) == len(d["only ours"]) == 1:
         return out + [(TAB, "names %r and %r" % (d["only ours"], d["only theirs"]))]
     if d["only theirs"]:
         added = other == "FreeType" and d["only theirs"] == [b".notdef"]
@@ -310,3 +310,59 @@ def classify(r):
         elif o != "refused":
             out.append((NOT_ENDING if other == "fontTools" and o == "hang" else None, f"{other} {o}: {r[other]['error']}"))
     return out, faults(r)
+
+
+# The smallest input of each class: what is changed in the example font (examples/digits.pfb where no other form is named).
+SMALLEST = {
+    "the count of CharStrings is negative: fontTools reads": "`/CharStrings -1 dict`",
+    "a PFB segment behind the private part is damaged: FreeType reads": "the end mark `80 03` is `80 04`",
+    "FontType is not 1: FreeType reads": "`/FontType 3 def`",
+    "a multiple-master font: fontTools and FreeType read": "`/WeightVector [0.25 0.75] def`, or a glyph that begins with `8B 99 0C 10`",
+    "FontMatrix is not six finite numbers: fontTools reads": "`/FontMatrix [] def`",
+    "FontMatrix is not six finite numbers: FreeType reads": "`/FontMatrix [0.001 0 0 0.001 0 0 0] def`",
+    "lenIV beyond 65535: fontTools reads": "`/lenIV 99999 def`",
+    "lenIV is no whole number, or below -1: FreeType reads": "`/lenIV 4.0 def`, `/lenIV -2 def`",
+    "a charstring or subroutine shorter than lenIV: fontTools reads": "`/space 3 RD abc ND`",
+    "CharStrings is cut before its end: FreeType reads": "the private part ends behind the last `ND`",
+    "CharStrings or Subrs is damaged: FreeType reads": "an `ND` is removed",
+    "an entry is read or stored by another word than the first: FreeType reads": "`dup 1 8 RD` where the body has 9 bytes",
+    "a subroutine number beyond the array: FreeType reads": "`/Subrs 5000 array`, with `dup 6000`",
+    "more than 16,384 subroutines are declared: the other reads": "`/Subrs 20000 array`",
+    "eexec is not executed, or too soon: FreeType reads": "`currentfile pop` for `currentfile eexec`",
+    "a stray delimiter, or a byte that is no ASCII in a procedure: the other reads": "`/RD {string currentfile exch readstring pop executeonly def`",
+    "Subrs or CharStrings is defined a second time: the other reads": "`/Subrs 1 array ..` behind the first",
+    "a negative subroutine number: fontTools reads": "`dup -1 9 RD`",
+    "no space behind the word that reads a charstring: fontTools reads": "`/one 48 RD{`",
+    "a subroutine of the array is not defined: fontTools refuses": "`/Subrs 8 array` with seven",
+    "FontType is not written '/FontType 1 def': fontTools refuses": "`/FontType 1 readonly def`",
+    "the first line is not '%!PS-AdobeFont' or '%!FontType1': fontTools and FreeType refuse": "`%!PS-AdobeFonx`",
+    "'currentfile eexec' is not written so: fontTools refuses": "two spaces between the words",
+    "no 512 zeros, or no 'currentfile closefile': fontTools refuses": "`digits.pfa`, which has 64",
+    "no end mark of the PFB file: fontTools refuses": "without `80 03`",
+    "lenIV is -1: fontTools refuses": "`/lenIV -1 def`, charstrings not encrypted",
+    "hexadecimal digits behind CharStrings are damaged: fontTools refuses": "`digits.pfa` with a digit removed there",
+    "a token that defines nothing we read is damaged: fontTools refuses": "`/password 5839 dex`",
+    "an escaped parenthesis in a string: fontTools refuses": "`/Said (\\() def`",
+    "fontTools does not end": "none among the copies",
+    "a PFB segment is of the other kind: FreeType refuses": "`80 02` first",
+    "a code beyond 255 in Encoding: fontTools and FreeType refuse": "`dup 256 /A put`",
+    "a charstring of exactly lenIV bytes: FreeType refuses": "`/space 4 RD abcd ND`",
+    "the fourth number of FontMatrix is 0: FreeType refuses": "`/FontMatrix [0.001 0 0 0 0 0] def`",
+    "more glyphs than are declared: FreeType refuses": "`/CharStrings 8 dict` with 15",
+    "a key or a token before eexec that we do not read is damaged: FreeType refuses": "`/FontBBox {30 -10 450} readonly def`",
+    "the text behind CharStrings is damaged: FreeType refuses": "`readonly > put`",
+    "a key or a token of the private part that we do not read is damaged: FreeType refuses": "`/Privat` for `/Private`",
+    "hexadecimal digits in a PFB file: fontTools and FreeType refuse": "`digits.pfa` in a segment of kind 1",
+    "the name /Subrs is damaged: fontTools and FreeType refuse": "`/Subr 7 array` without entries",
+    "a glyph is defined twice: FreeType lists both": "the entry `/one` twice",
+    "no .notdef: FreeType adds one": "without the entry `/.notdef`",
+    "fewer subroutines than declared: FreeType shortens the array": "`/Subrs 1000 array` with seven",
+    "a vertical tab or a zero byte in a glyph's name: fontTools ends the name elsewhere": "`/on<0B>`",
+    "entries stored by the word def: FreeType loses glyphs": "`noaccess def` for each `ND`",
+    "FreeType loses subroutines": "`/Never {(x)} def` before `/Subrs`",
+    "a subroutine of exactly lenIV bytes: the bytes run are counted otherwise": "`dup 4 4 RD abcd NP`",
+    "the same bytes, drawn otherwise by FreeType": "without subroutine 0: `seven`",
+    "the same bytes, refused by FreeType's interpreter": "a glyph that begins with `8B A6 0C 10` (OtherSubr 27)",
+    "the FontMatrix is not the usual one: FreeType applies it": "`/FontMatrix [0.001 0 0 0.001 100 50] def`",
+}
+assert set(SMALLEST) == set(CLASSES), set(SMALLEST) ^ set(CLASSES)

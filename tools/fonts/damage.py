@@ -349,8 +349,11 @@ def clear_token(rng, source):
 
 
 def before_name(rng, text, names):
-    """A place before one of the names, where a new definition may stand."""
+    """A place before one of the names, where a new definition may stand; in the private part also right behind the array of Subrs."""
     places = [text.index(name) for name in names if name in text]
+    behind = re.search(rb"2 index\s*/CharStrings", text)
+    if behind:
+        places.append(behind.start())
     return rng.choice(places)
 
 
@@ -464,16 +467,17 @@ def recoded(rng, source):
     n = rng.choice((0, 1, 2, 5, -1))
     out, at = bytearray(), 0
     said = f"/lenIV {n} def\n".encode()
-    place = source.text.index(b"/BlueValues")
-    out += source.text[:place] + said
-    at = place
+    place = before_name(rng, source.text, (b"/BlueValues", b"/password", b"/MinFeature"))
     for start, end, size, _, code in sorted(source.bodies + source.glyphs):
+        if at <= place < size[0]:
+            out += source.text[at:place] + said
+            at = place
         old = int(source.text[slice(*size)])
         plain = decrypt(source.text[code:code + old], CHARSTRING_KEY)[source.len_iv:]
         new = plain if n < 0 else encrypt(bytes(n) + plain, CHARSTRING_KEY)
         out += source.text[at:size[0]] + str(len(new)).encode() + source.text[size[1]:code] + new
         at = code + old
-    return bytes(out + source.text[at:]), f"all charstrings encrypted anew with lenIV {n}"
+    return bytes(out + source.text[at:]), f"all charstrings encrypted anew with lenIV {n}, said at {place}"
 
 
 def removed_entry(name):
@@ -649,6 +653,12 @@ def line_ends(rng, source):
     return form, source.made(form, clear=clear, text=bytes(out + text[at:])), f"lines that end with {new!r}"
 
 
+def directly(rng, source):
+    """Lawful to a reader: CharStrings named right behind the array of Subrs, or with dup before it."""
+    new = rng.choice((b"/CharStrings", b"dup /CharStrings", b"dup\n/CharStrings", b"2 index\n\n/CharStrings", b"2 index/CharStrings"))
+    return re.sub(rb"2 index\s*/CharStrings", lambda m: new, source.text, 1), f"{new!r} behind the array of Subrs"
+
+
 KINDS = [
     ("byte", raw(byte)), ("bit", raw(bit)), ("zeros", raw(zeros)), ("removed", raw(removed)), ("inserted", raw(inserted)), ("cut", raw(cut)), ("swapped", raw(swapped)),
     ("repeated", raw(repeated)), ("segment-length", segment_length), ("segment-kind", segment_kind), ("segments-split", segments_split),
@@ -662,7 +672,7 @@ KINDS = [
     ("glyph-moved", in_private(moved_entry)), ("body-removed", in_private(removed_entry("bodies"))), ("body-doubled", in_private(doubled_entry("bodies"))),
     ("comment", in_private(comment_between)), ("charstring-byte", in_private(charstring(charstring_byte))), ("charstring-part", in_private(charstring(charstring_part))),
     ("other-subr", in_private(charstring(other_subr))), ("form", other_form), ("segments-hex", segments_hex), ("words", in_private(other_words)),
-    ("stored-plainly", in_private(stored_plainly)), ("line-ends", line_ends),
+    ("stored-plainly", in_private(stored_plainly)), ("line-ends", line_ends), ("directly", in_private(directly)),
 ]
 
 

@@ -40,7 +40,7 @@ sys.path.insert(0, HERE)
 sys.path.insert(0, os.path.join(HERE, "..", "specimen"))
 import damage  # noqa: E402
 import specimen  # noqa: E402
-from classes import classify, CLASSES  # noqa: E402
+from classes import classify, CLASSES, SMALLEST  # noqa: E402
 
 SECONDS = 20
 MEMORY = 2 << 30
@@ -572,13 +572,12 @@ def report(records, out):
     return counts, smallest, unexplained, faults
 
 
-def markdown(counts, smallest, path):
+def markdown(counts, path):
     with open(path, "w") as out:
-        out.write("| class | count | why | smallest copy |\n|---|---|---|---|\n")
+        out.write("| class | files | smallest input | why |\n|---|---|---|---|\n")
         for name, why in CLASSES.items():
             if counts[name]:
-                r = smallest[name]
-                out.write(f"| {name} | {counts[name]} | {why} | `{r['name']}`: {r['font']}, {r['what']} |\n")
+                out.write(f"| {name} | {counts[name]} | {SMALLEST[name]} | {why} |\n")
 
 
 def main():
@@ -624,7 +623,7 @@ def main():
                 pickle.dump(records, file)
     counts, smallest, unexplained, faults = report(records, sys.stdout)
     if o.markdown:
-        markdown(counts, smallest, o.markdown)
+        markdown(counts, o.markdown)
     if o.keep and maker:
         os.makedirs(o.keep, exist_ok=True)
         for r in {r["name"]: r for r, _ in unexplained + faults}.values():
