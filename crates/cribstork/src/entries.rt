@@ -232,7 +232,7 @@ fn next_body(v: &[u8], e: Entries, t: Token, count: usize, list: &mut [u64]) -> 
     if is_damage(v, e, t) {
         return failed(e, trouble::DAMAGED_SUBRS, t.at);
     }
-    array_end(e, t.at)
+    array_end(e, tokens::begins(t))
 }
 
 // The next token of the array: `dup` begins an entry, other words are passed over, anything else ends it.

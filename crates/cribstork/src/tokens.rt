@@ -261,6 +261,14 @@ pub(crate) fn array_end(v: &[u8], from: usize) -> usize {
     end
 }
 
+// Where a token begins: a literal name's slash stands before its bytes.
+pub(crate) fn begins(t: Token) -> usize {
+    if t.kind == NAME {
+        return less(t.at, 1);
+    }
+    t.at
+}
+
 // A token's bytes.
 pub(crate) fn text(v: &[u8], t: Token) -> &[u8] {
     part(v, t.at, less(t.end, t.at))
