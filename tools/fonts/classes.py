@@ -63,6 +63,8 @@ REFUSED = [
     (r"that does not end", None,
      new("a stray delimiter, or a byte that is no ASCII in a procedure: the other reads", "A brace, parenthesis or angle bracket is lost or added. Where a brace is lost, FreeType takes the Subrs for a part of a procedure, and nothing tells; "
          "by a byte that is no printable ASCII in a procedure we see that its end is lost. fontTools reads such a byte in a procedure that is never executed.")),
+    (r"no hexadecimal digit", "fontTools",
+     new("a vertical tab among hexadecimal digits: fontTools reads", "It is white space to Python, and not to PostScript.")),
     (r"defined a second time", None,
      new("Subrs or CharStrings is defined a second time: the other reads", "FreeType keeps the first Subrs, fontTools the second. We do not choose.")),
     (r"a subroutine number beyond", "fontTools",
@@ -239,7 +241,7 @@ def both_read(r, other):
         added = other == "FreeType" and d["only theirs"] == [b".notdef"]
         out.append((NOTDEF if added else None, "only theirs: %r" % d["only theirs"][:5]))
     if d["only ours"]:
-        lost = other == "FreeType" and agrees(r, "fontTools") and r["kind"] == "stored-plainly"
+        lost = other == "FreeType" and (unchanged(r) or agrees(r, "fontTools")) and not d["only theirs"]
         out.append((AT_DEF if lost else None, "only ours: %r" % d["only ours"][:5]))
     if d["twice ours"]:
         out.append((None, "twice ours: %r" % d["twice ours"][:5]))
@@ -330,6 +332,7 @@ SMALLEST = {
     "more than 16,384 subroutines are declared: the other reads": "`/Subrs 20000 array`",
     "eexec is not executed, or too soon: FreeType reads": "`currentfile pop` for `currentfile eexec`",
     "a stray delimiter, or a byte that is no ASCII in a procedure: the other reads": "`/RD {string currentfile exch readstring pop executeonly def`",
+    "a vertical tab among hexadecimal digits: fontTools reads": "`digits.pfa` with one between two digits",
     "Subrs or CharStrings is defined a second time: the other reads": "`/Subrs 1 array ..` behind the first",
     "a negative subroutine number: fontTools reads": "`dup -1 9 RD`",
     "no space behind the word that reads a charstring: fontTools reads": "`/one 48 RD{`",

@@ -93,6 +93,7 @@ INPUTS = {
     "more than 16,384 subroutines are declared: the other reads": private(b"/Subrs 7 array", b"/Subrs 20000 array"),
     "eexec is not executed, or too soon: FreeType reads": clear(b"currentfile eexec", b"currentfile pop"),
     "a stray delimiter, or a byte that is no ASCII in a procedure: the other reads": private(b"readstring pop}", b"readstring pop"),
+    "a vertical tab among hexadecimal digits: fontTools reads": ("pfa", SOURCE.made("pfa")[:len(CLEAR) + 400] + b"\x0b" + SOURCE.made("pfa")[len(CLEAR) + 400:]),
     "Subrs or CharStrings is defined a second time: the other reads": private(b"ND\n2 index", b"ND\n/Subrs 1 array\n" + BODY_0 + b"\nND\n2 index"),
     "a negative subroutine number: fontTools reads": private(b"dup 6 ", b"dup -1 "),
     "no space behind the word that reads a charstring: fontTools reads": private(ONE, ONE.replace(b"RD ", b"RD{", 1)),
