@@ -74,6 +74,15 @@ REFUSED = [
 ]
 
 
+LATE = new("lenIV is defined behind Subrs: FreeType reads the subroutines without it", "FreeType decrypts a subroutine when it meets it, with the 4 that holds until then. PostScript decrypts when a glyph is run: one lenIV for all, "
+           "as fontTools and we have it.")
+
+
+def late(r):
+    found = re.search(r"lenIV \S+ (?:said|inserted) at (\d+)", r["what"].replace(",", ""))
+    return found is not None and int(found.group(1)) == r.get("behind Subrs")
+
+
 def refuses_lawful(r):
     """We refuse a lawful font; a damaged byte may make a charstring call one of OtherSubrs 14 to 18."""
     return r["kind"] in LAWFUL and r["ours"]["state"] == "refused" and "multiple-master" not in r["ours"]["message"]
@@ -89,6 +98,8 @@ def refused_by_us(r, other):
     message = r["ours"]["message"]
     if refuses_lawful(r):
         return None
+    if other == "FreeType" and late(r) and "lenIV" in message:
+        return LATE
     for pattern, reader, name in REFUSED:
         if reader in (None, other) and re.search(pattern, message):
             if name.startswith("eexec is not executed") and not misses_eexec(r):
@@ -184,6 +195,8 @@ def refused_by_freetype(r):
     error = r["FreeType"]["error"]
     if r["kind"] == "segments-hex" and unchanged(r):
         return HEX_SEGMENT
+    if late(r) and (unchanged(r) or agrees(r, "fontTools")):
+        return LATE
     if "no Subrs" in notes(r) and r.get("where") == "private":
         return NO_SUBRS
     good = unchanged(r) or agrees(r, "fontTools")
@@ -253,7 +266,7 @@ def both_read(r, other):
         out.append((EMPTY_BODY if r["kind"] in ("short", "charstring-part") else None, "contents: %r" % (here[:3],)))
     elif here:
         good = other == "FreeType" and (unchanged(r) or agrees(r, "fontTools"))
-        out.append((STOPPED if good else None, "contents: %r" % (here[:3],)))
+        out.append(((LATE if late(r) else STOPPED) if good else None, "contents: %r" % (here[:3],)))
     elif d["subroutines"][0] != d["subroutines"][1]:
         out.append((COUNT if fewer else None, "subroutines %d and %d" % d["subroutines"]))
     drawn = [name for name, differs in d["outlines"] if not differs]
@@ -325,6 +338,7 @@ SMALLEST = {
     "lenIV beyond 65535: fontTools reads": "`/lenIV 99999 def`",
     "lenIV is no whole number, or below -1: FreeType reads": "`/lenIV 4.0 def`, `/lenIV -2 def`",
     "a charstring or subroutine shorter than lenIV: fontTools reads": "`/space 3 RD abc ND`",
+    "lenIV is defined behind Subrs: FreeType reads the subroutines without it": "`/lenIV 0 def` between Subrs and CharStrings",
     "CharStrings is cut before its end: FreeType reads": "the private part ends behind the last `ND`",
     "CharStrings or Subrs is damaged: FreeType reads": "an `ND` is removed",
     "an entry is read or stored by another word than the first: FreeType reads": "`dup 1 8 RD` where the body has 9 bytes",

@@ -516,7 +516,9 @@ class Comparison:
                 record["ours"]["there"] = file.read(12)
         if kind != AS_IT_IS:
             record["where"] = where(path, self.maker.source(font))
-            record["clear"] = len(self.maker.source(font).clear)
+            source = self.maker.source(font)
+            record["clear"], behind = len(source.clear), re.search(rb"2 index\s*/CharStrings", source.text)
+            record["behind Subrs"] = behind.start() if behind and source.bodies else None
             if ours.state == "read":
                 record["ours"]["from source"] = self.from_source(ours, self.sources[font])
         for name, worker in self.workers.items():

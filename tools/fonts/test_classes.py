@@ -49,11 +49,12 @@ def recharged(name, plain_before):
     return private(whole, b"%s %d RD %s ND" % (name, len(new), new))
 
 
-def unencrypted():
-    class Minus:
+def recoded(len_iv, place):
+    """The charstrings with another lenIV, which is said at one of the places."""
+    class Chosen:
         def choice(self, values):
-            return -1 if -1 in values else values[0]
-    return "pfb", SOURCE.made("pfb", text=damage.recoded(Minus(), SOURCE)[0])
+            return len_iv if -1 in values else values[place]
+    return "pfb", SOURCE.made("pfb", text=damage.recoded(Chosen(), SOURCE)[0])
 
 
 def cut_behind_glyphs():
@@ -103,7 +104,8 @@ INPUTS = {
     "'currentfile eexec' is not written so: fontTools refuses": clear(b"currentfile eexec", b"currentfile  eexec"),
     "no 512 zeros, or no 'currentfile closefile': fontTools refuses": ("pfa", SOURCE.made("pfa", trailer=make_digits.TRAILER)),
     "no end mark of the PFB file: fontTools refuses": ("pfb", PFB[:-2]),
-    "lenIV is -1: fontTools refuses": unencrypted(),
+    "lenIV is -1: fontTools refuses": recoded(-1, 0),
+    "lenIV is defined behind Subrs: FreeType reads the subroutines without it": recoded(0, -1),
     "hexadecimal digits behind CharStrings are damaged: fontTools refuses": in_digits(b"noaccess put\ndup /FontName"),
     "a token that defines nothing we read is damaged: fontTools refuses": private(b"/password 5839 def", b"/password 5839 dex"),
     "an escaped parenthesis in a string: fontTools refuses": clear(b"/FontName", b"/Said (\\() def\n/FontName"),
@@ -131,7 +133,8 @@ INPUTS = {
 # What a class asks of the copy beside what the readers say: the kind of damage, and what was done.
 KINDS = {"hexadecimal digits in a PFB file": "segments-hex", "a PFB segment is of the other kind": "segment-kind", "entries stored by the word def": "stored-plainly",
          "a subroutine of exactly lenIV bytes": "short"}
-DONE = {"the count of CharStrings": "the count at 0 from 15 to -1", "an escaped parenthesis": "\\\\(", "a vertical tab or": "x0b"}
+BEHIND = TEXT.index(b"2 index /CharStrings")
+DONE = {"lenIV is defined behind": f"lenIV 0 said at {BEHIND}", "the count of CharStrings": "the count at 0 from 15 to -1", "an escaped parenthesis": "\\\\(", "a vertical tab or": "x0b"}
 
 
 def beginning(table, name, default):
