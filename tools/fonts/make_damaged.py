@@ -4,6 +4,7 @@
     python3 tools/fonts/make_damaged.py FOLDER            writes them into FOLDER
     python3 tools/fonts/make_damaged.py FOLDER --check    compares FOLDER with what would be written
     python3 tools/fonts/make_damaged.py --list            prints each file, what is expected of it, and where its fault is
+    python3 tools/fonts/make_damaged.py --try BINARY      tries that the program does what is expected of each
 
 They are made from the example font (examples/make_digits.py), most of them with five of its glyphs: `.notdef`, `space`,
 `one`, `seven` (a flex) and `nine` (subroutines that call). Nothing is random. Of each file is said what is expected:
@@ -17,8 +18,11 @@ The byte is that of the file, counted from 0: where the token, the entry or the 
 A missing file, a directory and a file without permission cannot be kept in a folder of files; the gate names them itself.
 """
 import os
+import re
 import struct
+import subprocess
 import sys
+import tempfile
 import zlib
 
 HERE = os.path.dirname(os.path.abspath(__file__))
@@ -133,7 +137,7 @@ def kept_cases(c):
         "length.pfb": (UNREADABLE, "a charstring runs past the end"),
         "no-length.pfb": (UNREADABLE, "an entry with no length"),
         "subrs.pfb": (UNREADABLE, "a subroutine number beyond the array"),
-        "many.pfb": (NOTE, "7 of 20000 subroutines; unreadable where the reader has no room for 20000"),
+        "many.pfb": (UNREADABLE, "20000 subroutines are declared, and the program has room for 16384"),
         "byte.pfb": (READ, "a byte of the charstring of `two` is changed: the glyph is refused"),
         "empty.pfb": (NO_FONT, "an empty file"),
     }
@@ -195,7 +199,7 @@ def count_cases(c):
 
 def kind_cases(c):
     c.clear("fonttype-3.pfb", UNREADABLE, "FontType 3", replaced(CLEAR, b"/FontType 1 ", b"/FontType 3 "), b"/FontType")
-    c.clear("fonttype-missing.pfb", UNREADABLE, "no FontType", replaced(CLEAR, b"/FontType 1 def\n", b""))
+    c.clear("fonttype-missing.pfb", NOTE, "no FontType", replaced(CLEAR, b"/FontType 1 def\n", b""))
     c.clear("multiple-master.pfb", UNREADABLE, "a multiple-master font",
             replaced(CLEAR, b"/FontName", b"/WeightVector [0.25 0.75] def\n/FontName"), b"/WeightVector")
     blended = [(name, text.replace("84 480 hsbw", "84 85 480 -1 1 14 callothersubr pop pop pop pop hsbw")) for name, text in GLYPHS]
@@ -214,7 +218,7 @@ def matrix_cases(c):
             ("matrix-open.pfb", "no closing bracket", b"[0.001 0 0 0.001 0 0"),
             ("matrix-number.pfb", "a number and no array", b"0.001")):
         c.clear(name, UNREADABLE, "a FontMatrix that is none: " + about, replaced(CLEAR, true, matrix), b"/FontMatrix")
-    c.clear("matrix-missing.pfb", UNREADABLE, "no FontMatrix", replaced(CLEAR, b"/FontMatrix " + true + b" readonly def\n", b""))
+    c.clear("matrix-missing.pfb", NOTE, "no FontMatrix", replaced(CLEAR, b"/FontMatrix " + true + b" readonly def\n", b""))
     c.clear("matrix-braces.pfb", READ, "a FontMatrix in braces", replaced(CLEAR, true, b"{0.001 0 0 0.001 0 0}"))
     c.clear("matrix-forms.pfb", READ, "1e-3, +0, .001, 0. and a comment within", replaced(CLEAR, true, b"[1e-3 +0 -0 % a comment ]\n.001 0. 0.0E0]"))
 
@@ -270,6 +274,31 @@ def lawful_cases(c):
            replaced(marks.replace(b" RD ", b" -| ").replace(b" ND\n", b" |-\n"), b" NP\nND\n", b" NP\n|-\n").replace(b" NP\n", b" |\n"))
 
 
+def found_cases(c):
+    """What damaged copies of fonts (damage.py) brought to light."""
+    text = private()
+    whole, head = body_entry(1)
+    length = int(head.split()[2])
+    c.text("subrs-in-array.pfb", READ, "names within an array", private(before="/Said [/CharStrings /Subrs] def\n/Also [/lenIV] def\n"))
+    c.text("stored-plainly.pfb", READ, "the first subroutine and a glyph stored by put and def, the others by NP and ND",
+           replaced(replaced(text, body_entry(0)[0], body_entry(0)[0][:-3] + b"put\n"), entry("one")[0], entry("one")[0][:-3] + b"noaccess def\n"))
+    c.text("lenIV-behind-subrs.pfb", READ, "lenIV 0 defined between Subrs and CharStrings",
+           replaced(replaced(private(0), b"/lenIV 0 def\n", b""), b"ND\n2 index", b"ND\n/lenIV 0 def\n2 index"))
+    c.text("charstrings-behind-subrs.pfb", READ, "/CharStrings right behind Subrs", replaced(text, b"ND\n2 index /CharStrings", b"ND\n/CharStrings"))
+    c.text("dup-charstrings.pfb", READ, "dup /CharStrings behind Subrs", replaced(text, b"2 index /CharStrings", b"dup /CharStrings"))
+    c.text("behind-charstrings.pfb", READ, "a stray brace and a stray parenthesis behind the end of CharStrings", replaced(text, b"readonly put\n", b"readonly { ( put\n"))
+    c.text("second-subrs.pfb", UNREADABLE, "Subrs is defined a second time", replaced(text, b"ND\n2 index", b"ND\n/Subrs 1 array\n" + body_entry(3)[0].replace(b"dup 3", b"dup 0") + b"ND\n2 index"),
+           b"/Subrs 1 ")
+    c.text("subrs-minus-1.pfb", UNREADABLE, "Subrs with a negative count", private(places=-1), b"/Subrs")
+    c.text("charstrings-minus-1.pfb", UNREADABLE, "CharStrings with a negative count", private(declared=-1), b"/CharStrings")
+    c.text("brace-missing.pfb", UNREADABLE, "the brace that closes RD's procedure is lost: the subroutines are within it", replaced(text, b"readstring pop}", b"readstring pop "), b"{string")
+    c.text("stray-brace.pfb", UNREADABLE, "a brace that nothing opened, in Subrs", replaced(text, b"dup 5 ", b"du} 5 "), b"} 5 ")
+    c.text("length-one-less.pfb", UNREADABLE, "a length that is one too small: its last byte is taken for the word that stores it",
+           replaced(text, head, b"dup 1 %d RD " % (length - 1)), b"dup 1 ")
+    c.text("other-reading-word.pfb", UNREADABLE, "an entry that is read by another word", replaced(text, head, head.replace(b"RD ", b"R  ")), b"dup 1 ")
+    c.text("dup-no-number.pfb", UNREADABLE, "dup without a number in Subrs", replaced(text, b"dup 5 ", b"dup five "), b"five ")
+
+
 def table(tag, names):
     """A TrueType or OpenType file's table directory, with empty tables."""
     out = tag + struct.pack(">HHHH", len(names), 16, 0, 16 * len(names) - 16)
@@ -309,12 +338,37 @@ def other_cases(c):
 
 def cases():
     c = Cases()
-    for part in (kept_cases, len_iv_cases, name_cases, count_cases, kind_cases, matrix_cases, damage_cases, lawful_cases, other_cases):
+    for part in (kept_cases, len_iv_cases, name_cases, count_cases, kind_cases, matrix_cases, damage_cases, lawful_cases, found_cases, other_cases):
         part(c)
     return c.files
 
 
+def tried(binary, files):
+    """How many files the program does not take as expected; each is named."""
+    wrong = 0
+    with tempfile.TemporaryDirectory() as folder:
+        for name, (_, _, _, data) in files.items():
+            with open(os.path.join(folder, name), "wb") as out:
+                out.write(data)
+        run = subprocess.run([os.path.abspath(binary), *files], cwd=folder, capture_output=True)
+    rows = {row.split("\t")[0]: row.split("\t")[-1] for row in run.stdout.decode("latin-1").split("\n") if "\t" in row}
+    said = {line.split(": ")[0]: line.split(": ", 1)[1] for line in run.stderr.decode("latin-1").split("\n") if ": " in line}
+    for name, (expected, about, at, data) in files.items():
+        note, message = rows.get(name, "nothing"), said.get(name, "")
+        is_font = expected in (READ, NOTE)
+        got = READ if note == "-" else UNREADABLE if note == "unreadable" else NOTE
+        place = re.search(r"at byte (\d+)", message)
+        good = got == (expected if is_font else UNREADABLE) and bool(message) == (not is_font)
+        if not good or place and int(place.group(1)) > len(data):
+            wrong += 1
+            print(f"{name}: expected {expected} ({about}); {note}; {message}")
+    print(f"files: {len(files)}, not as expected: {wrong}")
+    return wrong
+
+
 def main():
+    if "--try" in sys.argv:
+        return 1 if tried(sys.argv[sys.argv.index("--try") + 1], cases()) else 0
     words = [w for w in sys.argv[1:] if not w.startswith("--")]
     files = cases()
     if "--list" in sys.argv:
