@@ -184,10 +184,9 @@ fn say_fault(o: Options) {
     page::flush(&mut e);
 }
 
-// A line for each of several fonts tells where the work is, where standard error is a terminal and standard
-// output is none.
+// Where standard error is a terminal, a line tells which of several fonts is read.
 fn shows_progress(o: Options) -> bool {
-    o.fonts > 1 && libc::isatty(libc::STDERR_FILENO) == 1 && libc::isatty(libc::STDOUT_FILENO) != 1
+    o.fonts > 1 && libc::isatty(libc::STDERR_FILENO) == 1
 }
 
 // The names of the columns.
@@ -319,6 +318,7 @@ fn do_banks(page: &mut [u8], o: Options, progress: bool) {
 // What the arguments ask for.
 fn act(page: &mut [u8], o: Options) {
     let progress = shows_progress(o);
+    page::set_clears(page, progress);
     if o.banks != 0 {
         do_banks(page, o, progress);
         return;

@@ -1,5 +1,6 @@
 // Printing by way of a page: bytes wait in it and are written together. Its first three bytes hold how many
-// wait, the fourth whether a write failed, and the fifth the file that they go to.
+// wait, the fourth whether a write failed, the fifth the file that they go to, and the sixth whether a line of
+// standard error that shows progress is cleared before they are written.
 ghost use mathlib.Core.Path.{_≡_};
 ghost use lib.ListN.{length};
 use crate::bytes::byte;
@@ -12,7 +13,7 @@ use crate::bytes::put;
 use crate::bytes::smaller;
 use crate::bytes::wide;
 
-const HEAD: usize = 5;
+const HEAD: usize = 6;
 
 // A page for standard output, and a smaller one for standard error.
 pub(crate) fn output() -> [u8; 65536]
@@ -47,8 +48,21 @@ fn failed(before: u8, written: bool) -> u8 {
     if written { before } else { 1 }
 }
 
+// Clears the line of standard error, where that is asked.
+pub(crate) fn clear_line(asked: bool) {
+    if asked {
+        io::write_all(libc::STDERR_FILENO, b"\r\x1b[K");
+    }
+}
+
+// The line of standard error is cleared before what waits is written, if it is so.
+pub(crate) fn set_clears(page: &mut [u8], clears: bool) {
+    put(page, 5, if clears { 1 } else { 0 });
+}
+
 // Writes what waits.
 pub(crate) fn flush(page: &mut [u8]) {
+    clear_line(byte(page, 5) != 0);
     let n = waiting(page);
     let before = byte(page, 3);
     let written = io::write_all(byte(page, 4) as i32, part(page, HEAD, n));

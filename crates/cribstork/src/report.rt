@@ -226,15 +226,10 @@ fn print_font(
     with_rows(t, yes, less(banks::count(banks), yes), 0)
 }
 
-// Nothing of the line that shows progress stays.
-fn clear_progress(page: &mut [u8], shown: bool) {
-    page::text_if(page, shown, b"\r\x1b[K");
-}
-
 // What is wrong with a file, on a line of standard error.
 pub(crate) fn say_trouble(path: &[u8], t: Trouble, limit: usize, progress: bool) {
     let mut e = page::errors();
-    clear_progress(&mut e, progress);
+    page::clear_line(progress);
     page::name(&mut e, path);
     page::text(&mut e, b": ");
     say::trouble(&mut e, t, limit);
@@ -338,7 +333,7 @@ fn show_progress(path: &[u8], o: Options, t: Totals, progress: bool) {
         return;
     }
     let mut e = page::errors();
-    clear_progress(&mut e, progress);
+    page::clear_line(progress);
     page::count(&mut e, place(t.fonts, 1));
     page::text(&mut e, b" of ");
     page::count(&mut e, o.fonts);
@@ -389,7 +384,7 @@ pub(crate) fn no_rows() -> Totals {
 // The last line of standard error.
 pub(crate) fn say_totals(t: Totals, banks: usize, progress: bool) {
     let mut e = page::errors();
-    clear_progress(&mut e, progress);
+    page::clear_line(progress);
     page::text(&mut e, b"cribstork: fonts ");
     page::count(&mut e, t.fonts);
     page::text(&mut e, b", banks ");
