@@ -406,29 +406,28 @@ def in_private(change):
     return kind
 
 
-def between_entries(rng, source):
-    """A token that is no entry's, or one of an entry: both are as likely."""
-    ends = [a for a, _ in source.private_tokens]
+def tokens_of_private(rng, source):
+    """The tokens of the private part that are no entry's, or all of them: both are as likely."""
     first = source.bodies[0][0] if source.bodies else source.glyphs[0][0]
     last = source.glyphs[-1][1]
     outside = [t for t in source.private_tokens if t[0] < first or t[0] >= last]
-    return rng.choice((outside, source.private_tokens)) if ends else []
+    return rng.choice((outside, source.private_tokens))
 
 
 def private_token(rng, source):
-    tokens = between_entries(rng, source)
+    tokens = tokens_of_private(rng, source)
     return token_change(rng, source.text, tokens)
 
 
 def private_byte(rng, source):
-    token = rng.choice(between_entries(rng, source))
+    token = rng.choice(tokens_of_private(rng, source))
     at = rng.randrange(token[0], token[1] + 1)
     new = rng.choice((rng.randrange(256), rng.choice(b"()<>{}[]/% \n0az")))
     return put(source.text, at, at + 1, bytes([new])), f"byte {at} from {source.text[at]:02x} to {new:02x}"
 
 
 def private_digit(rng, source):
-    at = rng.choice(digits_of(source.text, between_entries(rng, source)))
+    at = rng.choice(digits_of(source.text, tokens_of_private(rng, source)))
     new = other_digit(rng, source.text[at])
     return put(source.text, at, at + 1, new), f"digit {chr(source.text[at])} at {at} to {new.decode()}"
 
