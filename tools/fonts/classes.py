@@ -62,7 +62,7 @@ REFUSED = [
      new("eexec is not executed, or too soon: FreeType reads", "In a PFB file FreeType takes the binary segment for the private part, whether the text before it executes eexec or not.")),
     (r"that does not end", None,
      new("a stray delimiter, or a byte that is no ASCII in a procedure: the other reads", "A brace, parenthesis or angle bracket is lost or added. Where a brace is lost, FreeType takes the Subrs for a part of a procedure, and nothing tells; "
-         "by a byte that is no printable ASCII in a procedure we see that its end is lost. fontTools reads such a byte in a procedure that is never executed.")),
+         "by a byte that is no printable ASCII in a procedure we see that its end is lost. fontTools reads such a byte in a procedure that is never executed. Or the bytes of a subroutine are read as text, since a word before them is damaged.")),
     (r"no hexadecimal digit", "fontTools",
      new("a vertical tab among hexadecimal digits: fontTools reads", "It is white space to Python, and not to PostScript.")),
     (r"defined a second time", None,
@@ -76,6 +76,11 @@ REFUSED = [
 
 LATE = new("lenIV is defined behind Subrs: FreeType reads the subroutines without it", "FreeType decrypts a subroutine when it meets it, with the 4 that holds until then. PostScript decrypts when a glyph is run: one lenIV for all, "
            "as fontTools and we have it.")
+
+
+def ends_with_string(r):
+    """A procedure of the copy ends with a string."""
+    return re.search(r"\)\}", r["what"]) is not None
 
 
 def late(r):
@@ -98,7 +103,7 @@ def refused_by_us(r, other):
     message = r["ours"]["message"]
     if refuses_lawful(r):
         return None
-    if other == "FreeType" and late(r) and "lenIV" in message:
+    if other == "FreeType" and late(r) and "shorter than lenIV" in message:
         return LATE
     for pattern, reader, name in REFUSED:
         if reader in (None, other) and re.search(pattern, message):
@@ -136,13 +141,16 @@ FONTTOOLS = [
 ]
 
 STRINGS = new("an escaped parenthesis in a string: fontTools refuses", "fontTools' pattern for strings does not know it. FreeType and we read.")
+COLLIDES = new("a glyph has the name of a word that is executed: fontTools refuses", "`end`, or the word that stores an entry, is looked up in CharStrings first, and gives a charstring. FreeType and we do not execute the words between entries.")
+ELSEWHERE = new("CharStrings is put elsewhere: fontTools refuses", "fontTools executes the words that put CharStrings into the font's dictionary. FreeType and we take it where it is named.")
 NOT_ENDING = new("fontTools does not end", "Its pattern for strings tries every way to split a long string.")
 
 HEADER = "the first line is not '%!PS-AdobeFont' or '%!FontType1': fontTools and FreeType refuse"
 FIRST_SEGMENT = new("a PFB segment is of the other kind: FreeType refuses", "FreeType wants kind 1 first, then kind 2. We and fontTools take both kinds alike.")
 ENCODING = new("a code beyond 255 in Encoding: fontTools and FreeType refuse", "We do not read Encoding: a board asks by name.")
 EMPTY = new("a charstring of exactly lenIV bytes: FreeType refuses", "It has no byte to run. FreeType wants one at least; we and fontTools read a glyph that draws nothing.")
-MATRIX = new("the fourth number of FontMatrix is 0: FreeType refuses", "FreeType divides by it. Six finite numbers are a matrix for us; a board that asks for it is told.")
+MATRIX = new("a FontMatrix that is singular or far from the usual: FreeType refuses", "FreeType refuses a matrix that it cannot turn round, or that stretches one direction some fifty times more than the other. "
+             "Six finite numbers are a matrix for us; a glyph that it puts beyond the range is refused where --font-matrix asks for it.")
 MORE = new("more glyphs than are declared: FreeType refuses", "FreeType makes room for six more, and refuses a dictionary that is declared to be empty. We read all and say how many are declared (a note); PostScript's "
            "dictionaries grow.")
 CLEAR = new("a key or a token before eexec that we do not read is damaged: FreeType refuses",
@@ -180,6 +188,10 @@ def refused_by_fonttools(r):
         return STRINGS
     if "list assignment index out of range" in error and r.get("where") == "clear" and unchanged(r):
         return ENCODING
+    if re.search(r"renamed to (a b c|b'/end')$", r["what"]) and agrees(r, "FreeType"):
+        return COLLIDES
+    if r["kind"] == "directly" and unchanged(r):
+        return ELSEWHERE
     for pattern, name in FONTTOOLS:
         if re.search(pattern, error):
             known = name.startswith(("a subroutine of the array", "lenIV is -1"))
@@ -197,6 +209,8 @@ def refused_by_freetype(r):
         return HEX_SEGMENT
     if late(r) and (unchanged(r) or agrees(r, "fontTools")):
         return LATE
+    if ends_with_string(r) and unchanged(r):
+        return CLOSED
     if "no Subrs" in notes(r) and r.get("where") == "private":
         return NO_SUBRS
     good = unchanged(r) or agrees(r, "fontTools")
@@ -211,8 +225,7 @@ def refused_by_freetype(r):
         return EMPTY
     if not good:
         return None
-    numbers = r["ours"]["matrix"].split()
-    if len(numbers) == 6 and float(numbers[3]) == 0:
+    if matrix_moves(r):
         return MATRIX
     if r.get("where") == "clear":
         return ENCODING if "invalid argument" in error else CLEAR
@@ -227,9 +240,9 @@ TWICE = new("a glyph is defined twice: FreeType lists both", "PostScript and fon
 NOTDEF = new("no .notdef: FreeType adds one", "FreeType makes one of its own, 500 wide. We list what the font defines.")
 COUNT = new("fewer subroutines than declared: FreeType shortens the array", "It allows one subroutine for eight bytes that are left of the file. The subroutines that are there are the same.")
 TAB = new("a vertical tab or a zero byte in a glyph's name: fontTools ends the name elsewhere", "A vertical tab is white space to Python and not to PostScript, a zero byte to PostScript and not to Python.")
-AT_DEF = new("entries stored by the word def: FreeType loses glyphs", "FreeType ends CharStrings at the first def, which is meant for fonts that define it elsewhere. fontTools has the same glyphs as we.")
-STOPPED = new("FreeType loses subroutines", "It ends the array at a token that is not dup, or is misled by a string within a procedure (it passes over the byte behind the string's end). "
-              "Ours are those of the undamaged font, or fontTools has the same as we.")
+AT_DEF = new("entries stored by the word def: FreeType loses glyphs", "FreeType ends CharStrings at the first def, which is meant for fonts that define it elsewhere, and adds a .notdef of its own where that is among the lost. Our glyphs are those of the font.")
+STOPPED = new("FreeType loses subroutines", "It ends the array at a token that is not dup, or takes it for a part of an array or a procedure before it whose bracket is damaged. Ours are those of the undamaged font.")
+CLOSED = new("a string at the end of a procedure: FreeType loses Subrs, or refuses", "FreeType passes over the byte behind a string within a procedure, here the brace that closes it: the procedure goes on into Subrs.")
 EMPTY_BODY = new("a subroutine of exactly lenIV bytes: the bytes run are counted otherwise", "FreeType gives it as one that is not there. What is drawn is the same.")
 DRAWN = new("the same bytes, drawn otherwise by FreeType", "The charstring or a subroutine is damaged, or one that is called is not there. Both readers have the same bytes: the difference is in how FreeType runs them, "
             "and docs/DIFFERENCES.md has how we do.")
@@ -266,7 +279,10 @@ def both_read(r, other):
         out.append((EMPTY_BODY if r["kind"] in ("short", "charstring-part") else None, "contents: %r" % (here[:3],)))
     elif here:
         good = other == "FreeType" and (unchanged(r) or agrees(r, "fontTools"))
-        out.append(((LATE if late(r) else STOPPED) if good else None, "contents: %r" % (here[:3],)))
+        # A .notdef that FreeType made stands for one that it lost.
+        made = good and d["only ours"] and [name for name, _, _, _ in here] == [b".notdef"]
+        name = AT_DEF if made else LATE if late(r) else CLOSED if ends_with_string(r) else STOPPED
+        out.append((name if good else None, "contents: %r" % (here[:3],)))
     elif d["subroutines"][0] != d["subroutines"][1]:
         out.append((COUNT if fewer else None, "subroutines %d and %d" % d["subroutines"]))
     drawn = [name for name, differs in d["outlines"] if not differs]
@@ -360,11 +376,13 @@ SMALLEST = {
     "hexadecimal digits behind CharStrings are damaged: fontTools refuses": "`digits.pfa` with a digit removed there",
     "a token that defines nothing we read is damaged: fontTools refuses": "`/password 5839 dex`",
     "an escaped parenthesis in a string: fontTools refuses": "`/Said (\\() def`",
+    "a glyph has the name of a word that is executed: fontTools refuses": "`/end` for `/one`",
+    "CharStrings is put elsewhere: fontTools refuses": "`dup /CharStrings` for `2 index /CharStrings`",
     "fontTools does not end": "none among the copies",
     "a PFB segment is of the other kind: FreeType refuses": "`80 02` first",
     "a code beyond 255 in Encoding: fontTools and FreeType refuse": "`dup 256 /A put`",
     "a charstring of exactly lenIV bytes: FreeType refuses": "`/space 4 RD abcd ND`",
-    "the fourth number of FontMatrix is 0: FreeType refuses": "`/FontMatrix [0.001 0 0 0 0 0] def`",
+    "a FontMatrix that is singular or far from the usual: FreeType refuses": "`/FontMatrix [0.001 0 0 0 0 0] def`",
     "more glyphs than are declared: FreeType refuses": "`/CharStrings 8 dict` with 15",
     "a key or a token before eexec that we do not read is damaged: FreeType refuses": "`/FontBBox {30 -10 450} readonly def`",
     "the text behind CharStrings is damaged: FreeType refuses": "`readonly > put`",
@@ -376,7 +394,8 @@ SMALLEST = {
     "fewer subroutines than declared: FreeType shortens the array": "`/Subrs 1000 array` with seven",
     "a vertical tab or a zero byte in a glyph's name: fontTools ends the name elsewhere": "`/on<0B>`",
     "entries stored by the word def: FreeType loses glyphs": "`noaccess def` for each `ND`",
-    "FreeType loses subroutines": "`/Never {(x)} def` before `/Subrs`",
+    "FreeType loses subroutines": "`NP` twice behind an entry",
+    "a string at the end of a procedure: FreeType loses Subrs, or refuses": "`/Never {(x)} def` before `/Subrs`",
     "a subroutine of exactly lenIV bytes: the bytes run are counted otherwise": "`dup 4 4 RD abcd NP`",
     "the same bytes, drawn otherwise by FreeType": "without subroutine 0: `seven`",
     "the same bytes, refused by FreeType's interpreter": "a glyph that begins with `8B A6 0C 10` (OtherSubr 27)",

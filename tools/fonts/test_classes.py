@@ -109,10 +109,12 @@ INPUTS = {
     "hexadecimal digits behind CharStrings are damaged: fontTools refuses": in_digits(b"noaccess put\ndup /FontName"),
     "a token that defines nothing we read is damaged: fontTools refuses": private(b"/password 5839 def", b"/password 5839 dex"),
     "an escaped parenthesis in a string: fontTools refuses": clear(b"/FontName", b"/Said (\\() def\n/FontName"),
+    "a glyph has the name of a word that is executed: fontTools refuses": private(b"/one ", b"/end "),
+    "CharStrings is put elsewhere: fontTools refuses": private(b"2 index /CharStrings", b"dup /CharStrings"),
     "a PFB segment is of the other kind: FreeType refuses": ("pfb", b"\x80\2" + PFB[2:]),
     "a code beyond 255 in Encoding: fontTools and FreeType refuse": clear(b"/Encoding StandardEncoding def", b"/Encoding 256 array\ndup 256 /A put\nreadonly def"),
     "a charstring of exactly lenIV bytes: FreeType refuses": private(SPACE, b"/space 4 RD abcd ND"),
-    "the fourth number of FontMatrix is 0: FreeType refuses": clear(MATRIX, b"/FontMatrix [0.001 0 0 0 0 0] def"),
+    "a FontMatrix that is singular or far from the usual: FreeType refuses": clear(MATRIX, b"/FontMatrix [0.001 0 0 0 0 0] def"),
     "more glyphs than are declared: FreeType refuses": private(b"/CharStrings 15 ", b"/CharStrings 8 "),
     "a key or a token before eexec that we do not read is damaged: FreeType refuses": clear(b"{30 -10 450 710}", b"{30 -10 450}"),
     "the text behind CharStrings is damaged: FreeType refuses": private(b"readonly put", b"readonly > put"),
@@ -124,17 +126,18 @@ INPUTS = {
     "fewer subroutines than declared: FreeType shortens the array": private(b"/Subrs 7 array", b"/Subrs 1000 array"),
     "a vertical tab or a zero byte in a glyph's name: fontTools ends the name elsewhere": private(b"/one ", b"/on\x0b "),
     "entries stored by the word def: FreeType loses glyphs": ("pfb", SOURCE.made("pfb", text=STORED)),
-    "FreeType loses subroutines": private(b"/Subrs", b"/Never {(x)} def\n/Subrs"),
+    "FreeType loses subroutines": private(b" NP\ndup 3 ", b" NP NP\ndup 3 "),
+    "a string at the end of a procedure: FreeType loses Subrs, or refuses": private(b"/Subrs", b"/Never {(x)} def\n/Subrs"),
     "a subroutine of exactly lenIV bytes: the bytes run are counted otherwise": private(BODY_4, b"dup 4 4 RD abcd NP"),
     "the same bytes, drawn otherwise by FreeType": private(BODY_0, b""),
     "the same bytes, refused by FreeType's interpreter": recharged(b"/one", b"\x8b\xa6\x0c\x10"),
     "the FontMatrix is not the usual one: FreeType applies it": clear(MATRIX, b"/FontMatrix [0.001 0 0 0.001 100 50] def"),
 }
 # What a class asks of the copy beside what the readers say: the kind of damage, and what was done.
-KINDS = {"hexadecimal digits in a PFB file": "segments-hex", "a PFB segment is of the other kind": "segment-kind", "entries stored by the word def": "stored-plainly",
+KINDS = {"hexadecimal digits in a PFB file": "segments-hex", "a PFB segment is of the other kind": "segment-kind", "entries stored by the word def": "stored-plainly", "CharStrings is put elsewhere": "directly",
          "a subroutine of exactly lenIV bytes": "short"}
 BEHIND = TEXT.index(b"2 index /CharStrings")
-DONE = {"lenIV is defined behind": f"lenIV 0 said at {BEHIND}", "the count of CharStrings": "the count at 0 from 15 to -1", "an escaped parenthesis": "\\\\(", "a vertical tab or": "x0b"}
+DONE = {"lenIV is defined behind": f"lenIV 0 said at {BEHIND}", "the count of CharStrings": "the count at 0 from 15 to -1", "an escaped parenthesis": "\\\\(", "a string at the end": "{(x)}", "a glyph has the name": "/one renamed to b'/end'", "a vertical tab or": "x0b"}
 
 
 def beginning(table, name, default):
