@@ -82,7 +82,7 @@ transcript() {
     run --stems some examples/digits.pfb
     run --stems 1.5 examples/digits.pfb
     run --stems -1 examples/digits.pfb
-    run --stems 1025 examples/digits.pfb
+    run --stems 1001 examples/digits.pfb
     run --commands 1025 examples/digits.pfb
     run --output 16385 examples/digits.pfb
     run --stems +1e1 --commands 2.5E1 --output 256 --glyph eight examples/digits.pfb

@@ -51,7 +51,7 @@ const NAMES: usize = 32768;
 const LIST_BYTES: usize = 65536;
 
 // The stem records lent to converting.
-pub const STEMS: usize = 1024;
+pub const STEMS: usize = 1000;
 
 fn font_store() -> [u8; FONT_BYTES]
     ensures { λ r. ⌜ 1048576 ≡ length r ⌝ }
@@ -66,7 +66,7 @@ fn list_store() -> [u8; LIST_BYTES]
 }
 
 fn stem_store() -> [outline::Stem; STEMS]
-    ensures { λ r. ⌜ 1024 ≡ length r ⌝ }
+    ensures { λ r. ⌜ 1000 ≡ length r ⌝ }
 {
     let none = outline::Stem {
         horizontal: false,
@@ -84,7 +84,7 @@ fn run(
     records: usize,
     words: &mut [u64],
 ) -> type1::Interpreted
-    requires { ⌜ records ≤ 1024 ⌝ }
+    requires { ⌜ records ≤ 1000 ⌝ }
     ensures { λ r. ⌜ Runs r (now (words .entry)) (now (words .exit)) (outcome (sourceOf (now (charstring .entry)) (now (bank .entry))) reading records (length (now (words .entry)))) ⌝ }
 {
     let mut stems = stem_store();
@@ -101,7 +101,7 @@ fn convert(
     words: &mut [u64],
     out: &mut [u8],
 ) -> Type2Glyph
-    requires { ⌜ records ≤ 1024 ⌝ }
+    requires { ⌜ records ≤ 1000 ⌝ }
     ensures { λ r. ⌜ Answers (convert (sourceOf (now (charstring .entry)) (now (bank .entry))) reading matrix (roomsWith records (now (words .entry)) (now (out .entry))))
         (length (now (out .entry))) r (now (out .exit)) ⌝ }
 {

@@ -76,14 +76,14 @@ use Rattle.cribstork.proofs.convert.Code as code
 use Rattle.cribstork.proofs.convert.Code.Mir as text
 
 -- so many records fit in memory
-stem-room : (k : ℕ) → k ≤ 1024 → Room T.the-row k
+stem-room : (k : ℕ) → k ≤ 1000 → Room T.the-row k
 stem-room k le = (lt-of-le-of-lt le (lit< tt), lt-of-le-of-lt (mul-le-mul-right 24 le) (lit< tt))
 
 -- the answer and the output are the conversion's with so many records
-told : (x : Source) (rd : Reading) (m : Matrix) (k : ℕ) (s s′ : List Stem) (words words′ out₀ out : List ℕ) (g : Type2Glyph) → k ≤ 1024 → length s ≡ 1024
+told : (x : Source) (rd : Reading) (m : Matrix) (k : ℕ) (s s′ : List Stem) (words words′ out₀ out : List ℕ) (g : Type2Glyph) → k ≤ 1000 → length s ≡ 1000
     → ConvertsFrom x rd m (roomsOf (take k s) words out₀) g s′ words′ out → Answers (convert x rd m (roomsWith k words out₀)) (length out₀) g out
 told x rd m k s s′ words words′ out₀ out g le full l =
-    subst (λ (q : ℕ). Answers (convert x rd m (roomsWith q words out₀)) (length out₀) g out) (front-length 1024 k s le full) (record { glyph = l .glyph; bytes = l .bytes })
+    subst (λ (q : ℕ). Answers (convert x rd m (roomsWith q words out₀)) (length out₀) g out) (front-length 1000 k s le full) (record { glyph = l .glyph; bytes = l .bytes })
 
 abbrev machZ : Matrix → Val
 machZ h = LL.tuple-val Z.the-type Z′.the-laws (Z.the-type .to h)
@@ -117,16 +117,16 @@ abbrev machA : List Stem → Val
 machA xs = only (array-vals (LL.vals T.the-type T′.the-laws) xs)
 
 abbrev tAt : Ty
-tAt = spell text.table (pointee ((Array T.the-row 1024) .written))
+tAt = spell text.table (pointee ((Array T.the-row 1000) .written))
 
-typedA : {M : Type 1} (𝓤 : URA M) (H : Heap 𝓤) (A : Atoms 𝓤) (W : Given 𝓤 H A) (xs : List Stem) (u : Val) → Is (Array T.the-row 1024) xs (u ∷ []) → So (hasTy tAt u) × WT u
-typedA 𝓤 H A W xs u i = array-lawful 𝓤 H A W T.the-row (LL.lawful T.the-type T′.the-laws 𝓤 H A W) 1024 .typed xs (u ∷ []) i .0
+typedA : {M : Type 1} (𝓤 : URA M) (H : Heap 𝓤) (A : Atoms 𝓤) (W : Given 𝓤 H A) (xs : List Stem) (u : Val) → Is (Array T.the-row 1000) xs (u ∷ []) → So (hasTy tAt u) × WT u
+typedA 𝓤 H A W xs u i = array-lawful 𝓤 H A W T.the-row (LL.lawful T.the-type T′.the-laws 𝓤 H A W) 1000 .typed xs (u ∷ []) i .0
 
-tellsA : (xs : List Stem) (u : Val) → Is (Array T.the-row 1024) xs (u ∷ []) → u ≡ machA xs
-tellsA xs u i = ap only (array-tells T.the-row (LL.vals T.the-type T′.the-laws) (LL.tells T.the-type T′.the-laws) 1024 xs (u ∷ []) i)
+tellsA : (xs : List Stem) (u : Val) → Is (Array T.the-row 1000) xs (u ∷ []) → u ≡ machA xs
+tellsA xs u i = ap only (array-tells T.the-row (LL.vals T.the-type T′.the-laws) (LL.tells T.the-type T′.the-laws) 1000 xs (u ∷ []) i)
 
-mineA : (xs : List Stem) (u : Val) → Is (Array T.the-row 1024) xs (u ∷ []) → Is (Array T.the-row 1024) xs (machA xs ∷ [])
-mineA xs u i = subst (λ (w : Val). Is (Array T.the-row 1024) xs (w ∷ [])) (tellsA xs u i) i
+mineA : (xs : List Stem) (u : Val) → Is (Array T.the-row 1000) xs (u ∷ []) → Is (Array T.the-row 1000) xs (machA xs ∷ [])
+mineA xs u i = subst (λ (w : Val). Is (Array T.the-row 1000) xs (w ∷ [])) (tellsA xs u i) i
 
 module _ {M : Type 1} (𝓤 : URA M) (H : Heap 𝓤) (A : Atoms 𝓤) (mem : Memory → SProp 𝓤) (run′ : Routine → Fun 𝓤) where
   abbrev pub StemStoreC : Contract 𝓤
@@ -137,7 +137,7 @@ module _ {M : Type 1} (𝓤 : URA M) (H : Heap 𝓤) (A : Atoms 𝓤) (mem : Mem
 
 module _ {M : Type 1} (𝓤 : URA M) (H : Heap 𝓤) (A : Atoms 𝓤) (mem : Memory → SProp 𝓤) (run′ : Routine → Fun 𝓤) (W : Given 𝓤 H A) (C : Calls 𝓤 H) where
   pub stem-store-as : Triple 𝓤 (C #cribstork·stem-store) (StemStoreC 𝓤 H A mem run′)
-      → ent 𝓤 (mean 𝓤 H A (‵ ftrue)) (C #cribstork·stem-store ([]) (λ w. mean 𝓤 H A (GotAll 𝓤 (Array T.the-row 1024) (Unit {0}) (λ (r : (Array T.the-row 1024) .Denot) (lasts : (Unit {0})). 1024 ≡ length r) (λ (lasts : (Unit {0})). ftrue) (‵ ftrue) w)))
+      → ent 𝓤 (mean 𝓤 H A (‵ ftrue)) (C #cribstork·stem-store ([]) (λ w. mean 𝓤 H A (GotAll 𝓤 (Array T.the-row 1000) (Unit {0}) (λ (r : (Array T.the-row 1000) .Denot) (lasts : (Unit {0})). 1000 ≡ length r) (λ (lasts : (Unit {0})). ftrue) (‵ ftrue) w)))
   stem-store-as known =
       let y : StemStoreC 𝓤 H A mem run′ .Ghost = ((tt, tt, tt, tt, tt), tt) in
       via 𝓤 (StemStoreC 𝓤 H A mem run′ .pre y) (qed W ((‵ ftrue) ∷ []) ∵ nothing ! $ nothing ! $ join ! $ frame ! $ done !) (known y)
@@ -198,15 +198,15 @@ module _ {M : Type 1} (𝓤 : URA M) (H : Heap 𝓤) (A : Atoms 𝓤) (W : Given
       qed W (‵ (G.the-row .own r (w ∷ [])) ∷ ‵ (ShrSlice (named 0) κcharstring u8 .own xcharstring (sliceVal (xcharstring .ptr) (length (xcharstring .now)) ∷ [])) ∷ ‵ (flft κcharstring qcharstring) ∷ ‵ (ShrSlice (named 0) κbank u8 .own xbank (sliceVal (xbank .ptr) (length (xbank .now)) ∷ [])) ∷ ‵ (flft κbank qbank) ∷ ‵ (Own u64 mwords bwords owords κwords γwords uswords) ∷ ‵ (flft κwords qwords) ∷ ‵ (Own u8 mout bout oout κout γout usout) ∷ ‵ (flft κout qout) ∷ []) ∵ suffices ! _ (ends-at 𝓤 H A f.ended stayed (f.clauses 𝓤 H A mem run′) W bound w r (tt, (tt, (tt, (tt, (tt, (uswords, (usout, tt))))))) (tt, (tt, (tt, (tt, (tt, (lwords, (lout, tt)))))))) $ says ! e $
       nothing ! $ move ! (9 ∷ 0 ∷ []) $ join ! $ move ! (7 ∷ 0 ∷ []) $ join ! $ move ! (5 ∷ 0 ∷ []) $ join ! $ move ! (3 ∷ 0 ∷ []) $ join ! $ frame ! $ nothing ! $ move ! (5 ∷ 0 ∷ []) $ fjoin ! $ move ! (4 ∷ 0 ∷ []) $ fjoin ! $ owned ! usize (Is usize) (uint-makes 𝓤 H A W w64) records _ (refl, records-fits) $ fjoin ! $ owned ! Z.the-row (Is Z.the-row) (LL.makes Z.the-type Z′.the-plain 𝓤 H A) matrix _ matrix-fits $ fjoin ! $ owned ! Y.the-row (Is Y.the-row) (LL.makes Y.the-type Y′.the-plain 𝓤 H A) rd _ rd-fits $ fjoin ! $ move ! (3 ∷ 0 ∷ []) $ fjoin ! $ move ! (2 ∷ 0 ∷ []) $ fjoin ! $ done !
 
-  module _ (known-stem-store : Triple 𝓤 (C #cribstork·stem-store) (StemStoreC 𝓤 H A mem run′)) (known-convert-charstring-transformed : Triple 𝓤 (C #type1-to-type2·convert-charstring-transformed) (ConvertCharstringTransformedC 𝓤 H A mem run′)) (need : records ≤ 1024) where
+  module _ (known-stem-store : Triple 𝓤 (C #cribstork·stem-store) (StemStoreC 𝓤 H A mem run′)) (known-convert-charstring-transformed : Triple 𝓤 (C #type1-to-type2·convert-charstring-transformed) (ConvertCharstringTransformedC 𝓤 H A mem run′)) (need : records ≤ 1000) where
     pub walk : ent 𝓤 (onEntry 𝓤 H A f.signature (κcharstring, (κbank, (κwords, (κout, tt)))) (qcharstring, (qbank, (qwords, (qout, tt)))) a vals) (WpFn 𝓤 H C Λ code.function args Post)
     walk =
         qed W ((‵ (flft κcharstring qcharstring) ⊛ (‵ (flft κbank qbank) ⊛ (‵ (flft κwords qwords) ⊛ (‵ (flft κout qout) ⊛ ‵ ftrue)))) ∷ ‵ (owns (ShrSlice (named 0) κcharstring u8 ∷ ShrSlice (named 1) κbank u8 ∷ Y.the-row ∷ Z.the-row ∷ usize ∷ MutSlice (named 2) κwords u64 ∷ MutSlice (named 3) κout u8 ∷ []) a vals) ∷ []) ∵ enter ! C Λ code.function args _ $
         alloc1 ! (λ l₀. alloc1 ! (λ l₁. alloc1 ! (λ l₂. alloc1 ! (λ l₃. alloc1 ! (λ l₄. alloc1 ! (λ l₅. alloc1 ! (λ l₆. alloc1 ! (λ l₇. alloc1 ! (λ l₈. alloc1 ! (λ l₉. alloc1 ! (λ l₁₀. alloc1 ! (λ l₁₁. alloc1 ! (λ l₁₂. alloc1 ! (λ l₁₃. alloc1 ! (λ l₁₄. alloc1 ! (λ l₁₅. alloc0 ! $ params1 ! $
         pass1 ! (init ! 28 refl (tt, (tt, (record { fits = fitcharstring .0 }, tt)))) $ pass1 ! (init ! 26 refl (tt, (tt, (record { fits = fitbank .0 }, tt)))) $ pass1 ! (init ! 24 refl (typedY 𝓤 H A W rd _ rd-fits)) $ pass1 ! (init ! 22 refl (typedZ 𝓤 H A W matrix _ matrix-fits)) $ pass1 ! (init ! 20 refl (tt, record { fits = records-fits })) $ pass1 ! (init ! 18 refl (tt, (tt, (record { fits = fitwords .0 }, tt)))) $ pass1 ! (init ! 16 refl (tt, (tt, (record { fits = fitout .0 }, tt)))) $ pass0 ! $ move ! (33 ∷ []) $ fsplit ! $ move ! (1 ∷ []) $ fsplit ! $ move ! (1 ∷ []) $ fsplit ! $ drop ! $ fsplit ! $ drop ! $ fsplit ! $ drop ! $ fsplit ! $ move ! (1 ∷ []) $ fsplit ! $ move ! (1 ∷ []) $ drop ! $ move ! (36 ∷ []) $ split ! $ move ! (1 ∷ []) $ split ! $ move ! (1 ∷ []) $ split ! $ move ! (1 ∷ []) $ split ! $ move ! (1 ∷ []) $ drop ! $ move ! (7 ∷ 3 ∷ 6 ∷ 2 ∷ 5 ∷ 1 ∷ 4 ∷ 0 ∷ []) $
         -- `stem_store`
-        nothing ! $ asks-all ! fm (Array T.the-row 1024) (Is (Array T.the-row 1024)) (shows 𝓤 H A (Array T.the-row 1024)) (Unit {0}) (λ (r : (Array T.the-row 1024) .Denot) (lasts : (Unit {0})). 1024 ≡ length r) (λ (lasts : (Unit {0})). ftrue) (‵ ftrue) (‵ ftrue) ([]) (stem-store-as 𝓤 H A mem run′ W C known-stem-store) (no-more !) (λ w1 r1 zs1 e1 is1. land ! (from ! (stop !)) (init ! 23 refl (typedA 𝓤 H A W r1 _ is1)) $ rewrite ! 23 (λ (u : Val). ‵ (fat fullShare tAt l₉ 0 u)) (tellsA r1 w1 is1) refl $ drop ! $ drop ! $ drop ! $
-        assigns ! (of-opd ! (load ! (from ! (stop !)) (look ! 20 refl))) (from ! (stop !)) (init ! 22 refl (typedA 𝓤 H A W r1 _ (mineA r1 w1 is1))) $ owned ! (Array T.the-row 1024) (Is (Array T.the-row 1024)) (array-makes 𝓤 H A W T.the-row (LL.makes T.the-type T′.the-plain 𝓤 H A) 1024) r1 _ (mineA r1 w1 is1) $
+        nothing ! $ asks-all ! fm (Array T.the-row 1000) (Is (Array T.the-row 1000)) (shows 𝓤 H A (Array T.the-row 1000)) (Unit {0}) (λ (r : (Array T.the-row 1000) .Denot) (lasts : (Unit {0})). 1000 ≡ length r) (λ (lasts : (Unit {0})). ftrue) (‵ ftrue) (‵ ftrue) ([]) (stem-store-as 𝓤 H A mem run′ W C known-stem-store) (no-more !) (λ w1 r1 zs1 e1 is1. land ! (from ! (stop !)) (init ! 23 refl (typedA 𝓤 H A W r1 _ is1)) $ rewrite ! 23 (λ (u : Val). ‵ (fat fullShare tAt l₉ 0 u)) (tellsA r1 w1 is1) refl $ drop ! $ drop ! $ drop ! $
+        assigns ! (of-opd ! (load ! (from ! (stop !)) (look ! 20 refl))) (from ! (stop !)) (init ! 22 refl (typedA 𝓤 H A W r1 _ (mineA r1 w1 is1))) $ owned ! (Array T.the-row 1000) (Is (Array T.the-row 1000)) (array-makes 𝓤 H A W T.the-row (LL.makes T.the-type T′.the-plain 𝓤 H A) 1000) r1 _ (mineA r1 w1 is1) $
         assigns ! (addr ! (from ! (stop !))) (from ! (stop !)) (init ! 19 refl (tt, tt)) $
         assigns ! (agg ! (and-then ! (load ! (from ! (stop !)) (look ! 19 refl)) (and-then ! (load ! (from ! (stop !)) (look ! 29 refl)) (no-more !)))) (from ! (stop !)) (init ! 17 refl (tt, (tt, (record { fits = records-fits }, tt)))) $
         assigns ! (addr ! (from ! (fld ! refl (hop ! (look-in ! 27 (sub ! 0 refl (whole !))) (stop !))))) (from ! (stop !)) (init ! 15 refl (tt, tt)) $
@@ -216,7 +216,7 @@ module _ {M : Type 1} (𝓤 : URA M) (H : Heap 𝓤) (A : Atoms 𝓤) (W : Given
         -- `convert_charstring_transformed`
         move ! (1 ∷ []) $ use1 W (‵ (ShrSlice (named 0) κcharstring u8 .own xcharstring (sliceVal (xcharstring .ptr) (length (xcharstring .now)) ∷ [])) ⊛ ‵ (ShrSlice (named 0) κcharstring u8 .own xcharstring (sliceVal (xcharstring .ptr) (length (xcharstring .now)) ∷ []))) (shr-slice-copy 𝓤 H A W (named 0) κcharstring u8 .twice xcharstring (sliceVal (xcharstring .ptr) (length (xcharstring .now)) ∷ [])) $
         split ! $ move ! (3 ∷ 1 ∷ []) $ join ! $ move ! (3 ∷ []) $ use1 W (‵ (ShrSlice (named 0) κbank u8 .own xbank (sliceVal (xbank .ptr) (length (xbank .now)) ∷ [])) ⊛ ‵ (ShrSlice (named 0) κbank u8 .own xbank (sliceVal (xbank .ptr) (length (xbank .now)) ∷ []))) (shr-slice-copy 𝓤 H A W (named 0) κbank u8 .twice xbank (sliceVal (xbank .ptr) (length (xbank .now)) ∷ [])) $ split ! $ move ! (5 ∷ 1 ∷ []) $
-        join ! $ move ! (23 ∷ 4 ∷ []) $ lend-front ! tt T.the-row 1024 records need tt (stem-room records need) tAt refl r1 (λ νstore2 δstore2 full. move ! (7 ∷ 8 ∷ []) $ lend ! tt u64 mwords bwords owords yswords (refl) (λ νwords2 δwords2. move ! (9 ∷ 10 ∷ []) $ lend ! tt u8 mout bout oout ysout (refl) (λ νout2 δout2. move ! (2 ∷ 0 ∷ []) $ join ! $ move ! (3 ∷ 0 ∷ []) $ join ! $ move ! (5 ∷ 0 ∷ []) $
+        join ! $ move ! (23 ∷ 4 ∷ []) $ lend-front ! tt T.the-row 1000 records need tt (stem-room records need) tAt refl r1 (λ νstore2 δstore2 full. move ! (7 ∷ 8 ∷ []) $ lend ! tt u64 mwords bwords owords yswords (refl) (λ νwords2 δwords2. move ! (9 ∷ 10 ∷ []) $ lend ! tt u8 mout bout oout ysout (refl) (λ νout2 δout2. move ! (2 ∷ 0 ∷ []) $ join ! $ move ! (3 ∷ 0 ∷ []) $ join ! $ move ! (5 ∷ 0 ∷ []) $
         join ! $ move ! (6 ∷ 0 ∷ []) $ join ! $ asks-all ! fm G.the-row (Is G.the-row) (shows 𝓤 H A G.the-row) (Unit {0} × (Unit {0} × (Unit {0} × (Unit {0} × (List Stem × (List ℕ × (List ℕ × Unit {0})))))))
         (λ (r : G.the-row .Denot) (lasts : (Unit {0} × (Unit {0} × (Unit {0} × (Unit {0} × (List Stem × (List ℕ × (List ℕ × Unit {0})))))))). ConvertsFrom (sourceOf (xcharstring .now) (xbank .now)) rd matrix (roomsOf (take records r1) yswords ysout) r (lasts .1 .1 .1 .1 .0) (lasts .1 .1 .1 .1 .1 .0) (lasts .1 .1 .1 .1 .1 .1 .0))
         (λ (lasts : (Unit {0} × (Unit {0} × (Unit {0} × (Unit {0} × (List Stem × (List ℕ × (List ℕ × Unit {0})))))))). (fsep ftrue (fsep ftrue (fsep ftrue (fsep ftrue (fsep (fsep (finally T.the-row δstore2 (lasts .1 .1 .1 .1 .0)) (feq ℕ (length (lasts .1 .1 .1 .1 .0)) (length (take records r1)))) (fsep (fsep (finally u64 δwords2 (lasts .1 .1 .1 .1 .1 .0)) (feq ℕ (length (lasts .1 .1 .1 .1 .1 .0)) (length yswords))) (fsep (fsep (finally u8 δout2 (lasts .1 .1 .1 .1 .1 .1 .0)) (feq ℕ (length (lasts .1 .1 .1 .1 .1 .1 .0)) (length ysout))) ftrue)))))))) (‵ (flft κcharstring qcharstring)
@@ -227,7 +227,7 @@ module _ {M : Type 1} (𝓤 : URA M) (H : Heap 𝓤) (A : Atoms 𝓤) (W : Given
         (and-then ! (load ! (from ! (stop !)) (look ! 34 refl)) (and-then ! (load ! (from ! (stop !)) (look ! 32 refl)) (and-then ! (load ! (from ! (stop !)) (look ! 30 refl)) (and-then ! (load ! (from ! (stop !)) (look ! 28 refl)) (and-then ! (load ! (from ! (stop !)) (look ! 15 refl)) (and-then ! (load ! (from ! (stop !)) (look ! 11 refl))
         (and-then ! (load ! (from ! (stop !)) (look ! 7 refl)) (no-more !)))))))) (λ w2 r2 zs2 e2 is2. land ! (from ! (stop !)) (init ! 38 refl (typedG 𝓤 H A W r2 _ is2)) $ rewrite ! 38 (λ (u : Val). ‵ (fat fullShare tGt l₀ 0 u)) (ap only (LL.tells G.the-type G′.the-laws r2 (w2 ∷ []) is2)) refl $ drop ! $ split ! $ move ! (1 ∷ []) $ split ! $ move ! (1 ∷ []) $ split ! $ move ! (1 ∷ []) $ split ! $
         move ! (1 ∷ []) $ split ! $ move ! (1 ∷ []) $ drop ! $ move ! (5 ∷ []) $ fsplit ! $ drop ! $ fsplit ! $ drop ! $ fsplit ! $ drop ! $ fsplit ! $ drop ! $ fsplit ! $ fsplit ! $ move ! (1 ∷ []) $ feqL ! (λ lstore2. move ! (1 ∷ []) $ fsplit ! $ fsplit ! $ move ! (1 ∷ []) $ feqL ! (λ lwords2. move ! (1 ∷ []) $ fsplit ! $ fsplit ! $ move ! (1 ∷ []) $ feqL ! (λ lout2. move ! (1 ∷ []) $ drop ! $
-        move ! (5 ∷ 10 ∷ 2 ∷ 11 ∷ []) $ front-back ! tt T.the-row 1024 records need tAt refl r1 (zs2 .1 .1 .1 .1 .0) full (λ vstore istore. move ! (4 ∷ 8 ∷ 2 ∷ []) $ returned ! tt u64 mwords bwords owords νwords2 δwords2 yswords (zs2 .1 .1 .1 .1 .1 .0) (refl) lwords2 fitwords (move ! (4 ∷ 7 ∷ 3 ∷ []) $ returned ! tt u8 mout bout oout νout2 δout2 ysout (zs2 .1 .1 .1 .1 .1 .1 .0) (refl) lout2 fitout (owned ! G.the-row (Is G.the-row) (LL.makes G.the-type G′.the-plain 𝓤 H A) r2 _ (mineG r2 w2 is2) $
+        move ! (5 ∷ 10 ∷ 2 ∷ 11 ∷ []) $ front-back ! tt T.the-row 1000 records need tAt refl r1 (zs2 .1 .1 .1 .1 .0) full (λ vstore istore. move ! (4 ∷ 8 ∷ 2 ∷ []) $ returned ! tt u64 mwords bwords owords νwords2 δwords2 yswords (zs2 .1 .1 .1 .1 .1 .0) (refl) lwords2 fitwords (move ! (4 ∷ 7 ∷ 3 ∷ []) $ returned ! tt u8 mout bout oout νout2 δout2 ysout (zs2 .1 .1 .1 .1 .1 .1 .0) (refl) lout2 fitout (owned ! G.the-row (Is G.the-row) (LL.makes G.the-type G′.the-plain 𝓤 H A) r2 _ (mineG r2 w2 is2) $
         returns ! (look ! 39 refl) $ move ! (0 ∷ 9 ∷ 7 ∷ 8 ∷ 6 ∷ 3 ∷ 4 ∷ 1 ∷ 2 ∷ 10 ∷ 11 ∷ 12 ∷ 13 ∷ 14 ∷ 15 ∷ 16 ∷ 17 ∷ 18 ∷ 19 ∷ 20 ∷ 21 ∷ 22 ∷ 23 ∷ 5 ∷ 24 ∷ 25 ∷ 26 ∷ 27 ∷ 28 ∷ 29 ∷ 30 ∷ 31 ∷ 32 ∷ 33 ∷ 34 ∷ 35 ∷ 36 ∷ 37 ∷ 38 ∷ 39 ∷ 40 ∷ []) $
         leave ! (_ ∷ _ ∷ _ ∷ _ ∷ _ ∷ _ ∷ _ ∷ _ ∷ _ ∷ []) (filled _ _ _ ∷ filled _ _ _ ∷ filled _ _ _ ∷ filled _ _ _ ∷ filled _ _ _ ∷ filled _ _ _ ∷ filled _ _ _ ∷ filled _ _ _ ∷ filled _ _ _ ∷ filled _ _ _ ∷ filled _ _ _ ∷ filled _ _ _ ∷ filled _ _ _ ∷ filled _ _ _ ∷ filled _ _ _ ∷ filled _ _ _ ∷ []) $ keep ! (0 ∷ 1 ∷ 2 ∷ 3 ∷ 4 ∷ 5 ∷ 6 ∷ 7 ∷ 8 ∷ []) $ by ! (exits r2 (machG r2) (zs2 .1 .1 .1 .1 .1 .0) (zs2 .1 .1 .1 .1 .1 .1 .0) (told (sourceOf (xcharstring .now) (xbank .now)) rd matrix records r1 (zs2 .1 .1 .1 .1 .0) yswords (zs2 .1 .1 .1 .1 .1 .0) ysout (zs2 .1 .1 .1 .1 .1 .1 .0) r2 need full e2) (lwords2) (lout2)))))))))))))))))))))))))))))
 
@@ -236,7 +236,7 @@ module _ {M : Type 1} (𝓤 : URA M) (H : Heap 𝓤) (A : Atoms 𝓤) (W : Given
   meets 𝓣 k0 k1 = walk-meets 𝓤 H A f.ended stayed W (goes-none-slice 𝓤 H A W 4 (0 ∷ []) tt (plain (λ _. u8)) yes, (goes-none-slice 𝓤 H A W 4 (1 ∷ []) tt (plain (λ _. u8)) yes, (goes-none 𝓤 H A W 4 (λ _. Y.the-row) yes (λ κs x f. refl), (goes-none 𝓤 H A W 4 (λ _. Z.the-row) yes (λ κs x f. refl), (goes-none 𝓤 H A W 4 (λ _. usize) yes (λ κs x f. refl), (goes-slice 𝓤 H A W 4 2 tt (plain (λ _. u64)), (goes-slice 𝓤 H A W 4 3 tt (plain (λ _. u8)), tt))))))) (f.clauses 𝓤 H A mem run′)
       (WpFn 𝓤 H (𝓣 .C) (𝓣 .Λ) code.function) (WpFn-mono 𝓤 H (W .laws) 𝓣 code.function)
       (walked 𝓤 H A f.ended stayed (f.clauses 𝓤 H A mem run′) (WpFn 𝓤 H (𝓣 .C) (𝓣 .Λ) code.function) (λ κs. (slice-vals, (slice-vals, (LL.vals Y.the-type Y′.the-laws, (LL.vals Z.the-type Z′.the-laws, (uint-vals w64, (slice-vals, (slice-vals, tt)))))))) (λ κs. (shr-slice-tells (named 0) (κs .0) u8, (shr-slice-tells (named 1) (κs .1 .0) u8, (LL.tells Y.the-type Y′.the-laws, (LL.tells Z.the-type Z′.the-laws, (uint-tells w64, (mut-slice-tells (named 2) (κs .1 .1 .0) u64, (mut-slice-tells (named 3) (κs .1 .1 .1 .0) u8, tt))))))))
-      (λ κs qs bounds a g are. needs 𝓤 ((a .1 .1 .1 .1 .0) ≤ 1024) _ (λ need. walk 𝓤 H A W mem run′ 𝓣 (κs .0) (qs .0) (a .0) (κs .1 .0) (qs .1 .0) (a .1 .0) (κs .1 .1 .0) (qs .1 .1 .0) ((a .1 .1 .1 .1 .1 .0) .ptr .0) ((a .1 .1 .1 .1 .1 .0) .ptr .1) ((a .1 .1 .1 .1 .1 .0) .name) ((a .1 .1 .1 .1 .1 .0) .now) (κs .1 .1 .1 .0) (qs .1 .1 .1 .0) ((a .1 .1 .1 .1 .1 .1 .0) .ptr .0) ((a .1 .1 .1 .1 .1 .1 .0) .ptr .1) ((a .1 .1 .1 .1 .1 .1 .0) .name) ((a .1 .1 .1 .1 .1 .1 .0) .now) (a .1 .1 .0) (a .1 .1 .1 .0) (a .1 .1 .1 .1 .0) (are .0 .0 .1) (are .1 .0 .0 .1) (are .1 .1 .1 .1 .1 .0 .0 .1) (are .1 .1 .1 .1 .1 .1 .0 .0 .1) (are .1 .1 .0) (are .1 .1 .1 .0) (are .1 .1 .1 .1 .0 .1) k0 k1 need)))
+      (λ κs qs bounds a g are. needs 𝓤 ((a .1 .1 .1 .1 .0) ≤ 1000) _ (λ need. walk 𝓤 H A W mem run′ 𝓣 (κs .0) (qs .0) (a .0) (κs .1 .0) (qs .1 .0) (a .1 .0) (κs .1 .1 .0) (qs .1 .1 .0) ((a .1 .1 .1 .1 .1 .0) .ptr .0) ((a .1 .1 .1 .1 .1 .0) .ptr .1) ((a .1 .1 .1 .1 .1 .0) .name) ((a .1 .1 .1 .1 .1 .0) .now) (κs .1 .1 .1 .0) (qs .1 .1 .1 .0) ((a .1 .1 .1 .1 .1 .1 .0) .ptr .0) ((a .1 .1 .1 .1 .1 .1 .0) .ptr .1) ((a .1 .1 .1 .1 .1 .1 .0) .name) ((a .1 .1 .1 .1 .1 .1 .0) .now) (a .1 .1 .0) (a .1 .1 .1 .0) (a .1 .1 .1 .1 .0) (are .0 .0 .1) (are .1 .0 .0 .1) (are .1 .1 .1 .1 .1 .0 .0 .1) (are .1 .1 .1 .1 .1 .1 .0 .0 .1) (are .1 .1 .0) (are .1 .1 .1 .0) (are .1 .1 .1 .1 .0 .1) k0 k1 need)))
 
 pub convert-spec : {M : Type 1} → stated.statement M
 unfolding code.routine tablesOf
