@@ -1,0 +1,3 @@
+pub mod Box
+pub mod Window
+pub mod Answers
