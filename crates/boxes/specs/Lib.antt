@@ -1,3 +1,4 @@
 pub mod Box
 pub mod Window
 pub mod Answers
+pub mod Extent

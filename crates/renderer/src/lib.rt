@@ -1,1 +1,130 @@
-// The Type 2 machine, as a definition, is in specs/Machine.antt. This crate has no code.
+// The Type 2 machine. Its definition is in specs/Machine.antt; here a finished charstring is read operator by operator, as the machine reads it.
+ghost use mathlib.Core.Path.{_≡_};
+ghost use mathlib.Core.Bool.{true};
+ghost use Rattle.renderer.specs.Reader.{isPossible, isDrawing, firstReader, noOperator, afterFound, Comes};
+
+mod numbers;
+mod operators;
+mod path;
+
+use operators::Found;
+use operators::find;
+use path::follow;
+use path::is_near;
+
+// Where a reader stands between two operators: the place in the program, whether an operator has run, how many stems are declared, and the point, each coordinate as its units of 1/65536 and 2 ^ 61.
+pub struct Reader {
+    pub at: usize,
+    pub begun: bool,
+    pub stems: usize,
+    pub x: u64,
+    pub y: u64,
+}
+
+// What comes: 0 a fault, 1 stems, 19 a mask, 21 a move, 5 lines, 8 curves, 12 a flex, 14 the end. Its operands stand in the lent array from `first` to before `end`, each as its units of 1/65536 and 2 ^ 31;
+// where `first` is 1, the width stands at 0. A move has two operands. A mask's bytes are those before the place where the reader then stands.
+pub struct Operator {
+    pub code: u32,
+    pub first: usize,
+    pub end: usize,
+    pub after: Reader,
+}
+
+// Whether a run can stand so: at most 96 stems, and a point within 2 ^ 60 units.
+fn is_possible(t: Reader) -> bool
+    ensures { λ r. ⌜ r ≡ isPossible t ⌝ }
+{
+    if 96 < t.stems {
+        return false;
+    }
+    if !is_near(t.x) {
+        return false;
+    }
+    is_near(t.y)
+}
+
+// Whether an operator draws: a move, lines, curves or a flex.
+pub fn is_drawing(code: u32) -> bool
+    ensures { λ r. ⌜ r ≡ isDrawing code ⌝ }
+{
+    if code == 21 {
+        return true;
+    }
+    if code == 5 {
+        return true;
+    }
+    if code == 8 {
+        return true;
+    }
+    code == 12
+}
+
+fn fault() -> Operator
+    ensures { λ r. ⌜ r ≡ noOperator ⌝ }
+{
+    Operator {
+        code: 0,
+        first: 0,
+        end: 0,
+        after: Reader::new(),
+    }
+}
+
+// What was found, with the point after it.
+fn found(f: Found, x: u64, y: u64) -> Operator
+    ensures { λ r. ⌜ r ≡ afterFound f x y ⌝ }
+{
+    Operator {
+        code: f.code,
+        first: f.first,
+        end: f.end,
+        after: Reader {
+            at: f.next,
+            begun: true,
+            stems: f.stems,
+            x,
+            y,
+        },
+    }
+}
+
+impl Reader {
+    // At the first byte, with nothing read.
+    pub fn new() -> Reader
+        ensures { λ r. ⌜ r ≡ firstReader ⌝ }
+    {
+        Reader {
+            at: 0,
+            begun: false,
+            stems: 0,
+            x: 2305843009213693952,
+            y: 2305843009213693952,
+        }
+    }
+
+    // The next operator, and where the reader stands after it; a fault where the machine faults. The array taken as a slice tells its length to the proof.
+    pub fn next(self, program: &[u8], ops: &mut [u32; 48]) -> Operator
+        ensures { λ r. ⌜ Comes (now (program .entry)) «self» (now (ops .exit)) r ⌝ }
+    {
+        let all = &ops[..];
+        let most = all.len();
+        if most < 48 {
+            return fault();
+        }
+        if !is_possible(self) {
+            return fault();
+        }
+        let f = find(program, self.at, self.begun, self.stems, ops);
+        if f.code == 0 {
+            return fault();
+        }
+        if !is_drawing(f.code) {
+            return found(f, self.x, self.y);
+        }
+        let p = follow(ops, f.first, f.end, self.x, self.y);
+        if !p.ok {
+            return fault();
+        }
+        found(f, p.x, p.y)
+    }
+}
