@@ -5,4 +5,5 @@ pub mod Points
 pub mod Order
 pub mod PointLaws
 pub mod Theorems
+pub mod Examples
 pub mod Extent

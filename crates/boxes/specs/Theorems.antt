@@ -1,13 +1,13 @@
 -- Theorems: box, verdict and answer are what document 02, (a), says, in the terms of `Points`; and nothing else is.
 use mathlib.Core.Path.{_≡_, refl, sym, ap, ap₂, _∙_, subst}
 use Prim.Native.Nat.{ℕ}
-use mathlib.Core.Logic.{_↔_, inl, inr}
-use mathlib.Core.List.{List, [], _∷_, cons≢nil, List·Memᴰ as OneOf, List·Memᴰ·not-nil}
+use mathlib.Core.Logic.{_↔_, _⊎_, inl, inr}
+use mathlib.Core.List.{List, [], _∷_, cons≢nil, List·Memᴰ as OneOf, List·Memᴰ·head, List·Memᴰ·tail, List·Memᴰ·not-nil, List·Memᴰ·append-cases, Memᴰ·append-left, Memᴰ·append-right}
 use mathlib.Core.Option.{Option, none, some, Option·some-ne-none}
 use lib.Dec.{T-not}
 use lib.IntN.{ℤ}
 use lib.Signed.{_≤ℤ_}
-use Rattle.renderer.specs.Machine.{Point, State, Result, failed, ended, machine}
+use Rattle.renderer.specs.Machine.{Point, Entry, State, Result, failed, ended, machine}
 use Rattle.type2.specs.Bools.{choose}
 use Rattle.boxes.specs.Box.{boxFrom, points, boxOf}
 use Rattle.boxes.specs.Window.{share, holdsAll, verdictOf}
@@ -20,6 +20,23 @@ use Rattle.boxes.specs.declared.Verdict.{Verdict}
 use Rattle.boxes.specs.declared.Verdict.the-variants.{Within, Crossing, Outside}
 use Rattle.boxes.specs.declared.Answer.{Answer}
 use Rattle.boxes.specs.declared.Answer.the-variants.{Refused, Boxed}
+
+-- ---- the points
+
+-- "all points it draws, moves and control points included": those of every entry, and no others
+pub points-all : (es : List (Entry Point)) (e : Entry Point) (p : Point) → OneOf e es → OneOf p (e .points) → OneOf p (points es)
+unfolding points
+points-all (d ∷ es) e p (List·Memᴰ·head q) o = Memᴰ·append-left (points es) (subst (λ (x : Entry Point). OneOf p (x .points)) q o)
+points-all (d ∷ es) e p (List·Memᴰ·tail m) o = Memᴰ·append-right (d .points) (points-all es e p m o)
+
+pub points-only : (es : List (Entry Point)) (p : Point) → OneOf p (points es) → (e : Entry Point) × OneOf e es × OneOf p (e .points)
+unfolding points
+points-only [] p o = absurd (List·Memᴰ·not-nil o)
+points-only (d ∷ es) p o = go (List·Memᴰ·append-cases (d .points) o) (points-only es p)
+  where
+    go : OneOf p (d .points) ⊎ OneOf p (points es) → (OneOf p (points es) → (e : Entry Point) × OneOf e es × OneOf p (e .points)) → (e : Entry Point) × OneOf e (d ∷ es) × OneOf p (e .points)
+    go (inl a) below = (d, List·Memᴰ·head refl, a)
+    go (inr a) below = let (e, m, q) = below a in (e, List·Memᴰ·tail m, q)
 
 -- ---- the box
 
