@@ -33,12 +33,12 @@ with-in b p = (lesser-right (b .left) (p .x), greater-right (b .right) (p .x), l
 
 one-box : (p : Point) → IsBox (p ∷ []) (at p)
 one-box p = record {
-    holds = λ q o. subst (λ (x : Point). In x (at p)) (sym (List·Memᴰ·eq-of-singleton o)) (≤ℤ-refl (p .x), ≤ℤ-refl (p .x), ≤ℤ-refl (p .y), ≤ℤ-refl (p .y));
-    left = (p, List·Memᴰ·head refl, refl);
-    bottom = (p, List·Memᴰ·head refl, refl);
-    right = (p, List·Memᴰ·head refl, refl);
-    top = (p, List·Memᴰ·head refl, refl);
-  }
+  holds = λ q o. subst (λ (x : Point). In x (at p)) (sym (List·Memᴰ·eq-of-singleton o)) (≤ℤ-refl (p .x), ≤ℤ-refl (p .x), ≤ℤ-refl (p .y), ≤ℤ-refl (p .y));
+  left = (p, List·Memᴰ·head refl, refl);
+  bottom = (p, List·Memᴰ·head refl, refl);
+  right = (p, List·Memᴰ·head refl, refl);
+  top = (p, List·Memᴰ·head refl, refl);
+}
 
 module _ (ps : List Point) (b : Bounds) (p : Point) (i : IsBox ps b) where
   -- a side of the box of one point more is the side before, or that point's coordinate
@@ -52,12 +52,12 @@ module _ (ps : List Point) (b : Bounds) (p : Point) (i : IsBox ps b) where
 
   more : IsBox (ps ++ (p ∷ [])) (with b p)
   more = record {
-      holds = λ q o. more-in q (List·Memᴰ·append-cases ps o);
-      left = side (λ q. q .x) (b .left) _ (i .left) (lesser-one (b .left) (p .x));
-      bottom = side (λ q. q .y) (b .bottom) _ (i .bottom) (lesser-one (b .bottom) (p .y));
-      right = side (λ q. q .x) (b .right) _ (i .right) (greater-one (b .right) (p .x));
-      top = side (λ q. q .y) (b .top) _ (i .top) (greater-one (b .top) (p .y));
-    }
+    holds = λ q o. more-in q (List·Memᴰ·append-cases ps o);
+    left = side (λ q. q .x) (b .left) _ (i .left) (lesser-one (b .left) (p .x));
+    bottom = side (λ q. q .y) (b .bottom) _ (i .bottom) (lesser-one (b .bottom) (p .y));
+    right = side (λ q. q .x) (b .right) _ (i .right) (greater-one (b .right) (p .x));
+    top = side (λ q. q .y) (b .top) _ (i .top) (greater-one (b .top) (p .y));
+  }
 
 from-box : (ps rest : List Point) (b c : Bounds) → IsBox ps b → boxFrom (some b) rest ≡ some c → IsBox (ps ++ rest) c
 unfolding boxFrom
@@ -138,7 +138,7 @@ module _ (b w : Bounds) where
   pub all-no : HasPoint b → T (not (holdsAll w b)) → (p : Point) × In p b × (¬ In p w)
   all-no (across, up) n =
       either low
-        (λ t. either high
-          (λ u. absurd (T-not (holdsAll w b) n (all-of t u)))
-          (λ u. (record { x = b .right; y = b .top }, (across, ≤ℤ-refl (b .right), up, ≤ℤ-refl (b .top)), λ i. T-not high u (both (leZ (b .right) (w .right)) (leZ (b .top) (w .top)) (i .1 .le) (i .3 .le)))))
-        (λ t. (corner b, corner-in b (across, up), λ i. T-not low t (both (leZ (w .left) (b .left)) (leZ (w .bottom) (b .bottom)) (i .0 .le) (i .2 .le))))
+      (λ t. either high
+      (λ u. absurd (T-not (holdsAll w b) n (all-of t u)))
+      (λ u. (record { x = b .right; y = b .top }, (across, ≤ℤ-refl (b .right), up, ≤ℤ-refl (b .top)), λ i. T-not high u (both (leZ (b .right) (w .right)) (leZ (b .top) (w .top)) (i .1 .le) (i .3 .le)))))
+      (λ t. (corner b, corner-in b (across, up), λ i. T-not low t (both (leZ (w .left) (b .left)) (leZ (w .bottom) (b .bottom)) (i .0 .le) (i .2 .le))))

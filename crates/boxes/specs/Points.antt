@@ -37,7 +37,8 @@ Says b w Within = (p : Point) → In p b → In p w
 Says b w Outside = (p : Point) → In p b → ¬ In p w
 Says b w Crossing = ((p : Point) × In p b × In p w) × ((q : Point) × In q b × (¬ In q w))
 
--- what an answer says of a program and a window
+-- ---- what an answer means for a program and a window
+
 -- refused: "bytes on which the machine faults", or "a glyph that draws no point"
 abbrev pub NoBox : List ℕ → Type 0
 NoBox program = (machine program ≡ failed) ⊎ ((s : State) × (rest : List ℕ) × (machine program ≡ ended s rest) × (points (s .drawn) ≡ []))

@@ -86,8 +86,8 @@ box-once ps b c i j =
 pub verdict-says : (b w : Bounds) → HasPoint b → Says b w (verdictOf b w)
 verdict-says b w h =
     choose (share b w) (Says b w) _ Outside
-      (λ t. choose (holdsAll w b) (Says b w) Within Crossing (all-yes b w) (λ n. (share-yes b w t, all-no b w h n)))
-      (λ n p i j. T-not (share b w) n (share-of b w p i j))
+    (λ t. choose (holdsAll w b) (Says b w) Within Crossing (all-yes b w) (λ n. (share-yes b w t, all-no b w h n)))
+    (λ n p i j. T-not (share b w) n (share-of b w p i j))
 
 says-once : (b w : Bounds) → HasPoint b → (u v : Verdict) → Says b w u → Says b w v → u ≡ v
 says-once b w h Within Within s t = refl
@@ -144,3 +144,16 @@ module _ (program : List ℕ) (w : Bounds) where
   -- no other answer is so
   pub answer-only : (a : Answer) → Means program w a → a ≡ answer program w
   answer-only a m = means-once a (answer program w) m answer-says
+
+  -- the same of a program whose run is known
+  pub boxed-says : (s : State) (rest : List ℕ) (b : Bounds) (v : Verdict) → machine program ≡ ended s rest → answer program w ≡ Boxed b v → IsBox (points (s .drawn)) b × Says b w v
+  boxed-says s rest b v e a =
+      let h : HasBox program w b v = subst (Means program w) a answer-says in
+      (subst (λ (x : State). IsBox (points (x .drawn)) b) (ends-once (h .end) (h .rest) s rest (h .ran) e) (h .box), h .verdict)
+
+  pub refused-exactly : (s : State) (rest : List ℕ) → machine program ≡ ended s rest → (answer program w ≡ Refused) ↔ (points (s .drawn) ≡ [])
+  refused-exactly s rest e = (λ a. drew-none (subst (Means program w) a answer-says), λ n. sym (answer-only Refused (inr (s, rest, e, n))))
+    where
+      drew-none : NoBox program → points (s .drawn) ≡ []
+      drew-none (inl f) = let d : failed ≡ ended s rest = sym f ∙ e in cc
+      drew-none (inr (t, l, f, n)) = ap (λ (x : State). points (x .drawn)) (ends-once s rest t l e f) ∙ n

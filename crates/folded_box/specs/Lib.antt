@@ -1,0 +1,2 @@
+pub mod FoldedBox
+pub mod Theorem
