@@ -44,7 +44,6 @@ points-only (d ∷ es) p o = go (List·Memᴰ·append-cases (d .points) o) (poin
 pub box-of-drawn : (s : State) (rest : List ℕ) (b : Bounds) → boxOf (ended s rest) ≡ some b → IsBox (points (s .drawn)) b
 box-of-drawn s rest b e = box-of (points (s .drawn)) b e
 
--- there is no box exactly for "a glyph that draws no point"
 never-none : (b : Bounds) (ps : List Point) → ¬ (boxFrom (some b) ps ≡ none)
 unfolding boxFrom
 never-none b [] e = Option·some-ne-none b e
@@ -55,9 +54,11 @@ unfolding boxFrom
 no-points [] = (λ e. refl, λ e. refl)
 no-points (p ∷ ps) = (λ e. absurd (never-none _ ps e), λ e. absurd (cons≢nil e))
 
+-- of a run that ends there is no box exactly for "a glyph that draws no point"
 pub no-box : (s : State) (rest : List ℕ) → (boxOf (ended s rest) ≡ none) ↔ (points (s .drawn) ≡ [])
 no-box s rest = no-points (points (s .drawn))
 
+-- no least is above its greatest
 pub box-has-point : (ps : List Point) (b : Bounds) → IsBox ps b → HasPoint b
 box-has-point ps b i = let (p, o, e) = i .left in let (l, r, d, u) = i .holds p o in (≤ℤ-trans l r, ≤ℤ-trans d u)
 
