@@ -1,7 +1,7 @@
 // The box of a finished charstring, and how it lies to a window. Document 02, (a).
 ghost use mathlib.Core.Path.{_≡_};
 ghost use Prim.Native.Nat.{_≤_, _<_, min, max};
-ghost use mathlib.Core.Bool.{not};
+ghost use mathlib.Core.Bool.{not, _&&_, _||_, cond};
 ghost use mathlib.Core.Option.{Option};
 ghost use lib.ListN.{length};
 ghost use lib.Signed.{leZ};
@@ -83,14 +83,7 @@ fn far(x: u32) -> u64
 }
 
 // With the points that pairs of deltas go to, from a point.
-fn extended(
-    ops: &[u32; 48],
-    first: usize,
-    end: usize,
-    x0: u64,
-    y0: u64,
-    from: Extent,
-) -> Extent
+fn extended(ops: &[u32; 48], first: usize, end: usize, x0: u64, y0: u64, from: Extent) -> Extent
     requires { ⌜ (first ≤ end) × (end ≤ 48) × (length (now ops) ≡ 48) × SmallFrom (now ops) first end x0 y0 ⌝ }
     ensures { λ r. ⌜ Extends (now (ops .entry)) first end x0 y0 from r ⌝ }
 {
@@ -137,29 +130,44 @@ fn apart(a: i64, b: i64, c: i64, d: i64) -> bool
     below(d, c)
 }
 
+// Whether a to b lies within c to d.
+fn inside(a: i64, b: i64, c: i64, d: i64) -> bool
+    ensures { λ r. ⌜ r ≡ (leZ c a && leZ b d) ⌝ }
+{
+    if below(a, c) {
+        return false;
+    }
+    !below(d, b)
+}
+
+// The verdict: by whether the spans of x or those of y are apart (a, b), and whether each lies within the window's (c, d).
+fn decide(a: bool, b: bool, c: bool, d: bool) -> Verdict
+    ensures { λ r. ⌜ r ≡ cond (a || b) Verdict.Outside (cond (c && d) Verdict.Within Verdict.Crossing) ⌝ }
+{
+    if a {
+        return Verdict::Outside;
+    }
+    if b {
+        return Verdict::Outside;
+    }
+    if !c {
+        return Verdict::Crossing;
+    }
+    if !d {
+        return Verdict::Crossing;
+    }
+    Verdict::Within
+}
+
 // How a box lies to a window.
 fn verdict_of(b: Bounds, w: Bounds) -> Verdict
     ensures { λ r. ⌜ r ≡ verdictOf b w ⌝ }
 {
-    if apart(b.left, b.right, w.left, w.right) {
-        return Verdict::Outside;
-    }
-    if apart(b.bottom, b.top, w.bottom, w.top) {
-        return Verdict::Outside;
-    }
-    if below(b.left, w.left) {
-        return Verdict::Crossing;
-    }
-    if below(b.bottom, w.bottom) {
-        return Verdict::Crossing;
-    }
-    if below(w.right, b.right) {
-        return Verdict::Crossing;
-    }
-    if below(w.top, b.top) {
-        return Verdict::Crossing;
-    }
-    Verdict::Within
+    let apart_x = apart(b.left, b.right, w.left, w.right);
+    let apart_y = apart(b.bottom, b.top, w.bottom, w.top);
+    let inside_x = inside(b.left, b.right, w.left, w.right);
+    let inside_y = inside(b.bottom, b.top, w.bottom, w.top);
+    decide(apart_x, apart_y, inside_x, inside_y)
 }
 
 fn bounds_of(e: Extent) -> Bounds
@@ -201,9 +209,11 @@ pub fn glyph_box(program: &[u8], window: Bounds) -> Answer
         if r.code == 14 {
             return answered(e, window);
         }
-        if is_drawing(r.code) {
-            e = extended(&ops, r.first, r.end, reader.x, reader.y, e);
+        if !is_drawing(r.code) {
+            reader = r.after;
+            continue;
         }
+        e = extended(&ops, r.first, r.end, reader.x, reader.y, e);
         reader = r.after;
     }
     Answer::Refused

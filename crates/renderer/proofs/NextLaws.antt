@@ -11,24 +11,12 @@ use Rattle.type2.specs.Path.{Kind, moves, lines, curves, flexes}
 use Rattle.type2.specs.Bools.{yes, is-le, not-eq, choose, and-both}
 use Rattle.renderer.specs.Machine.{State, Step, fault, stop, on, Result, failed, withOps, next, run, reach, lastOf, allSmall, draw, draws}
 use Rattle.renderer.specs.Reader.{held, pointAt, isNear, isPossible, Stands, noOperator, afterFound, isDrawing, isCode, Taken, operandsOf, settledBy, acts, goes, drew, drewEach, Comes}
-use Rattle.renderer.specs.ReaderLaws.{Splits, held-length, draw-drew, draw-faults, split-2, split-6, Drawn, each-drew, each-faults, each-drawn}
+use Rattle.renderer.specs.ReaderLaws.{possible-near, part-length, by-drawing, by-still, Splits, draw-drew, draw-faults, split-2, split-6, Drawn, each-drew, each-faults, each-drawn}
 use Rattle.renderer.specs.Reads.{Finds, does, foundGoes, Arrives, Goes}
 use Rattle.renderer.specs.declared.Reader.{Reader}
 use Rattle.renderer.specs.declared.Operator.{Operator}
 use Rattle.renderer.specs.declared.operators.Found.{Found}
 use Rattle.renderer.specs.declared.path.Reached.{Reached}
-
--- ---- where a run can stand
-pub possible-stems : (t : Reader) → isPossible t ≡ true → t .stems ≤ 96
-possible-stems t e = leb→le (t .stems) 96 (and-both (leb (t .stems) 96) _ (subst T (sym e) tt) .0)
-
-pub possible-near : (t : Reader) → isPossible t ≡ true → (isNear (t .x) ≡ true) × (isNear (t .y) ≡ true)
-possible-near t = go (leb (t .stems) 96) (isNear (t .x)) (isNear (t .y))
-  where
-    go : (a b c : Bool) → (a && (b && c)) ≡ true → (b ≡ true) × (c ≡ true)
-    go true true c e = (refl, e)
-    go true false c e = absurd (true≢false (sym e))
-    go false b c e = absurd (true≢false (sym e))
 
 -- ---- a fault
 no-comes : (P : List ℕ) (t : Reader) (o : List ℕ) → length o ≡ 48 → ((s : State) → Stands s t → run (drop (t .at) P) 0 s ≡ failed) → Comes P t o noOperator
@@ -72,28 +60,9 @@ module _ {P o : List ℕ} (t : Reader) {f : Found} (possible : isPossible t ≡ 
       abbrev r : Operator
       r = afterFound f (t .x) (t .y)
 
-      not-code : (c : ℕ) → isDrawing c ≡ true → f .code ≡ c → ⊥
-      not-code c e h = true≢false (sym e ∙ sym (ap isDrawing h) ∙ still)
-
-      by-code : (Q : Type 0) → (f .code ≡ 1 → Q) → (f .code ≡ 19 → Q) → (f .code ≡ 14 → Q) → Q
-      by-code Q a b c =
-          choose (eqb (f .code) 1) (λ (z : Bool). Q) true true (λ h. a (eqb→eq (f .code) 1 h))
-          (λ h1. choose (eqb (f .code) 19) (λ (z : Bool). Q) true true (λ h. b (eqb→eq (f .code) 19 h))
-          (λ h2. choose (eqb (f .code) 14) (λ (z : Bool). Q) true true (λ h. c (eqb→eq (f .code) 14 h))
-          (λ h3. absurd (none h1 h2 h3))))
-        where
-          off : (x : Bool) → T (not x) → x ≡ false
-          off true h = absurd h
-          off false h = refl
-
-          none : T (not (eqb (f .code) 1)) → T (not (eqb (f .code) 19)) → T (not (eqb (f .code) 14)) → ⊥
-          none p q w =
-              let e : false ≡ true = rw (not-eq (f .code) 0 n0, off (eqb (f .code) 1) p, off (eqb (f .code) 19) q, off (eqb (f .code) 14) w, not-eq (f .code) 21 (not-code 21 refl), not-eq (f .code) 5 (not-code 5 refl), not-eq (f .code) 8 (not-code 8 refl), not-eq (f .code) 12 (not-code 12 refl)) at (F .known) in
-              true≢false (sym e)
-
       still-runs : (s : State) → Stands s t → run (drop (t .at) P) 0 s ≡ goes r o P s
       unfolding does goes acts
-      still-runs s k = went s k ∙ by-code (next (does f P (at-it s)) (drop (f .next) P) (run (drop (f .next) P)) ≡ goes r o P s) (λ c. rw c) (λ c. rw c) (λ c. rw c)
+      still-runs s k = went s k ∙ by-still (f .code) (F .known) still n0 (next (does f P (at-it s)) (drop (f .next) P) (run (drop (f .next) P)) ≡ goes r o P s) (λ c. rw c) (λ c. rw c) (λ c. rw c)
 
       nears : (isNear (t .x) ≡ true) × (isNear (t .y) ≡ true)
       nears = possible-near t possible
@@ -101,7 +70,7 @@ module _ {P o : List ℕ} (t : Reader) {f : Found} (possible : isPossible t ≡ 
       still-stands : (s : State) → Stands s t → (f .code ≡ 14 → ⊥) → Stands (acts r P (settledBy r o s)) (r .after)
       unfolding acts
       still-stands s k n14 =
-          by-code (Stands (acts r P (settledBy r o s)) (r .after))
+          by-still (f .code) (F .known) still n0 (Stands (acts r P (settledBy r o s)) (r .after))
           (λ c. rw c (record { begun-is = refl; stems-is = refl; at-is = k .at-is; cleared = refl; possible = few-stems (t .x) (t .y) (nears .0) (nears .1) }))
           (λ c. rw c (record { begun-is = refl; stems-is = k .stems-is ∙ sym (F .kept (λ e. let z : ⊥ = omega arith in z) n0); at-is = k .at-is; cleared = refl; possible = few-stems (t .x) (t .y) (nears .0) (nears .1) }))
           (λ c. absurd (n14 c))
@@ -129,36 +98,10 @@ module _ {P o : List ℕ} (t : Reader) {f : Found} (possible : isPossible t ≡ 
       operands = held (drop (f .first) (take (f .end) o))
 
       count : length operands ≡ f .end - f .first
-      count =
-          let a = held-length (drop (f .first) (take (f .end) o)) in
-          let b = length-drop (f .first) (take (f .end) o) in
-          let c = length-take (f .end) o in
-          let d = F .few in
-          let e = F .size in
-          omega arith
+      count = part-length (f .first) (f .end) o (let a = F .few in let b = F .size in omega arith)
 
       by-kind : (Q : Type 0) → (f .code ≡ 21 → Q) → (f .code ≡ 5 → length operands ≡ length operands / 2 * 2 → Q) → (f .code ≡ 8 → length operands ≡ length operands / 6 * 6 → Q) → (f .code ≡ 12 → Q) → Q
-      by-kind Q a b c d =
-          choose (eqb (f .code) 21) (λ (z : Bool). Q) true true (λ h. a (eqb→eq (f .code) 21 h))
-          (λ h1. choose (eqb (f .code) 5) (λ (z : Bool). Q) true true (λ h. pairs (eqb→eq (f .code) 5 h))
-          (λ h2. choose (eqb (f .code) 8) (λ (z : Bool). Q) true true (λ h. sixes (eqb→eq (f .code) 8 h))
-          (λ h3. choose (eqb (f .code) 12) (λ (z : Bool). Q) true true (λ h. d (eqb→eq (f .code) 12 h))
-          (λ h4. absurd (none h1 h2 h3 h4)))))
-        where
-          off : (x : Bool) → T (not x) → x ≡ false
-          off true h = absurd h
-          off false h = refl
-
-          none : T (not (eqb (f .code) 21)) → T (not (eqb (f .code) 5)) → T (not (eqb (f .code) 8)) → T (not (eqb (f .code) 12)) → ⊥
-          none p q v w =
-              let e : false ≡ true = rw (off (eqb (f .code) 21) p, off (eqb (f .code) 5) q, off (eqb (f .code) 8) v, off (eqb (f .code) 12) w) at drawing in
-              true≢false (sym e)
-
-          pairs : f .code ≡ 5 → Q
-          pairs e = let w = rw e at (F .taken n0 .spared) in let k = count in b e (omega arith)
-
-          sixes : f .code ≡ 8 → Q
-          sixes e = let w = rw e at (F .taken n0 .spared) in let k = count in c e (omega arith)
+      by-kind = by-drawing (f .code) (length operands) drawing (subst (Taken (f .code)) (sym count) (F .taken n0))
 
       module _ (s : State) (k : Stands s t) where
         all-small : allSmall (reach (s .at) operands) ≡ p .ok

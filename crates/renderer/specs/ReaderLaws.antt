@@ -1,23 +1,24 @@
 -- Laws: what a reader holds, and the points that its operands go to.
 use mathlib.Core.Path.{_≡_, refl, sym, ap, ap₂, _∙_, subst}
-use Prim.Native.Nat.{ℕ, zero, suc, _+_, _-_, _*_, _/_, _^_, _≤_, _<_, min}
+use Prim.Native.Nat.{ℕ, zero, suc, _+_, _-_, _*_, _/_, _%_, _^_, _≤_, _<_, min}
 use native.Mathlib.Numerals.{add-one}
 use native.Mathlib.Nat.{suc-mul, zero-mul}
 use native.Mathlib.Omega.{arith}
-use mathlib.Core.Bool.{Bool, true, false, _&&_, cond, true≢false}
+use mathlib.Core.Bool.{Bool, true, false, not, _&&_, _||_, cond, true≢false}
 use mathlib.Core.List.{List, [], _∷_, _++_}
 use lib.ListN.{length, take, drop, getD, length-take, length-drop}
 use lib.Seq.{drop-cons, getD-take}
-use lib.Dec.{T, leb, ltb, leb→le}
+use lib.Dec.{T, leb, ltb, leb→le, eqb, eqb→eq}
 use lib.IntN.{ℤ, pos, negsuc, subℕ, _+ℤ_}
 use borrow.Author.Tests.{leb-false}
 use Rattle.type2.specs.Number.{zp, zm}
-use Rattle.type2.specs.Bools.{yes, is-lt, not-lt, and-both}
+use Rattle.type2.specs.Bools.{is-lt, not-lt, and-both, not-eq, choose}
 use Rattle.type2.specs.Signed.{sub-bal, sub-is, add-bal}
 use Rattle.type2.specs.Path.{Kind}
 use Rattle.renderer.specs.Machine.{Point, State, Step, fault, on, small, moved, reach, lastOf, allSmall, draw, draws, andThen}
 use Rattle.renderer.specs.Operators.{draw-is}
-use Rattle.renderer.specs.Reader.{unit, held, coordinate, pointAt, isNear, drew, drewEach}
+use Rattle.renderer.specs.declared.Reader.{Reader}
+use Rattle.renderer.specs.Reader.{unit, held, coordinate, pointAt, isNear, isPossible, isDrawing, isCode, Taken, drew, drewEach}
 
 -- ---- a list of bytes or operands at a place
 pub cons-at : (l : List ℕ) (i : ℕ) → i < length l → drop i l ≡ getD l i 0 ∷ drop (i + 1) l
@@ -143,7 +144,7 @@ unfolding lastOf
 last-append p [] qs = refl
 last-append p (q ∷ ps) qs = last-append q ps qs
 
-nil-of : (l : List ℤ) → length l ≡ 0 → l ≡ []
+pub nil-of : (l : List ℤ) → length l ≡ 0 → l ≡ []
 nil-of [] e = refl
 nil-of (a ∷ l) e = absurd (let z : ⊥ = omega arith in z)
 
@@ -214,3 +215,56 @@ module _ (c : Kind) (k : ℕ) (split : Splits k) where
         stems-is = d .stems-is;
         cleared = d .cleared;
       }
+
+-- ---- where a run can stand
+pub possible-stems : (t : Reader) → isPossible t ≡ true → t .stems ≤ 96
+possible-stems t e = leb→le (t .stems) 96 (and-both (leb (t .stems) 96) _ (subst T (sym e) tt) .0)
+
+pub possible-near : (t : Reader) → isPossible t ≡ true → (isNear (t .x) ≡ true) × (isNear (t .y) ≡ true)
+possible-near t = go (leb (t .stems) 96) (isNear (t .x)) (isNear (t .y))
+  where
+    go : (a b c : Bool) → (a && (b && c)) ≡ true → (b ≡ true) × (c ≡ true)
+    go true true c e = (refl, e)
+    go true false c e = absurd (true≢false (sym e))
+    go false b c e = absurd (true≢false (sym e))
+
+-- ---- by the operator
+off : (x : Bool) → T (not x) → x ≡ false
+off true h = absurd h
+off false h = refl
+
+-- one that draws n / 2 or n / 6 entries by n operands, or one entry
+pub by-drawing : (c n : ℕ) → isDrawing c ≡ true → Taken c n → (Q : Type 0) → (c ≡ 21 → Q) → (c ≡ 5 → n ≡ n / 2 * 2 → Q) → (c ≡ 8 → n ≡ n / 6 * 6 → Q) → (c ≡ 12 → Q) → Q
+by-drawing c n e t Q move line curve flex =
+    choose (eqb c 21) (λ (z : Bool). Q) true true (λ h. move (eqb→eq c 21 h))
+    (λ h1. choose (eqb c 5) (λ (z : Bool). Q) true true (λ h. let k = eqb→eq c 5 h in let w = rw k at (t .spared) in line k (omega arith))
+    (λ h2. choose (eqb c 8) (λ (z : Bool). Q) true true (λ h. let k = eqb→eq c 8 h in let w = rw k at (t .spared) in curve k (omega arith))
+    (λ h3. choose (eqb c 12) (λ (z : Bool). Q) true true (λ h. flex (eqb→eq c 12 h)) (λ h4. absurd (none h1 h2 h3 h4)))))
+  where
+    none : T (not (eqb c 21)) → T (not (eqb c 5)) → T (not (eqb c 8)) → T (not (eqb c 12)) → ⊥
+    none p q v w =
+        let f : false ≡ true = rw (off (eqb c 21) p, off (eqb c 5) q, off (eqb c 8) v, off (eqb c 12) w) at e in
+        true≢false (sym f)
+
+-- stems, a mask or the end
+pub by-still : (c : ℕ) → isCode c ≡ true → isDrawing c ≡ false → (c ≡ 0 → ⊥) → (Q : Type 0) → (c ≡ 1 → Q) → (c ≡ 19 → Q) → (c ≡ 14 → Q) → Q
+by-still c known still n0 Q stems mask end =
+    choose (eqb c 1) (λ (z : Bool). Q) true true (λ h. stems (eqb→eq c 1 h))
+    (λ h1. choose (eqb c 19) (λ (z : Bool). Q) true true (λ h. mask (eqb→eq c 19 h))
+    (λ h2. choose (eqb c 14) (λ (z : Bool). Q) true true (λ h. end (eqb→eq c 14 h)) (λ h3. absurd (none h1 h2 h3))))
+  where
+    other : (d : ℕ) → isDrawing d ≡ true → c ≡ d → ⊥
+    other d e h = true≢false (sym e ∙ sym (ap isDrawing h) ∙ still)
+
+    none : T (not (eqb c 1)) → T (not (eqb c 19)) → T (not (eqb c 14)) → ⊥
+    none p q w =
+        let e : false ≡ true = rw (not-eq c 0 n0, off (eqb c 1) p, off (eqb c 19) q, off (eqb c 14) w, not-eq c 21 (other 21 refl), not-eq c 5 (other 5 refl), not-eq c 8 (other 8 refl), not-eq c 12 (other 12 refl)) at known in
+        true≢false (sym e)
+
+-- how many operands there are
+pub part-length : (i end : ℕ) (o : List ℕ) → end ≤ length o → length (part i end o) ≡ end - i
+part-length i end o h =
+    let a = held-length (drop i (take end o)) in
+    let b = length-drop i (take end o) in
+    let c = length-take end o in
+    omega arith

@@ -1,4 +1,4 @@
-use Rattle.renderer.proofs.NextLaws.{possible-stems, possible-near}
+use Rattle.renderer.specs.ReaderLaws.{possible-stems, possible-near}
 use Rattle.renderer.proofs.NextLaws.{impossible-comes, fault-comes, still-comes, out-comes, drawn-comes}
 use borrow.Author.Tests.{not-true, not-false}
 use native.Mathlib.Omega.{arith}
