@@ -1,19 +1,18 @@
 -- Laws: the box of a program, operator by operator.
-use mathlib.Core.Path.{_≡_, refl, sym, ap, ap₂, _∙_, subst}
-use Prim.Native.Nat.{ℕ, zero, suc, _+_, _-_, _*_, _/_, _≤_, _<_}
+use mathlib.Core.Path.{_≡_, refl, sym, ap, _∙_, subst}
+use Prim.Native.Nat.{ℕ, zero, suc, _+_, _-_, _*_, _/_, _≤_}
 use native.Mathlib.Nat.{suc-mul, zero-mul}
 use native.Mathlib.Omega.{arith}
-use mathlib.Core.Bool.{Bool, true, false, cond}
+use mathlib.Core.Bool.{true, false}
 use mathlib.Core.List.{List, [], _∷_, _++_, append-nil, append-assoc}
-use mathlib.Core.Option.{Option, none, some}
+use mathlib.Core.Option.{Option, none}
 use lib.ListN.{length, take, drop, length-drop, drop-of-length-le}
-use lib.Dec.{eqb}
 use lib.IntN.{ℤ}
 use Rattle.type2.specs.Path.{Kind, moves, lines, curves, flexes}
 use Rattle.type2.specs.Bools.{not-eq}
-use Rattle.renderer.specs.Machine.{Point, Entry, State, Result, failed, ended, start, run, machine, reach, lastOf, allSmall}
-use Rattle.renderer.specs.Reader.{pointAt, isPossible, Stands, firstReader, isDrawing, Taken, operandsOf, settledBy, drew, drewEach, acts, goes, Comes}
-use Rattle.renderer.specs.ReaderLaws.{part, part-length, by-drawing, by-still, Splits, split-2, split-6, nil-of, possible-near}
+use Rattle.renderer.specs.Machine.{Point, Entry, State, Result, failed, ended, start, run, machine, reach, lastOf}
+use Rattle.renderer.specs.Reader.{Stands, firstReader, isDrawing, Taken, operandsOf, settledBy, drew, drewEach, acts, goes, Comes}
+use Rattle.renderer.specs.ReaderLaws.{part-length, by-drawing, by-still, Splits, split-2, split-6, nil-of, possible-near}
 use Rattle.renderer.specs.declared.Reader.{Reader}
 use Rattle.renderer.specs.declared.Operator.{Operator}
 use Rattle.boxes.specs.Box.{grow, boxFrom, points, boxOf}

@@ -1,14 +1,14 @@
 -- Laws: the box so far, as the code holds it.
 use mathlib.Core.Path.{_≡_, refl, sym, ap, ap₂, _∙_, subst}
-use Prim.Native.Nat.{ℕ, zero, suc, _+_, _-_, _^_, _≤_, _<_, min, max}
+use Prim.Native.Nat.{ℕ, suc, _+_, _-_, _^_, _≤_, _<_, min, max}
 use native.Mathlib.Omega.{arith}
-use mathlib.Core.Bool.{Bool, true, false, not, _&&_, cond, true≢false}
-use mathlib.Core.List.{List, [], _∷_}
+use mathlib.Core.Bool.{Bool, true, false, _&&_, true≢false}
+use mathlib.Core.List.{List, _∷_}
 use mathlib.Core.Option.{Option, none, some}
 use lib.ListN.{length, getD}
-use lib.Dec.{T, leb, ltb, leb→le, ltb→lt, nltb→le, nleb→lt}
+use lib.Dec.{leb, ltb, leb→le, ltb→lt, nltb→le, nleb→lt}
 use lib.Signed.{leZ, mag}
-use lib.IntN.{ℤ, pos, negsuc, subℕ, _-ℤ_}
+use lib.IntN.{ℤ, pos, negsuc, _-ℤ_}
 use mir.Syntax.{w64}
 use mir.Val.{SFits, toZ, ofZ}
 use mir.ValLaws.{toZ-ofZ}
@@ -22,11 +22,10 @@ use Rattle.renderer.specs.ReaderLaws.{Near, near-of, small-is, part, reach-more
 use Rattle.boxes.specs.Box.{lesser, greater, grow, boxFrom}
 use Rattle.boxes.specs.Window.{verdictOf}
 use Rattle.boxes.specs.Answers.{answerOf}
-use Rattle.boxes.specs.Extent.{noExtent, extentWith, boundsAt, Full, HoldsBox, Limited, SmallFrom, Extends}
+use Rattle.boxes.specs.Extent.{extentWith, boundsAt, HoldsBox, Limited, SmallFrom, Extends}
 use Rattle.boxes.specs.declared.Bounds.{Bounds}
 use Rattle.boxes.specs.declared.Extent.{Extent}
 use Rattle.boxes.specs.declared.Verdict.{Verdict}
-use Rattle.boxes.specs.declared.Answer.{Answer}
 use Rattle.boxes.specs.declared.Answer.the-variants.{Refused, Boxed}
 
 -- ---- the 2 ^ 61 taken off

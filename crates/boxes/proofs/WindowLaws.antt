@@ -1,7 +1,6 @@
 -- Laws: a box and a window, as the code compares them.
-use mathlib.Core.Path.{_≡_, refl, sym, ap, ap₂, _∙_, subst}
-use Prim.Native.Nat.{ℕ, suc, _+_, _≤_, _<_}
-use native.Mathlib.Omega.{arith}
+use mathlib.Core.Path.{_≡_, refl, sym, ap, ap₂, _∙_}
+use Prim.Native.Nat.{ℕ}
 use mathlib.Core.Bool.{Bool, true, false, not, _&&_, _||_, cond}
 use lib.Dec.{leb, ltb}
 use lib.Signed.{ltZ, leZ}
@@ -11,7 +10,7 @@ use mir.Val.{SFits, toZ, ofZ}
 use mir.ValLaws.{toZ-ofZ}
 use borrow.Author.Tests.{not-true, not-false, ltb-true, ltb-false}
 use Rattle.type2.specs.Bools.{is-le, not-le}
-use Rattle.boxes.specs.Window.{meet, share, holdsAll, verdictOf}
+use Rattle.boxes.specs.Window.{meet, holdsAll, verdictOf}
 use Rattle.boxes.specs.declared.Bounds.{Bounds}
 use Rattle.boxes.specs.declared.Verdict.{Verdict}
 use Rattle.boxes.specs.declared.Verdict.the-variants.{Within, Crossing, Outside}

@@ -7,7 +7,6 @@ use Rattle.renderer.specs.Machine.{machine}
 use Rattle.boxes.specs.Box.{boxOf}
 use Rattle.boxes.specs.Window.{verdictOf}
 use Rattle.boxes.specs.declared.Bounds.{Bounds}
-use Rattle.boxes.specs.declared.Verdict.{Verdict}
 use Rattle.boxes.specs.declared.Verdict.the-variants.{Within, Crossing, Outside}
 use Rattle.boxes.specs.declared.Answer.{Answer}
 use Rattle.boxes.specs.declared.Answer.the-variants.{Refused, Boxed}

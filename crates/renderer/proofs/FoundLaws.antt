@@ -1,22 +1,22 @@
 -- Laws: an operator that came, as `next_operator` answers it.
 use mathlib.Core.Path.{_≡_, refl, sym, ap, ap₂, _∙_, subst}
-use Prim.Native.Nat.{ℕ, zero, suc, _+_, _-_, _*_, _/_, _%_, _≤_, _<_}
+use Prim.Native.Nat.{ℕ, zero, suc, _+_, _-_, _/_, _≤_, _<_}
 use native.Mathlib.Nat.{mod-le}
 use native.Mathlib.Omega.{arith}
-use mathlib.Core.Bool.{Bool, true, false, not, _&&_, _||_, cond}
-use mathlib.Core.List.{List, [], _∷_, _++_}
+use mathlib.Core.Bool.{Bool, true, false, _&&_, _||_, cond}
+use mathlib.Core.List.{List, [], _∷_}
 use mathlib.Core.Option.{Option, none, some}
 use lib.ListN.{length, take, drop, getD, set, length-drop, length-take, length-set}
 use lib.Seq.{drop-drop}
 use lib.Dec.{T, leb, ltb, eqb, leb→le, eqb→eq}
 use lib.IntN.{ℤ, pos}
 use borrow.Author.Tests.{ltb-false}
-use Rattle.renderer.specs.Machine.{State, Step, fault, stop, on, Result, failed, withOps, begin, withStems, withMask, Takes, exactly, many, least, spare, settled, settle, after, stem, mask, bits, noneSet, draw, draws, andThen, across, upward, escape, operator, next, run, reach, allSmall, withEntry, lastOf}
+use Rattle.renderer.specs.Machine.{State, Step, fault, stop, on, withOps, begin, Takes, exactly, many, least, spare, settled, settle, after, stem, mask, bits, noneSet, draw, draws, andThen, across, upward, escape, operator, next, run, reach, allSmall}
 use Rattle.type2.specs.Path.{moves, lines, curves, flexes}
-use Rattle.type2.specs.Bools.{yes, is-lt, not-lt, is-le, not-le, not-eq, is-eq, choose}
-use Rattle.renderer.specs.Reader.{Taken, unit, held, exactOf, takesOf, operandsOf, settledBy, isCode, maskOf}
+use Rattle.type2.specs.Bools.{is-lt, not-lt, not-eq, choose}
+use Rattle.renderer.specs.Reader.{Taken, unit, held, exactOf, takesOf, isCode}
 use Rattle.renderer.specs.ReaderLaws.{held-length}
-use Rattle.renderer.specs.Reads.{startsNumber, Gathers, escaped, plain, skip, skipOf, afterMask, notFound, does, foundGoes, Finds}
+use Rattle.renderer.specs.Reads.{Gathers, escaped, plain, skip, skipOf, afterMask, notFound, does, foundGoes, Finds}
 use Rattle.renderer.specs.declared.operators.Found.{Found}
 use Rattle.renderer.proofs.OperatorLaws.{held-drop, held-size, run-skip, run-operator}
 

@@ -1,11 +1,11 @@
 -- Laws: the spare bits of a mask, as `after_mask` tests them.
-use mathlib.Core.Path.{_≡_, refl, sym, ap, ap₂, _∙_, subst}
-use Prim.Native.Nat.{ℕ, zero, suc, _+_, _-_, _*_, _/_, _%_, _^_, _≤_, _<_, min}
+use mathlib.Core.Path.{_≡_, refl, sym, ap, _∙_, subst}
+use Prim.Native.Nat.{ℕ, zero, suc, _+_, _-_, _*_, _/_, _%_, _≤_, _<_, min}
 use native.Mathlib.Nat.{pos-of-ne-zero}
 use native.Mathlib.Omega.{arith}
 use mathlib.Core.Bool.{Bool, true, false, not, _&&_, cond}
 use mathlib.Core.List.{List, [], _∷_, _++_, append-nil, append-assoc}
-use lib.ListN.{length, take, drop, getD, length-drop, length-take, length-append}
+use lib.ListN.{length, take, drop, getD, length-drop, length-take}
 use lib.Seq.{take-suc, getD-drop, drop-append-add}
 use lib.Dec.{T, leb, ltb, eqb, ltb→lt}
 use borrow.Author.Tests.{eqb-true, eqb-false}

@@ -1,18 +1,17 @@
 -- Laws: the operator that comes, as `Reader::next` answers it.
-use mathlib.Core.Path.{_≡_, refl, sym, ap, ap₂, _∙_, subst}
-use Prim.Native.Nat.{ℕ, _+_, _-_, _*_, _/_, _%_, _≤_, _<_}
+use mathlib.Core.Path.{_≡_, refl, sym, ap, _∙_, subst}
+use Prim.Native.Nat.{ℕ, _-_, _*_, _/_}
 use native.Mathlib.Omega.{arith}
-use mathlib.Core.Bool.{Bool, true, false, not, _&&_, _||_, cond, true≢false}
-use mathlib.Core.List.{List, []}
-use lib.ListN.{length, take, drop, length-take, length-drop}
-use lib.Dec.{T, leb, leb→le, eqb, eqb→eq}
+use mathlib.Core.Bool.{true, false, true≢false}
+use mathlib.Core.List.{List}
+use lib.ListN.{length, take, drop}
 use lib.IntN.{ℤ}
 use Rattle.type2.specs.Path.{Kind, moves, lines, curves, flexes}
-use Rattle.type2.specs.Bools.{yes, is-le, not-eq, choose, and-both}
-use Rattle.renderer.specs.Machine.{State, Step, fault, stop, on, Result, failed, withOps, next, run, reach, lastOf, allSmall, draw, draws}
-use Rattle.renderer.specs.Reader.{held, pointAt, isNear, isPossible, Stands, noOperator, afterFound, isDrawing, isCode, Taken, operandsOf, settledBy, acts, goes, drew, drewEach, Comes}
-use Rattle.renderer.specs.ReaderLaws.{possible-near, part-length, by-drawing, by-still, Splits, draw-drew, draw-faults, split-2, split-6, Drawn, each-drew, each-faults, each-drawn}
-use Rattle.renderer.specs.Reads.{Finds, does, foundGoes, Arrives, Goes}
+use Rattle.type2.specs.Bools.{is-le, not-eq}
+use Rattle.renderer.specs.Machine.{State, fault, on, failed, withOps, next, run, reach, lastOf, allSmall}
+use Rattle.renderer.specs.Reader.{held, pointAt, isNear, isPossible, Stands, noOperator, afterFound, isDrawing, Taken, settledBy, acts, goes, drewEach, Comes}
+use Rattle.renderer.specs.ReaderLaws.{possible-near, part-length, by-drawing, by-still, Splits, draw-drew, draw-faults, split-2, split-6, each-drew, each-faults, each-drawn}
+use Rattle.renderer.specs.Reads.{Finds, does, Goes}
 use Rattle.renderer.specs.declared.Reader.{Reader}
 use Rattle.renderer.specs.declared.Operator.{Operator}
 use Rattle.renderer.specs.declared.operators.Found.{Found}

@@ -1,21 +1,19 @@
 -- Laws: the number that starts with a byte, as `number` reads it.
-use mathlib.Core.Path.{_≡_, refl, sym, ap, ap₂, _∙_, subst}
-use Prim.Native.Nat.{ℕ, zero, suc, _+_, _-_, _*_, _≤_, _<_}
-use native.Mathlib.Numerals.{add-one}
+use mathlib.Core.Path.{_≡_, refl, sym, ap, ap₂, _∙_}
+use Prim.Native.Nat.{ℕ, _+_, _-_, _*_, _≤_, _<_}
 use native.Mathlib.Omega.{arith}
 use mathlib.Core.Bool.{Bool, true, false, _||_, cond}
 use mathlib.Core.List.{List, [], _∷_}
 use lib.ListN.{length, drop, getD, length-drop}
-use lib.Seq.{drop-cons}
-use lib.Dec.{leb, ltb, eqb}
+use lib.Dec.{ltb, eqb}
 use lib.IntN.{ℤ, subℕ}
-use Rattle.type2.specs.Number.{Reading, noNumber, number, readFrom, read2, read3, read5, one, pair, short, fixed}
+use Rattle.type2.specs.Number.{noNumber, number, readFrom, read2, read3, read5, short, fixed}
 use Rattle.type2.specs.Bools.{is-lt, not-lt, not-le, not-eq, is-eq}
 use borrow.Author.Tests.{ltb-true, ltb-false}
 use Rattle.type2.specs.Signed.{sub-bal, sub-is}
 use Rattle.renderer.specs.Reader.{unit}
 use Rattle.renderer.specs.ReaderLaws.{cons-at}
-use Rattle.renderer.specs.Reads.{startsNumber, reading, Reads}
+use Rattle.renderer.specs.Reads.{startsNumber, Reads}
 
 pub sub-same : (P M Q N : ℕ) → P + N ≡ Q + M → subℕ P M ≡ subℕ Q N
 sub-same P M Q N h = sub-is (subℕ Q N) P M (let b = sub-bal Q N in omega arith)

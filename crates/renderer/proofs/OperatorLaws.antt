@@ -1,23 +1,19 @@
 -- Laws: operators, as `next_operator` reads them.
-use mathlib.Core.Path.{_≡_, refl, sym, ap, ap₂, _∙_, subst}
-use Prim.Native.Nat.{ℕ, zero, suc, _+_, _-_, _*_, _/_, _%_, _≤_, _<_}
+use mathlib.Core.Path.{_≡_, refl, sym, ap, ap₂, _∙_}
+use Prim.Native.Nat.{ℕ, zero, suc, _+_, _-_, _≤_, _<_}
 use native.Mathlib.Numerals.{add-one}
 use native.Mathlib.Omega.{arith}
-use mathlib.Core.Bool.{Bool, true, false, not, _&&_, _||_, cond}
+use mathlib.Core.Bool.{true, false}
 use mathlib.Core.List.{List, [], _∷_, _++_}
-use mathlib.Core.Option.{Option, none, some}
-use lib.ListN.{length, take, drop, getD, set, length-drop, length-take, length-append, drop-of-length-le, length-set}
-use lib.Seq.{drop-cons, take-suc, take-suc-set, drop-drop, getD-set-other}
-use lib.Dec.{T, leb, ltb, eqb}
-use lib.IntN.{ℤ, pos, subℕ}
+use lib.ListN.{length, take, drop, getD, set, length-take, drop-of-length-le, length-set}
+use lib.Seq.{take-suc-set, drop-drop}
+use lib.IntN.{ℤ}
 use Rattle.type2.specs.Number.{Reading, noNumber, number, readFrom}
-use Rattle.renderer.specs.Machine.{State, Step, fault, stop, on, Result, failed, withOps, begin, withStems, withMask, push, joins, Takes, exactly, many, least, spare, settled, settle, after, stem, mask, bits, noneSet, draw, draws, andThen, across, upward, escape, operator, step, next, run, reach, allSmall}
-use Rattle.type2.specs.Path.{moves, lines, curves, flexes}
-use Rattle.type2.specs.Bools.{yes, is-lt, not-lt, is-le, not-le, not-eq, is-eq, choose}
-use Rattle.renderer.specs.Reader.{unit, held, exactOf, takesOf, operandsOf, settledBy, maskOf}
+use Rattle.renderer.specs.Machine.{State, failed, withOps, push, joins, operator, step, next, run}
+use Rattle.type2.specs.Bools.{is-lt, not-lt, not-eq}
+use Rattle.renderer.specs.Reader.{unit, held}
 use Rattle.renderer.specs.ReaderLaws.{cons-at, held-length}
-use Rattle.renderer.specs.Reads.{startsNumber, reading, Reads, Gathers, escaped, plain, skip, skipOf, afterMask, does, foundGoes, Finds}
-use Rattle.renderer.specs.declared.operators.Found.{Found}
+use Rattle.renderer.specs.Reads.{startsNumber, Reads, Gathers, escaped}
 
 -- ---- the second byte of a flex
 pub escape-cut : (P : List ℕ) (at : ℕ) → length P ≤ at → 0 ≡ escaped (drop at P)

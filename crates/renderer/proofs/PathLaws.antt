@@ -1,12 +1,12 @@
 -- Laws: the point that a path has reached, as `follow` holds it.
-use mathlib.Core.Path.{_≡_, refl, sym, ap, _∙_, subst}
+use mathlib.Core.Path.{_≡_, refl, sym, ap, _∙_}
 use Prim.Native.Nat.{ℕ, _+_, _-_, _≤_, _<_}
 use native.Mathlib.Omega.{arith}
 use mathlib.Core.Bool.{Bool, true, false, _&&_, true≢false}
-use mathlib.Core.List.{List, [], _∷_}
+use mathlib.Core.List.{List, _∷_}
 use lib.ListN.{length, getD}
 use Rattle.renderer.specs.Machine.{Point, small, reach, lastOf, allSmall}
-use Rattle.renderer.specs.Reader.{coordinate, pointAt, isNear}
+use Rattle.renderer.specs.Reader.{pointAt, isNear}
 use Rattle.renderer.specs.ReaderLaws.{Near, near-of, small-is, part, reach-more, reach-done}
 use Rattle.renderer.specs.Reads.{Arrives, Goes}
 use Rattle.renderer.specs.declared.path.Reached.{Reached}

@@ -1,10 +1,10 @@
 -- Definitions: how a reader of a finished charstring stands to the Type 2 machine. Document 01, "Type 2 machine (T2)".
 -- An operand is held as its units of 1/65536 and 2 ^ 31, a coordinate as its units and 2 ^ 61.
 use mathlib.Core.Path.{_≡_}
-use Prim.Native.Nat.{ℕ, zero, suc, _+_, _-_, _*_, _/_, _^_, _≤_, _<_}
+use Prim.Native.Nat.{ℕ, zero, suc, _+_, _-_, _/_, _≤_, _<_}
 use mathlib.Core.Bool.{Bool, true, false, _&&_, _||_, cond}
 use mathlib.Core.List.{List, [], _∷_}
-use mathlib.Core.Option.{Option, some}
+use mathlib.Core.Option.{some}
 use lib.ListN.{length, take, drop, getD}
 use lib.Dec.{leb, eqb}
 use lib.IntN.{ℤ, subℕ}

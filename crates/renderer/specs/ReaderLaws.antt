@@ -1,21 +1,21 @@
 -- Laws: what a reader holds, and the points that its operands go to.
 use mathlib.Core.Path.{_≡_, refl, sym, ap, ap₂, _∙_, subst}
-use Prim.Native.Nat.{ℕ, zero, suc, _+_, _-_, _*_, _/_, _%_, _^_, _≤_, _<_, min}
+use Prim.Native.Nat.{ℕ, zero, suc, _+_, _-_, _*_, _/_, _^_, _≤_, _<_, min}
 use native.Mathlib.Numerals.{add-one}
 use native.Mathlib.Nat.{suc-mul, zero-mul}
 use native.Mathlib.Omega.{arith}
-use mathlib.Core.Bool.{Bool, true, false, not, _&&_, _||_, cond, true≢false}
+use mathlib.Core.Bool.{Bool, true, false, not, _&&_, true≢false}
 use mathlib.Core.List.{List, [], _∷_, _++_}
 use lib.ListN.{length, take, drop, getD, length-take, length-drop}
 use lib.Seq.{drop-cons, getD-take}
-use lib.Dec.{T, leb, ltb, leb→le, eqb, eqb→eq}
-use lib.IntN.{ℤ, pos, negsuc, subℕ, _+ℤ_}
+use lib.Dec.{T, leb, leb→le, eqb, eqb→eq}
+use lib.IntN.{ℤ, pos, negsuc, _+ℤ_}
 use borrow.Author.Tests.{leb-false}
 use Rattle.type2.specs.Number.{zp, zm}
 use Rattle.type2.specs.Bools.{is-lt, not-lt, and-both, not-eq, choose}
 use Rattle.type2.specs.Signed.{sub-bal, sub-is, add-bal}
 use Rattle.type2.specs.Path.{Kind}
-use Rattle.renderer.specs.Machine.{Point, State, Step, fault, on, small, moved, reach, lastOf, allSmall, draw, draws, andThen}
+use Rattle.renderer.specs.Machine.{Point, State, fault, on, small, moved, reach, lastOf, allSmall, draw, draws, andThen}
 use Rattle.renderer.specs.Operators.{draw-is}
 use Rattle.renderer.specs.declared.Reader.{Reader}
 use Rattle.renderer.specs.Reader.{unit, held, coordinate, pointAt, isNear, isPossible, isDrawing, isCode, Taken, drew, drewEach}

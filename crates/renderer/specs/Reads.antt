@@ -1,14 +1,12 @@
 -- Definitions: what the functions below `Reader::next` say.
 use mathlib.Core.Path.{_≡_}
-use Prim.Native.Nat.{ℕ, _+_, _-_, _/_, _%_, _≤_, _<_}
-use mathlib.Core.Bool.{Bool, true, false, not, _&&_, _||_, cond}
+use Prim.Native.Nat.{ℕ, _+_, _-_, _/_, _≤_, _<_}
+use mathlib.Core.Bool.{Bool, true, false, _&&_, _||_, cond}
 use mathlib.Core.List.{List, [], _∷_}
-use mathlib.Core.Option.{Option, none, some}
-use lib.ListN.{length, take, drop, getD}
+use lib.ListN.{length, take, drop}
 use lib.Dec.{leb, eqb, ltb}
-use lib.IntN.{ℤ, subℕ}
 use Rattle.type2.specs.Number.{Reading, noNumber, number, readFrom}
-use Rattle.renderer.specs.Machine.{Point, State, Step, fault, stop, on, Result, withOps, begin, withStems, withMask, Takes, exactly, many, least, spare, settle, after, stem, mask, bits, noneSet, draw, draws, andThen, across, upward, reach, lastOf, allSmall, next, run}
+use Rattle.renderer.specs.Machine.{Point, State, Step, fault, stop, on, Result, withOps, withStems, withMask, least, spare, bits, noneSet, draw, draws, reach, lastOf, allSmall, next, run}
 use Rattle.type2.specs.Path.{moves, lines, curves, flexes}
 use Rattle.renderer.specs.Reader.{unit, held, pointAt, isNear, takesOf, Taken, isCode, afterFound, settledBy, maskOf}
 use Rattle.renderer.specs.declared.operators.Found.{Found}

@@ -1,36 +1,11 @@
+-- `boxes::verdict_of` meets its contract.
 use Rattle.boxes.proofs.WindowLaws.{apart-is, inside-is, verdict-is}
 use mir.Val.{SFits}
 use mir.Syntax.{w64}
 use borrow.Author.Needs.{needs}
 use Rattle.boxes.proofs.verdict_of.Statement.{statement}
 use Rattle.boxes.proofs.verdict_of.Tie as tie
-use Rattle.boxes.proofs.verdict_of.Reads as reads
-use Rattle.boxes.proofs.verdict_of.Lts as lts
-use Rattle.boxes.proofs.apart.Reads as apart-reads
-use Rattle.boxes.proofs.decide.Reads as decide-reads
-use Rattle.boxes.proofs.inside.Reads as inside-reads
 
--- src/lib.rt:166:9
-apart-requires : tie.Need-apart-requires
-apart-requires c κs = search needs
-
--- src/lib.rt:167:9
-apart-requires-2 : tie.Need-apart-requires-2
-apart-requires-2 c κs = search needs
-
--- src/lib.rt:168:9
-inside-requires : tie.Need-inside-requires
-inside-requires c κs = search needs
-
--- src/lib.rt:169:9
-inside-requires-2 : tie.Need-inside-requires-2
-inside-requires-2 c κs = search needs
-
--- src/lib.rt:170:5
-decide-requires : tie.Need-decide-requires
-decide-requires c κs = search needs
-
--- src/lib.rt:163:1
 returns : tie.Need-returns
 returns c =
     let bl : SFits w64 (c .before .before .before .before .before .before .before .before .before .before .before .before .before .before .before .before .before .before .before .before .before .args .b .left) = record { sfits = c .before .before .before .before .before .before .before .before .before .before .before .before .before .before .before .before .before .before .before .before .struct-told .given .0 .1 } in
@@ -46,10 +21,4 @@ returns c =
 pub verdict-of-spec : {M : Type 1} → statement M
 verdict-of-spec =
     tie.close
-    (tie.spec
-    apart-requires
-    apart-requires-2
-    inside-requires
-    inside-requires-2
-    decide-requires
-    returns)
+    (tie.spec (λ c κs. search needs) (λ c κs. search needs) (λ c κs. search needs) (λ c κs. search needs) (λ c κs. search needs) returns)

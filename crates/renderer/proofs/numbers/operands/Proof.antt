@@ -1,3 +1,4 @@
+-- `renderer::numbers::operands` meets its contract.
 use lib.ListN.{length}
 use mathlib.Core.Path.{sym, _∙_}
 use Prim.Native.Nat.{_-_}
@@ -7,12 +8,6 @@ use borrow.Author.Tests.{not-true, not-false}
 use Rattle.renderer.proofs.OperatorLaws.{Going, going-first, at-end, at-operator, cut-number, full-number, more-number}
 use Rattle.renderer.proofs.numbers.operands.Statement.{statement}
 use Rattle.renderer.proofs.numbers.operands.Tie as tie
-use Rattle.renderer.proofs.numbers.operands.Reads as reads
-use Rattle.renderer.proofs.numbers.operands.Lts as lts
-use Rattle.renderer.proofs.numbers.no_operator.Reads as no-operator-reads
-use Rattle.renderer.proofs.numbers.number.Reads as number-reads
-use Rattle.renderer.proofs.numbers.starts_number.Reads as starts-number-reads
-use Rattle.renderer.proofs.numbers.wide.Reads as wide-reads
 
 abbrev Inv-loop : tie.InvT-loop
 Inv-loop program from ops₀ at₀ n₀ ops at n = Going program from ops at n
@@ -24,61 +19,21 @@ loop-holds : tie.Need-loop-holds Inv-loop μ-loop
 loop-holds c =
     going-first _ _ _ (c .before .pre)
 
-shared-slice-read-wide : tie.Need-shared-slice-read-wide Inv-loop μ-loop
-shared-slice-read-wide c =
-    omega arith
-
-wide-requires : tie.Need-wide-requires Inv-loop μ-loop
-wide-requires c κs =
-    search needs
-
-starts-number-requires : tie.Need-starts-number-requires Inv-loop μ-loop
-starts-number-requires c κs =
-    search needs
-
-add-t13 : tie.Need-add-t13 Inv-loop μ-loop
-add-t13 c =
-    omega arith
-
 returns : tie.Need-returns Inv-loop μ-loop
 returns c =
     at-operator (c .before .before .before .before .before .loop .inv) _ (omega arith) (c .before .before .wide .ensures .0) (sym (c .before .starts-number .ensures) ∙ not-true _ (c .if1 .taken))
-
-add-number : tie.Need-add-number Inv-loop μ-loop
-add-number c =
-    omega arith
 
 number-requires : tie.Need-number-requires Inv-loop μ-loop
 number-requires c κs =
     (omega arith, c .before .before .wide .ensures .1, sym (c .before .starts-number .ensures) ∙ not-false _ (c .if1 .left))
 
-no-operator-requires : tie.Need-no-operator-requires Inv-loop μ-loop
-no-operator-requires c κs =
-    search needs
-
 returns-2 : tie.Need-returns-2 Inv-loop μ-loop
 returns-2 c =
     cut-number (c .before .before .before .before .before .before .before .before .before .loop .inv) _ (omega arith) (c .before .before .before .before .before .before .wide .ensures .0) (sym (c .before .before .before .before .before .starts-number .ensures) ∙ not-false _ (c .before .before .before .before .if1 .left)) _ _ (c .before .before .before .number .ensures) (c .before .if2 .taken) _ _ _ (c .no-operator .ensures .0) (c .no-operator .ensures .1) (c .no-operator .ensures .2)
 
-no-operator-requires-2 : tie.Need-no-operator-requires-2 Inv-loop μ-loop
-no-operator-requires-2 c κs =
-    search needs
-
 returns-3 : tie.Need-returns-3 Inv-loop μ-loop
 returns-3 c =
     full-number (c .before .before .before .before .before .before .before .before .before .before .loop .inv) _ (omega arith) (c .before .before .before .before .before .before .before .wide .ensures .0) (sym (c .before .before .before .before .before .before .starts-number .ensures) ∙ not-false _ (c .before .before .before .before .before .if1 .left)) (c .before .if3 .taken) _ _ _ (c .no-operator2 .ensures .0) (c .no-operator2 .ensures .1) (c .no-operator2 .ensures .2)
-
-mul-ops : tie.Need-mul-ops Inv-loop μ-loop
-mul-ops c =
-    omega arith
-
-element-write-ops : tie.Need-element-write-ops Inv-loop μ-loop
-element-write-ops c =
-    omega arith
-
-add-n : tie.Need-add-n Inv-loop μ-loop
-add-n c =
-    omega arith
 
 loop-less : tie.Need-loop-less Inv-loop μ-loop
 loop-less c =
@@ -88,10 +43,6 @@ loop-again : tie.Need-loop-again Inv-loop μ-loop
 loop-again c =
     more-number (c .before .before .before .before .before .before .before .before .before .loop .inv) _ (omega arith) (c .before .before .before .before .before .before .wide .ensures .0) (sym (c .before .before .before .before .before .starts-number .ensures) ∙ not-false _ (c .before .before .before .before .if1 .left)) _ _ (c .before .before .before .number .ensures) (c .before .if2 .left) (c .if3 .left)
 
-no-operator-requires-3 : tie.Need-no-operator-requires-3 Inv-loop μ-loop
-no-operator-requires-3 c κs =
-    search needs
-
 returns-4 : tie.Need-returns-4 Inv-loop μ-loop
 returns-4 c =
     at-end (c .before .before .loop .inv) _ _ _ (c .no-operator3 .ensures .0) (c .no-operator3 .ensures .1) (c .no-operator3 .ensures .2) (omega arith)
@@ -99,25 +50,6 @@ returns-4 c =
 pub operands-spec : {M : Type 1} → statement M
 operands-spec =
     tie.close
-    (tie.spec
-    Inv-loop
-    μ-loop
-    loop-holds
-    shared-slice-read-wide
-    wide-requires
-    starts-number-requires
-    add-t13
-    returns
-    add-number
-    number-requires
-    no-operator-requires
-    returns-2
-    no-operator-requires-2
-    returns-3
-    mul-ops
-    element-write-ops
-    add-n
-    loop-less
-    loop-again
-    no-operator-requires-3
-    returns-4)
+    (tie.spec Inv-loop μ-loop loop-holds (λ c. omega arith) (λ c κs. search needs) (λ c κs. search needs) (λ c. omega arith) returns (λ c. omega arith)
+    number-requires (λ c κs. search needs) returns-2 (λ c κs. search needs) returns-3 (λ c. omega arith) (λ c. omega arith) (λ c. omega arith) loop-less
+    loop-again (λ c κs. search needs) returns-4)

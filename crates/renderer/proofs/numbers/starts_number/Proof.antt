@@ -1,10 +1,7 @@
-use mathlib.Core.Path.{_≡_}
-use mathlib.Core.Bool.{_||_}
+-- `renderer::numbers::starts_number` meets its contract.
 use borrow.Author.Tests.{ne-eqb}
 use Rattle.renderer.proofs.numbers.starts_number.Statement.{statement}
 use Rattle.renderer.proofs.numbers.starts_number.Tie as tie
-use Rattle.renderer.proofs.numbers.starts_number.Reads as reads
-use Rattle.renderer.proofs.numbers.starts_number.Lts as lts
 
 returns : tie.Need-returns
 returns c =

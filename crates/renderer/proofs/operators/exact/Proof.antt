@@ -1,8 +1,7 @@
+-- `renderer::operators::exact` meets its contract.
 use borrow.Author.Tests.{ne-eqb}
 use Rattle.renderer.proofs.operators.exact.Statement.{statement}
 use Rattle.renderer.proofs.operators.exact.Tie as tie
-use Rattle.renderer.proofs.operators.exact.Reads as reads
-use Rattle.renderer.proofs.operators.exact.Lts as lts
 
 returns : tie.Need-returns
 returns c =

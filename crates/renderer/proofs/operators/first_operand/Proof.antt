@@ -1,20 +1,14 @@
+-- `renderer::operators::first_operand` meets its contract.
 use borrow.Author.Tests.{ne-eqb, lt-ltb, le-ltb}
 use Rattle.renderer.specs.Reads.{skipOf}
 use borrow.Author.Needs.{needs}
 use Rattle.renderer.proofs.operators.first_operand.Statement.{statement}
 use Rattle.renderer.proofs.operators.first_operand.Tie as tie
-use Rattle.renderer.proofs.operators.first_operand.Reads as reads
-use Rattle.renderer.proofs.operators.first_operand.Lts as lts
-use Rattle.renderer.proofs.operators.exact.Reads as exact-reads
-use Rattle.renderer.proofs.operators.skipped.Reads as skipped-reads
 
 returns : tie.Need-returns
 unfolding skipOf
 returns c =
     rw (c .before .if1 .taken, lt-ltb _ _ (c .if2 .taken))
-
-skipped-requires : tie.Need-skipped-requires
-skipped-requires c κs = search needs
 
 returns-2 : tie.Need-returns-2
 unfolding skipOf
@@ -26,9 +20,6 @@ unfolding skipOf
 returns-3 c =
     rw (c .before .if3 .taken, lt-ltb _ _ (c .if4 .taken))
 
-skipped-requires-2 : tie.Need-skipped-requires-2
-skipped-requires-2 c κs = search needs
-
 returns-4 : tie.Need-returns-4
 unfolding skipOf
 returns-4 c =
@@ -39,24 +30,15 @@ unfolding skipOf
 returns-5 c =
     rw (c .before .if5 .taken, lt-ltb _ _ (c .if6 .taken))
 
-skipped-requires-3 : tie.Need-skipped-requires-3
-skipped-requires-3 c κs = search needs
-
 returns-6 : tie.Need-returns-6
 unfolding skipOf
 returns-6 c =
     rw (c .before .before .if5 .taken, le-ltb _ _ (c .before .if6 .left)) (c .skipped3 .ensures)
 
-exact-requires : tie.Need-exact-requires
-exact-requires c κs = search needs
-
 returns-7 : tie.Need-returns-7
 unfolding skipOf
 returns-7 c =
     rw (ne-eqb _ _ (c .before .before .before .before .if1 .left), ne-eqb _ _ (c .before .before .before .if3 .left), ne-eqb _ _ (c .before .before .if5 .left), ← (c .before .exact .ensures), lt-ltb _ _ (c .if7 .taken))
-
-skipped-requires-4 : tie.Need-skipped-requires-4
-skipped-requires-4 c κs = search needs
 
 returns-8 : tie.Need-returns-8
 unfolding skipOf
@@ -66,17 +48,5 @@ returns-8 c =
 pub first-operand-spec : {M : Type 1} → statement M
 first-operand-spec =
     tie.close
-    (tie.spec
-    returns
-    skipped-requires
-    returns-2
-    returns-3
-    skipped-requires-2
-    returns-4
-    returns-5
-    skipped-requires-3
-    returns-6
-    exact-requires
-    returns-7
-    skipped-requires-4
-    returns-8)
+    (tie.spec returns (λ c κs. search needs) returns-2 returns-3 (λ c κs. search needs) returns-4 returns-5 (λ c κs. search needs) returns-6
+    (λ c κs. search needs) returns-7 (λ c κs. search needs) returns-8)

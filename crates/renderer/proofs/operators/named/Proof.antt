@@ -1,15 +1,10 @@
+-- `renderer::operators::named` meets its contract.
 use Rattle.renderer.proofs.OperatorLaws.{escape-cut, escape-flex, escape-other}
-use mathlib.Core.List.{List}
-use Prim.Native.Nat.{ℕ}
-use mathlib.Core.Path.{ap, sym, _∙_}
-use borrow.Author.Tests.{ne-eqb, eqb-true}
-use Rattle.renderer.specs.Reads.{plain, escaped}
+use borrow.Author.Tests.{ne-eqb}
+use Rattle.renderer.specs.Reads.{plain}
 use borrow.Author.Needs.{needs}
 use Rattle.renderer.proofs.operators.named.Statement.{statement}
 use Rattle.renderer.proofs.operators.named.Tie as tie
-use Rattle.renderer.proofs.operators.named.Reads as reads
-use Rattle.renderer.proofs.operators.named.Lts as lts
-use Rattle.renderer.proofs.numbers.wide.Reads as wide-reads
 
 returns : tie.Need-returns
 unfolding plain
@@ -35,12 +30,6 @@ returns-5 : tie.Need-returns-5
 unfolding plain
 returns-5 c =
     rw (c .before .if5 .taken) (escape-cut _ _ (c .if6 .taken))
-
-shared-slice-read-wide : tie.Need-shared-slice-read-wide
-shared-slice-read-wide c = search needs
-
-wide-requires : tie.Need-wide-requires
-wide-requires c κs = search needs
 
 returns-6 : tie.Need-returns-6
 unfolding plain
@@ -95,21 +84,5 @@ returns-15 c =
 pub named-spec : {M : Type 1} → statement M
 named-spec =
     tie.close
-    (tie.spec
-    returns
-    returns-2
-    returns-3
-    returns-4
-    returns-5
-    shared-slice-read-wide
-    wide-requires
-    returns-6
-    returns-7
-    returns-8
-    returns-9
-    returns-10
-    returns-11
-    returns-12
-    returns-13
-    returns-14
-    returns-15)
+    (tie.spec returns returns-2 returns-3 returns-4 returns-5 (λ c. search needs) (λ c κs. search needs) returns-6 returns-7 returns-8 returns-9
+    returns-10 returns-11 returns-12 returns-13 returns-14 returns-15)

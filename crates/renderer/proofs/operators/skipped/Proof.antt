@@ -1,9 +1,8 @@
+-- `renderer::operators::skipped` meets its contract.
 use borrow.Author.Tests.{ne-eqb}
 use Rattle.renderer.specs.Reads.{skip}
 use Rattle.renderer.proofs.operators.skipped.Statement.{statement}
 use Rattle.renderer.proofs.operators.skipped.Tie as tie
-use Rattle.renderer.proofs.operators.skipped.Reads as reads
-use Rattle.renderer.proofs.operators.skipped.Lts as lts
 
 returns : tie.Need-returns
 unfolding skip

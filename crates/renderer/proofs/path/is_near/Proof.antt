@@ -1,15 +1,12 @@
+-- `renderer::path::is_near` meets its contract.
 use borrow.Author.Tests.{le-leb, lt-leb}
 use Rattle.renderer.proofs.path.is_near.Statement.{statement}
 use Rattle.renderer.proofs.path.is_near.Tie as tie
-use Rattle.renderer.proofs.path.is_near.Reads as reads
-use Rattle.renderer.proofs.path.is_near.Lts as lts
 
--- src/path.rt:16:1
 returns : tie.Need-returns
 returns c =
     rw (le-leb _ _ (c .if1 .taken))
 
--- src/path.rt:16:1
 returns-2 : tie.Need-returns-2
 returns-2 c =
     rw (lt-leb _ _ (c .if1 .left))
