@@ -9,6 +9,8 @@ ghost use Rattle.renderer.specs.Reader.{coordinate};
 ghost use Rattle.boxes.specs.Window.{meet, verdictOf};
 ghost use Rattle.boxes.specs.Answers.{answerOf, answer};
 ghost use Rattle.boxes.specs.Extent.{noExtent, extentWith, SmallFrom, Extends, Limited, boundsAt, HoldsBox};
+use renderer::END;
+use renderer::FAULT;
 use renderer::Reader;
 use renderer::is_drawing;
 
@@ -33,7 +35,8 @@ pub enum Answer {
     Boxed(Bounds, Verdict),
 }
 
-// The least and the greatest coordinates of the points so far, each as its units and 2 ^ 61. Before the first point the least are above the greatest.
+// The least and the greatest coordinates of the points so far, each as its units and 2 ^ 61. Before the first point
+// the least are above the greatest.
 struct Extent {
     left: u64,
     bottom: u64,
@@ -140,7 +143,8 @@ fn inside(a: i64, b: i64, c: i64, d: i64) -> bool
     !below(d, b)
 }
 
-// The verdict: by whether the spans of x or those of y are apart (a, b), and whether each lies within the window's (c, d).
+// The verdict, by whether the spans of x or those of y are apart (a, b), and whether each lies within the window's
+// (c, d).
 fn decide(a: bool, b: bool, c: bool, d: bool) -> Verdict
     ensures { λ r. ⌜ r ≡ cond (a || b) Verdict.Outside (cond (c && d) Verdict.Within Verdict.Crossing) ⌝ }
 {
@@ -194,7 +198,8 @@ fn answered(e: Extent, window: Bounds) -> Answer
     Answer::Boxed(b, verdict_of(b, window))
 }
 
-// The box of all points that a finished charstring draws, and how it lies to a window; refused where the machine faults or no point is drawn.
+// The box of all points that a finished charstring draws, and how it lies to a window; refused where the machine
+// faults or no point is drawn.
 pub fn glyph_box(program: &[u8], window: Bounds) -> Answer
     ensures { λ r. ⌜ r ≡ answer (now (program .entry)) window ⌝ }
 {
@@ -203,10 +208,10 @@ pub fn glyph_box(program: &[u8], window: Bounds) -> Answer
     let mut e = nothing();
     while reader.at < program.len() {
         let r = reader.next(program, &mut ops);
-        if r.code == 0 {
+        if r.code == FAULT {
             return Answer::Refused;
         }
-        if r.code == 14 {
+        if r.code == END {
             return answered(e, window);
         }
         if !is_drawing(r.code) {

@@ -1,18 +1,30 @@
-// The Type 2 machine. Its definition is in specs/Machine.antt; here a finished charstring is read operator by operator, as the machine reads it.
+// The Type 2 machine. Its definition is in specs/Machine.antt; here a finished charstring is read operator by
+// operator, as the machine reads it.
 ghost use mathlib.Core.Path.{_≡_};
 ghost use mathlib.Core.Bool.{true};
 ghost use Rattle.renderer.specs.Reader.{isPossible, isDrawing, firstReader, noOperator, afterFound, Comes};
 
 mod numbers;
+mod opcodes;
 mod operators;
 mod path;
 
+use opcodes::ESCAPE;
+use opcodes::RLINETO;
+use opcodes::RMOVETO;
+use opcodes::RRCURVETO;
 use operators::Found;
 use operators::find;
 use path::follow;
 use path::is_near;
 
-// Where a reader stands between two operators: the place in the program, whether an operator has run, how many stems are declared, and the point, each coordinate as its units of 1/65536 and 2 ^ 61.
+// The codes of an operator that comes: a fault, and the end.
+pub const FAULT: u32 = 0;
+
+pub const END: u32 = 14;
+
+// Where a reader stands between two operators: the place in the program, whether an operator has run, how many
+// stems are declared, and the point, each coordinate as its units of 1/65536 and 2 ^ 61.
 pub struct Reader {
     pub at: usize,
     pub begun: bool,
@@ -21,8 +33,9 @@ pub struct Reader {
     pub y: u64,
 }
 
-// What comes: 0 a fault, 1 stems, 19 a mask, 21 a move, 5 lines, 8 curves, 12 a flex, 14 the end. Its operands stand in the lent array from `first` to before `end`, each as its units of 1/65536 and 2 ^ 31;
-// where `first` is 1, the width stands at 0. A move has two operands. A mask's bytes are those before the place where the reader then stands.
+// What comes: 0 a fault, 1 stems, 19 a mask, 21 a move, 5 lines, 8 curves, 12 a flex, 14 the end. Its operands
+// stand in the lent array from `first` to before `end`, each as its units of 1/65536 and 2 ^ 31; where `first` is 1,
+// the width stands at 0. Every move has two operands. A mask's bytes end where the reader then stands.
 pub struct Operator {
     pub code: u32,
     pub first: usize,
@@ -47,23 +60,23 @@ fn is_possible(t: Reader) -> bool
 pub fn is_drawing(code: u32) -> bool
     ensures { λ r. ⌜ r ≡ isDrawing code ⌝ }
 {
-    if code == 21 {
+    if code == RMOVETO {
         return true;
     }
-    if code == 5 {
+    if code == RLINETO {
         return true;
     }
-    if code == 8 {
+    if code == RRCURVETO {
         return true;
     }
-    code == 12
+    code == ESCAPE
 }
 
 fn fault() -> Operator
     ensures { λ r. ⌜ r ≡ noOperator ⌝ }
 {
     Operator {
-        code: 0,
+        code: FAULT,
         first: 0,
         end: 0,
         after: Reader::new(),
@@ -102,7 +115,8 @@ impl Reader {
         }
     }
 
-    // The next operator, and where the reader stands after it; a fault where the machine faults. The array taken as a slice tells its length to the proof.
+    // The next operator, and where the reader stands after it; a fault where the machine faults, and where no run
+    // can stand. The array taken as a slice tells its length to the proof.
     pub fn next(self, program: &[u8], ops: &mut [u32; 48]) -> Operator
         ensures { λ r. ⌜ Comes (now (program .entry)) «self» (now (ops .exit)) r ⌝ }
     {
@@ -115,7 +129,7 @@ impl Reader {
             return fault();
         }
         let f = find(program, self.at, self.begun, self.stems, ops);
-        if f.code == 0 {
+        if f.code == FAULT {
             return fault();
         }
         if !is_drawing(f.code) {

@@ -7,52 +7,65 @@ ghost use Rattle.renderer.specs.Reads.{plain, skip, skipOf, afterMask, n
 use crate::numbers::ZERO;
 use crate::numbers::operands;
 use crate::numbers::wide;
+use crate::opcodes::ENDCHAR;
+use crate::opcodes::ESCAPE;
+use crate::opcodes::FLEX;
+use crate::opcodes::HINTMASK;
+use crate::opcodes::HMOVETO;
+use crate::opcodes::HSTEM;
+use crate::opcodes::HSTEMHM;
+use crate::opcodes::RLINETO;
+use crate::opcodes::RMOVETO;
+use crate::opcodes::RRCURVETO;
+use crate::opcodes::VMOVETO;
+use crate::opcodes::VSTEM;
+use crate::opcodes::VSTEMHM;
 
 // The operator that a first byte begins: 1 for the four that declare stems, 12 for a flex, 0 for a fault.
 fn named(program: &[u8], at: usize, b: u32) -> u32
     ensures { λ r. ⌜ r ≡ plain b (drop at (now (program .entry))) ⌝ }
 {
-    if b == 1 {
-        return 1;
+    if b == HSTEM {
+        return HSTEM;
     }
-    if b == 3 {
-        return 1;
+    if b == VSTEM {
+        return HSTEM;
     }
-    if b == 18 {
-        return 1;
+    if b == HSTEMHM {
+        return HSTEM;
     }
-    if b == 23 {
-        return 1;
+    if b == VSTEMHM {
+        return HSTEM;
     }
-    if b == 12 {
+    if b == ESCAPE {
         if program.len() <= at {
             return 0;
         }
-        if wide(program[at]) == 35 {
-            return 12;
+        if wide(program[at]) == FLEX {
+            return ESCAPE;
         }
         return 0;
     }
-    if b == 19 {
-        return 19;
+    if b == HINTMASK {
+        return HINTMASK;
     }
-    if b == 21 {
-        return 21;
+    if b == RMOVETO {
+        return RMOVETO;
     }
-    if b == 22 {
-        return 22;
+    if b == HMOVETO {
+        return HMOVETO;
     }
-    if b == 4 {
-        return 4;
+    if b == VMOVETO {
+        return VMOVETO;
     }
-    if b == 5 {
-        return 5;
+    if b == RLINETO {
+        return RLINETO;
     }
-    if b == 8 {
-        return 8;
+    if b == RRCURVETO {
+        return RRCURVETO;
     }
-    if b == 14 {
-        return 14;
+    if b == ENDCHAR {
+        return ENDCHAR;
     }
     0
 }
@@ -61,16 +74,16 @@ fn named(program: &[u8], at: usize, b: u32) -> u32
 fn exact(code: u32) -> usize
     ensures { λ r. ⌜ r ≡ exactOf code ⌝ }
 {
-    if code == 21 {
+    if code == RMOVETO {
         return 2;
     }
-    if code == 22 {
+    if code == HMOVETO {
         return 1;
     }
-    if code == 4 {
+    if code == VMOVETO {
         return 1;
     }
-    if code == 12 {
+    if code == ESCAPE {
         return 13;
     }
     0
@@ -95,19 +108,19 @@ fn skipped(spare: usize, begun: bool) -> usize
 fn first_operand(code: u32, count: usize, begun: bool) -> usize
     ensures { λ r. ⌜ r ≡ skipOf code count begun ⌝ }
 {
-    if code == 1 {
+    if code == HSTEM {
         if count < 2 {
             return 2;
         }
         return skipped(count % 2, begun);
     }
-    if code == 5 {
+    if code == RLINETO {
         if count < 2 {
             return 2;
         }
         return skipped(count % 2, begun);
     }
-    if code == 8 {
+    if code == RRCURVETO {
         if count < 6 {
             return 2;
         }
@@ -184,56 +197,56 @@ pub(crate) fn find(
     if 1 < first {
         return fault();
     }
-    if code == 1 {
+    if code == HSTEM {
         let all = stems + (count - first) / 2;
         if 96 < all {
             return fault();
         }
         return Found {
-            code: 1,
+            code: HSTEM,
             first,
             end: count,
             next: after,
             stems: all,
         };
     }
-    if code == 19 {
+    if code == HINTMASK {
         let next = after_mask(program, after, stems);
         if next == 0 {
             return fault();
         }
         return Found {
-            code: 19,
+            code: HINTMASK,
             first,
             end: count,
             next,
             stems,
         };
     }
-    if code == 22 {
+    if code == HMOVETO {
         ops[count] = ZERO;
         return Found {
-            code: 21,
+            code: RMOVETO,
             first,
             end: count + 1,
             next: after,
             stems,
         };
     }
-    if code == 4 {
+    if code == VMOVETO {
         ops[count] = ops[first];
         ops[first] = ZERO;
         return Found {
-            code: 21,
+            code: RMOVETO,
             first,
             end: count + 1,
             next: after,
             stems,
         };
     }
-    if code == 12 {
+    if code == ESCAPE {
         return Found {
-            code: 12,
+            code: ESCAPE,
             first,
             end: count,
             next: after + 1,
