@@ -2,6 +2,7 @@
 use Prim.Native.Nat.{ℕ}
 use mathlib.Core.Path.{_≡_}
 use mathlib.Core.List.{List, [], _∷_}
+use lib.IntN.{ℤ, pos}
 use lib.ListN.{length, getD}
 use lib.Ieee.{Float, nan, binary64, toBits}
 use Rattle.charstring.specs.declared.Decrypted.{Decrypted}
@@ -16,6 +17,9 @@ use Rattle.type1_to_type2.specs.Entry.{ConvertsFrom}
 use Rattle.type2.specs.declared.Widths.{Widths}
 use Rattle.agreement.specs.Finished.{finished, ConvertsFinished}
 use Rattle.widths.specs.declared.Chosen.{Chosen}
+use Rattle.boxes.specs.declared.Bounds.{Bounds}
+use Rattle.boxes.specs.declared.Answer.{Answer}
+use Rattle.boxes.specs.Answers.{numberOf, verdictWord}
 
 -- a, b, c, d, tx, ty
 abbrev pub matrixOf : List Float → Matrix
@@ -39,6 +43,17 @@ decryptedWords d = d .number ∷ d .length ∷ []
 -- the default width, the nominal width
 abbrev pub pairOf : Chosen → List Float
 pairOf c = c .widths .«default_width_x» ∷ c .widths .«nominal_width_x» ∷ []
+
+-- a window of four words: least x, least y, greatest x, greatest y
+abbrev pub windowOf : List ℤ → Bounds
+windowOf w = record { left = getD w 0 (pos 0); bottom = getD w 1 (pos 0); right = getD w 2 (pos 0); top = getD w 3 (pos 0) }
+
+abbrev pub fourWords : Bounds → List ℤ
+fourWords b = b .left ∷ b .bottom ∷ b .right ∷ b .top ∷ []
+
+-- number, verdict
+abbrev pub boxedWords : Answer → List ℕ
+boxedWords a = numberOf a ∷ verdictWord a ∷ []
 
 -- what `cribstork_convert` leaves, of a source that is read so, with so much room: what converting leaves, the number, and the answer's words
 pub record BoardConverts (x : Source) (reading : Reading) (m : Matrix) (r : Rooms) (n : ℕ) (stems : List Stem) (commands out words : List ℕ) : Type 0 where

@@ -11,7 +11,12 @@ ghost use Rattle.type1_to_type2.specs.Convert.{roomsOf};
 ghost use Rattle.type1_to_type2.specs.Finish.{finish};
 ghost use Rattle.type1_to_type2.specs.FinishAnswer.{finishedAnswer, finishedOutput};
 ghost use Rattle.widths.specs.Widths.{chosen, zeroWidth};
-ghost use Rattle.board.specs.Answers.{matrixOf, widthsOf, glyphWords, finishedWords, decryptedWords, pairOf, BoardConverts, BoardFinishes};
+ghost use Rattle.boxes.specs.Answers as Boxes;
+ghost use Rattle.boxes.specs.Answers.{numberOf, boxWords, verdictWord};
+ghost use Rattle.board.specs.Answers.{matrixOf, widthsOf, glyphWords, finishedWords, decryptedWords, pairOf, windowOf, fourWords, boxedWords, BoardConverts, BoardFinishes};
+use boxes::Answer;
+use boxes::Bounds;
+use boxes::Verdict;
 use geometry::Matrix;
 use outline::Stem;
 use type1::Reading;
@@ -175,4 +180,81 @@ pub extern "C" fn cribstork_decrypt(
     let d = charstring::decrypt_charstring(data, len_iv, out);
     *answer = [d.number, d.length as u64];
     d.number
+}
+
+// The window of four words: the least x, the least y, the greatest x, the greatest y.
+fn window_of(w: &[i64; 4]) -> Bounds
+    ensures { λ r. ⌜ r ≡ windowOf (now (w .entry)) ⌝ }
+{
+    Bounds {
+        left: w[0],
+        bottom: w[1],
+        right: w[2],
+        top: w[3],
+    }
+}
+
+// 0 if the program was not refused.
+fn number_of(a: Answer) -> u64
+    ensures { λ r. ⌜ r ≡ numberOf a ⌝ }
+{
+    match a {
+        Answer::Refused => 21,
+        Answer::Boxed(_, _) => 0,
+    }
+}
+
+// 1 within, 2 crossing, 3 outside; 0 on a refusal.
+fn word_of(a: Answer) -> u64
+    ensures { λ r. ⌜ r ≡ verdictWord a ⌝ }
+{
+    match a {
+        Answer::Refused => 0,
+        Answer::Boxed(_, v) => match v {
+            Verdict::Within => 1,
+            Verdict::Crossing => 2,
+            Verdict::Outside => 3,
+        },
+    }
+}
+
+// The box; zeros on a refusal.
+fn bounds_of(a: Answer) -> Bounds
+    ensures { λ r. ⌜ fourWords r ≡ boxWords a ⌝ }
+{
+    match a {
+        Answer::Refused => Bounds {
+            left: 0,
+            bottom: 0,
+            right: 0,
+            top: 0,
+        },
+        Answer::Boxed(b, _) => b,
+    }
+}
+
+// The words of a box: least x, least y, greatest x, greatest y.
+fn put_bounds(b: Bounds, bounds: &mut [i64; 4])
+    ensures { λ _. ⌜ now (bounds .exit) ≡ fourWords b ⌝ }
+{
+    *bounds = [b.left, b.bottom, b.right, b.top];
+}
+
+// `boxes::glyph_box` of a finished charstring. The box: least x, least y, greatest x, greatest y. The answer: number,
+// then 1 within, 2 crossing, 3 outside.
+#[no_mangle]
+pub extern "C" fn cribstork_box(
+    program: &[u8],
+    window: &[i64; 4],
+    bounds: &mut [i64; 4],
+    answer: &mut [u64; 2],
+) -> u64
+    ensures { λ r. ⌜ r ≡ numberOf (Boxes.answer (now (program .entry)) (windowOf (now (window .entry)))) ⌝ }
+    ensures { λ _. ⌜ now (bounds .exit) ≡ boxWords (Boxes.answer (now (program .entry)) (windowOf (now (window .entry)))) ⌝ }
+    ensures { λ _. ⌜ now (answer .exit) ≡ boxedWords (Boxes.answer (now (program .entry)) (windowOf (now (window .entry)))) ⌝ }
+{
+    let a = boxes::glyph_box(program, window_of(window));
+    put_bounds(bounds_of(a), bounds);
+    *answer = [number_of(a), word_of(a)];
+    number_of(a)
 }
