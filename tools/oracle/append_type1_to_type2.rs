@@ -119,6 +119,30 @@ pub mod oracle {
         })
     }
 
+    /// The points of the Rust's list, each put through the matrix as converting does it.
+    pub fn folded_points(
+        charstring: &[u8],
+        subrs: &[Vec<u8>],
+        len_iv: usize,
+        m: &Matrix,
+    ) -> Result<Vec<(f64, f64)>, String> {
+        let mut interp = start(subrs, len_iv);
+        interp.charge(charstring.len())?;
+        interp.run(&decrypt_charstring(charstring, len_iv), 0)?;
+        let identity = [m.a, m.b, m.c, m.d, m.tx, m.ty] == [1.0, 0.0, 0.0, 1.0, 0.0, 0.0];
+        let mut points = Vec::new();
+        for cmd in &interp.cmds {
+            let folded = if identity {
+                command(cmd)
+            } else {
+                command(&transform_cmd(cmd, m))
+            };
+            // A flex has its height last, which is no point.
+            points.extend(folded.coordinates.chunks_exact(2).map(|p| (p[0], p[1])));
+        }
+        Ok(points)
+    }
+
     /// The document's limits that the Rust has not, looked for after each step of the Rust's.
     pub fn first_limit(charstring: &[u8], subrs: &[Vec<u8>], len_iv: usize) -> Option<Vec<u64>> {
         watched(charstring, subrs, len_iv, &Matrix::identity(), &NO_STORES).limit
@@ -130,7 +154,7 @@ pub mod oracle {
         pub entries: usize,
     }
 
-    const NO_STORES: Lent = Lent {
+    pub const NO_STORES: Lent = Lent {
         records: usize::MAX,
         entries: usize::MAX,
     };
@@ -148,14 +172,23 @@ pub mod oracle {
         pub completed: bool,
         /// As in `Run`.
         pub folds_finite: bool,
+        /// A div ran.
+        pub divided: bool,
     }
 
     pub fn watched(charstring: &[u8], subrs: &[Vec<u8>], len_iv: usize, m: &Matrix, lent: &Lent) -> Watched {
         let mut interp = start(subrs, len_iv);
+        let mut divided = false;
         let stop = if interp.charge(charstring.len()).is_err() {
             Stop::Refused
         } else {
-            watch(&mut interp, &decrypt_charstring(charstring, len_iv), 0, lent)
+            watch(
+                &mut interp,
+                &decrypt_charstring(charstring, len_iv),
+                0,
+                lent,
+                &mut divided,
+            )
         };
         let completed = matches!(stop, Stop::Next | Stop::End);
         let (limit, first) = match stop {
@@ -167,6 +200,7 @@ pub mod oracle {
             completed,
             limit,
             first,
+            divided,
             bytes_run: interp.bytes_run,
             records: records(&interp),
             entries: interp.cmds.len(),
@@ -185,7 +219,7 @@ pub mod oracle {
     }
 
     /// Runs `data` one number or operator at a time.
-    fn watch(interp: &mut Interp, data: &[u8], depth: usize, lent: &Lent) -> Stop {
+    fn watch(interp: &mut Interp, data: &[u8], depth: usize, lent: &Lent, divided: &mut bool) -> Stop {
         if depth > MAX_SUBR_DEPTH {
             return Stop::Refused;
         }
@@ -212,7 +246,7 @@ pub mod oracle {
                         return Stop::Refused;
                     }
                     let plain = decrypt_charstring(body, interp.len_iv);
-                    match watch(interp, &plain, depth + 1, lent) {
+                    match watch(interp, &plain, depth + 1, lent, divided) {
                         Stop::Next => {}
                         stop => return stop,
                     }
@@ -228,6 +262,7 @@ pub mod oracle {
                     if interp.run(token, depth).is_err() {
                         return Stop::Refused;
                     }
+                    *divided |= token == [12, 12];
                     let over = limits(interp, lent);
                     if !over.is_empty() {
                         let first = first_of(&over, interp, token, &before, lent);

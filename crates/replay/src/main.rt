@@ -7,6 +7,7 @@ ghost use Rattle.type1_to_type2.specs.Convert.{roomsWith};
 ghost use Rattle.type1_to_type2.specs.Entry.{ConvertsFrom};
 ghost use Rattle.replay.specs.Stores.{usedStem, afterRun, afterConverting};
 
+mod bounds;
 mod doubles;
 mod files;
 mod glyphs;
@@ -178,6 +179,8 @@ fn compare(kind: u64, v: &[u8]) -> bool {
         16 => glyphs::compare_finish(v),
         17 => glyphs::compare_closepaths(v),
         18 => parts::compare_push_number(v),
+        19 => bounds::compare_glyph_box(v),
+        20 => bounds::compare_box_of_run(v),
         _ => false,
     }
 }
@@ -216,6 +219,12 @@ fn replay_glyphs(before: Tally) -> Tally {
     replay(b"closepaths.vec", 17, t)
 }
 
+// The boxes of finished charstrings.
+fn replay_boxes(before: Tally) -> Tally {
+    let t = replay(b"glyph_box.vec", 19, before);
+    replay(b"box_of_run.vec", 20, t)
+}
+
 fn main() {
     let none = Tally {
         compared: 0,
@@ -223,6 +232,6 @@ fn main() {
     };
     files::print(
         b"total",
-        replay_glyphs(replay_parts(replay_points(replay_doubles(none)))),
+        replay_boxes(replay_glyphs(replay_parts(replay_points(replay_doubles(none))))),
     );
 }

@@ -136,6 +136,13 @@ pub(crate) fn nth_short(v: &[u8], from: usize, n: usize) -> u64 {
     short(v, after_shorts(v, from, n))
 }
 
+// Signed number n of those: half of the short number, or, where that is odd, as far below -1 as its half is above 0.
+pub(crate) fn nth_signed(v: &[u8], from: usize, n: usize) -> i64 {
+    let twice = nth_short(v, from, n);
+    let half = (twice / 2) as i64;
+    if twice % 2 == 0 { half } else { !half }
+}
+
 pub(crate) fn nth_double(v: &[u8], from: usize, n: usize) -> f64 {
     from_pattern(nth_short(v, from, n))
 }

@@ -8,6 +8,11 @@ use crate::random::Random;
 use crate::type1_to_type2::{convert_charstring_transformed, oracle};
 use crate::vector::{Fields, Vectors};
 
+/// The entries are 1 0 0 1 0 0: points are left alone.
+pub fn is_identity(m: &Matrix) -> bool {
+    m.to_array() == Matrix::identity().to_array()
+}
+
 /// Document 01's number of a refusal of the Rust's.
 pub fn refusal(text: &str) -> u64 {
     let numbers = [
@@ -449,10 +454,30 @@ fn add_damaged_bank(r: &mut Random, to: &mut Vectors, input: &Input, m: &Matrix)
     add_convert(to, m, input.len_iv, &input.charstring, &bad, AMPLE, &a);
 }
 
+/// The number of convert.vec's kind.
+pub const CONVERT: u8 = 15;
+
 /// How many random glyphs are recorded, damaged copies among them.
 const GLYPHS: usize = 20_000;
 
 pub fn convert(r: &mut Random, to: &mut Vectors) {
+    converting(r, to, |_, _| {});
+}
+
+/// The random glyphs of convert.vec that convert: the input, the matrix, and the width and the program that are answered.
+pub fn random_glyphs(mut of: impl FnMut(&Input, &Matrix, f64, &[u8])) {
+    let mut passed_over = Vectors::new(CONVERT);
+    converting(&mut Random::of_kind(CONVERT), &mut passed_over, |input, m| {
+        if let Some((a, _)) = answer(input, m)
+            && a.number == 0
+        {
+            of(input, m, a.width, &a.program);
+        }
+    });
+}
+
+/// The vectors of convert.vec. Each random glyph is handed on.
+fn converting(r: &mut Random, to: &mut Vectors, mut seen: impl FnMut(&Input, &Matrix)) {
     let identity = Matrix::identity();
     let none = bank(&[]);
     // Numbers 1 and 2: the Rust has neither.
@@ -548,11 +573,18 @@ pub fn convert(r: &mut Random, to: &mut Vectors) {
             continue;
         }
         let edges = r.once_in(40);
-        glyphs += usize::from(add_answer(r, to, &input, &m, edges));
+        let mut add = |r: &mut Random, input: &Input, edges: bool| {
+            let added = add_answer(r, to, input, &m, edges);
+            glyphs += usize::from(added);
+            if added {
+                seen(input, &m);
+            }
+        };
+        add(r, &input, edges);
         if r.once_in(4) {
             let bad = damaged(r, &g);
             let input = encrypted(r, &bad);
-            glyphs += usize::from(add_answer(r, to, &input, &m, false));
+            add(r, &input, false);
         }
         if r.once_in(40) {
             add_damaged_bank(r, to, &input, &m);

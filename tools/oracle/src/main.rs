@@ -13,10 +13,12 @@ mod geometry;
 #[allow(dead_code)]
 mod type1_to_type2;
 
+mod boxes;
 mod cipher;
 mod doubles;
 mod generate;
 mod glyphs;
+mod machine;
 mod numbers;
 mod random;
 mod vector;
@@ -47,7 +49,7 @@ const fn kind(
     }
 }
 
-const KINDS: [Kind; 18] = [
+const KINDS: [Kind; 20] = [
     kind("round", 1, true, doubles::round),
     kind("floor", 2, true, doubles::floor),
     kind("abs", 3, true, doubles::abs),
@@ -62,10 +64,12 @@ const KINDS: [Kind; 18] = [
     kind("push_number", 12, true, numbers::push_number),
     kind("choose_widths", 13, true, numbers::choose_widths),
     kind("run", 14, true, glyphs::run),
-    kind("convert", 15, true, glyphs::convert),
+    kind("convert", glyphs::CONVERT, true, glyphs::convert),
     kind("finish", 16, true, glyphs::finish),
     kind("closepaths", 17, true, glyphs::closepaths),
     kind("adobe_numbers", 18, true, numbers::adobe_numbers),
+    kind("glyph_box", 19, true, boxes::stated),
+    kind("box_of_run", 20, true, boxes::of_runs),
 ];
 
 fn main() {
@@ -91,8 +95,7 @@ fn main() {
         if !wanted {
             continue;
         }
-        // Each file has a seed of its own, so that a change of one leaves the others as they are.
-        let mut random = Random::new(0x5EED_0000 + u64::from(k.number));
+        let mut random = Random::of_kind(k.number);
         let mut vectors = Vectors::new(k.number);
         (k.record)(&mut random, &mut vectors);
         let path = std::path::Path::new(&words[2]).join(format!("{}.vec", k.name));

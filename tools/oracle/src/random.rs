@@ -9,6 +9,11 @@ impl Random {
         Self { state: seed }
     }
 
+    /// Each file has a seed of its own, so that a change of one leaves the others as they are.
+    pub fn of_kind(number: u8) -> Self {
+        Self::new(0x5EED_0000 + u64::from(number))
+    }
+
     pub fn next(&mut self) -> u64 {
         self.state = self.state.wrapping_add(0x9E37_79B9_7F4A_7C15);
         let mut z = self.state;

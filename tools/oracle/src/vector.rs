@@ -59,6 +59,11 @@ impl Fields {
         self
     }
 
+    /// A short signed number: twice it, or twice its distance from -1 and one more where it is negative.
+    pub fn short_signed(self, n: i64) -> Self {
+        self.short(((n << 1) ^ (n >> 63)) as u64)
+    }
+
     pub fn short_double(self, v: f64) -> Self {
         self.short(if v.is_nan() { NAN_BITS } else { v.to_bits() })
     }

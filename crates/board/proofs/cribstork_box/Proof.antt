@@ -17,10 +17,13 @@ returns : tie.Need-returns
 returns c =
     let boxed = c .before .before .before .before .before .before in
     let given = boxed .before in
-    let is = given .glyph-box .ensures ∙ ap (λ (w : Bounds). answer (given .before .before .before .args .program .now) w) (given .before .window-of .ensures) in
-    (c .number-of2 .ensures ∙ ap numberOf is,
-    (c .before .before .before .before .put-bounds .ensures ∙ boxed .bounds-of .ensures ∙ ap boxWords is,
-    words _ _ (given .glyph-box .result) (c .before .before .before .number-of .ensures) (c .before .before .word-of .ensures) ∙ ap boxedWords is))
+    let is = given .glyph-box .ensures ∙ ap (λ (w : Bounds). answer (given .before .before .before .args .program .now) w) (given .before .window-of .ensures) in (
+      c .number-of2 .ensures ∙ ap numberOf is,
+      (
+        c .before .before .before .before .put-bounds .ensures ∙ boxed .bounds-of .ensures ∙ ap boxWords is,
+        words _ _ (given .glyph-box .result) (c .before .before .before .number-of .ensures) (c .before .before .word-of .ensures) ∙ ap boxedWords is,
+      ),
+    )
 
 pub cribstork-box-spec : {M : Type 1} → statement M
 cribstork-box-spec =
