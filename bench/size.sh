@@ -1,6 +1,6 @@
 #!/usr/bin/env bash
 # The size of each function of the archive, in bytes: its own code, its code with all that it calls (but memset), and the
-# read-only data that stays with it when a linker drops what is not used (--gc-sections); then that of all five, what the
+# read-only data that stays with it when a linker drops what is not used (--gc-sections); then that of all six, what the
 # archive needs from elsewhere, and its writable data. ARCHIVE names the archive (rt staticlib board).
 set -euo pipefail
 cd "$(dirname "$0")/.."
@@ -11,7 +11,7 @@ done
 need_archive
 to=target/bench/size
 mkdir -p "$to"
-functions=(cribstork_convert cribstork_finish cribstork_convert_finished cribstork_choose_widths cribstork_decrypt)
+functions=(cribstork_convert cribstork_finish cribstork_convert_finished cribstork_box cribstork_choose_widths cribstork_decrypt)
 
 sum() { # FILE KIND: bytes of its sections of a kind, CODE, DATA (read-only) or WRITABLE
     objdump -hw "$1" | awk -v kind="$2" '
@@ -37,7 +37,7 @@ for name in "${functions[@]}"; do
     printf '%-28s %10d %10d %10d\n' "$name" "0x$own" "$(sum "$to/$name.o" CODE)" "$(sum "$to/$name.o" DATA)"
 done
 link "$to/all.o" "${functions[@]}"
-printf '%-28s %10s %10d %10d\n' "all five" "" "$(sum "$to/all.o" CODE)" "$(sum "$to/all.o" DATA)"
+printf '%-28s %10s %10d %10d\n' "all six" "" "$(sum "$to/all.o" CODE)" "$(sum "$to/all.o" DATA)"
 ld -r --whole-archive -o "$to/whole.o" "$archive"
 echo "needed from elsewhere: $(nm -u "$to/whole.o" | awk '{ print $2 }' | paste -sd ' ')"
 echo "writable data: $(sum "$to/whole.o" WRITABLE) bytes"

@@ -1,5 +1,5 @@
 #!/usr/bin/env bash
-# How much stack the five functions of the archive take, and how much a program.
+# How much stack the six functions of the archive take, and how much a program.
 #
 #     bench/stack.sh [--cases N] FONTS..             FONTS: Type 1 fonts, or folders of them
 #     bench/stack.sh --program PROGRAM ARGUMENTS..

@@ -1,5 +1,5 @@
 #!/usr/bin/env python3
-"""The most stack that the code of each of the five functions can take, for every input.
+"""The most stack that the code of each of the six functions can take, for every input.
 
     python3 bench/stack_bound.py PROGRAM        a program that the archive is linked into
 
@@ -13,7 +13,7 @@ import re
 import subprocess
 import sys
 
-ENTRIES = ["cribstork_convert", "cribstork_finish", "cribstork_convert_finished", "cribstork_choose_widths", "cribstork_decrypt"]
+ENTRIES = ["cribstork_convert", "cribstork_finish", "cribstork_convert_finished", "cribstork_box", "cribstork_choose_widths", "cribstork_decrypt"]
 # How often a function is active at once at the most, by a part of its name.
 ACTIVE = [("quicksort", 49), ("call_body", 11), ("run", 11)]
 WORD = 8

@@ -25,6 +25,7 @@
  *       18  the output is short
  *       19  a listed width is not finite
  *       20  the width scratch is shorter than the list
+ *       21  bytes on which the Type 2 machine faults, or a glyph that draws no point
  *
  * An answer's first word is the number again; on a refusal its other words are 0.
  * Bytes run: the charstring's, and each subroutine's at every call of it. Stems in force: the hints that hold for what is
@@ -136,6 +137,23 @@ uint64_t cribstork_convert_finished(
     double default_width, double nominal_width,
     uint8_t *out, size_t out_len,
     uint64_t answer[4]);
+
+/*
+ * The box of a finished charstring: the least and the greatest coordinates of all points that it draws, moves and control
+ * points included; and how it lies to a window. Both are in units of 1/65536.
+ *
+ * program  as cribstork_finish or cribstork_convert_finished wrote it; what stands after its endchar is not read
+ * window   least x, least y, greatest x, greatest y; any numbers. Where the least is above the greatest the window has no
+ *          point
+ * box      likewise; all 0 on a refusal
+ * answer   number; then 1 where all of the box lies in the window, touching edges included (within), 3 where they share no
+ *          point (outside), 2 in every other case (crossing); 0 on a refusal
+ */
+uint64_t cribstork_box(
+    const uint8_t *program, size_t program_len,
+    const int64_t window[4],
+    int64_t box[4],
+    uint64_t answer[2]);
 
 /*
  * The default and the nominal width of a font whose glyphs have these widths.

@@ -3,6 +3,7 @@
 //!     bench [--rounds N] FONTS..
 //!     bench --ours-only FONT
 //!     bench --least [--rounds N] FONTS..
+//!     bench --boxes [--rounds N] FONTS..
 //!
 //! Ours gets 256 stem records, 256 entries of the command store and 4,096 bytes of output, and leaves the stores
 //! all zeros; the Rust takes its own memory. A time is the median of the rounds, and the thread's own.
@@ -539,6 +540,102 @@ fn widths(rounds: usize) {
     }
 }
 
+/// The box of a finished charstring: its number.
+fn ours_box(program: &[u8]) -> u64 {
+    let window = [0, 0, 500 << 16, 500 << 16];
+    let (mut sides, mut answer) = ([0; 4], [0; 2]);
+    let number =
+        unsafe { archive::cribstork_box(program.as_ptr(), program.len(), &window, &mut sides, &mut answer) };
+    black_box((sides, answer));
+    number
+}
+
+/// All programs, so many times; nanoseconds for one time.
+fn time_boxes(programs: &[Vec<u8>], times: usize) -> f64 {
+    let start = now();
+    for program in (0..times).flat_map(|_| programs) {
+        black_box(ours_box(black_box(program)));
+    }
+    (now() - start) / times as f64
+}
+
+/// Boxes of the fonts' finished glyphs, beside the time of converting them; then boxes of long programs.
+fn boxes(paths: &[String], rounds: usize) {
+    let mut stores = Stores::usual();
+    println!("\nBoxes of finished glyphs\n");
+    println!(
+        "| glyphs of | glyphs | no point drawn | bytes each | converting, ns a glyph | box, ns a glyph | box, ns a byte | ratio |"
+    );
+    println!("|---|---|---|---|---|---|---|---|");
+    for path in paths {
+        let read = font::read_all(std::slice::from_ref(path));
+        let last = path.trim_end_matches('/').rsplit('/').next().unwrap_or(path);
+        for (name, m) in &MATRICES {
+            let (mut glyphs, mut empty, mut bytes) = (0, 0, 0);
+            let (mut converting, mut boxing) = (0.0, 0.0);
+            for f in &read {
+                let (s, _) = of_font(f, &mut stores, m);
+                let programs: Vec<Vec<u8>> = s
+                    .cases
+                    .iter()
+                    .map(|case| {
+                        let answer = stores.convert_finished(case, m, WIDTHS);
+                        stores.out[..answer[1] as usize].to_vec()
+                    })
+                    .collect();
+                let (mut c, mut b) = (Vec::new(), Vec::new());
+                for _ in 0..rounds {
+                    c.push(time_ours(&s, &mut stores, m, What::Convert, 1));
+                    b.push(time_boxes(&programs, 1));
+                }
+                converting += median(c);
+                boxing += median(b);
+                glyphs += programs.len();
+                empty += programs.iter().filter(|p| ours_box(p) != 0).count();
+                bytes += programs.iter().map(Vec::len).sum::<usize>();
+            }
+            let n = glyphs as f64;
+            println!(
+                "| {last} ({} fonts), {name} | {glyphs} | {empty} | {:.0} | {:.0} | {:.0} | {:.2} | {:.2} |",
+                read.len(),
+                bytes as f64 / n,
+                converting / n,
+                boxing / n,
+                boxing / bytes as f64,
+                boxing / converting
+            );
+        }
+    }
+    println!("\nBoxes of long programs\n\n| program | bytes | ns | ns a byte |\n|---|---|---|---|");
+    let mut lines = Vec::new();
+    for i in 0..46u8 {
+        lines.push(if i % 4 < 2 { 140 + i } else { 138 - (i - 2) });
+    }
+    lines.push(5);
+    let curves = [&[[140, 141, 142, 138, 137, 136]; 7].concat()[..], &[8]].concat();
+    let moves = [140, 22, 138, 22];
+    let fractions = [255, 0, 0, 128, 0, 22, 255, 255, 255, 128, 0, 22];
+    for (label, part) in [
+        ("lines, 23 to an operator", &lines[..]),
+        ("curves, 7 to an operator", &curves),
+        ("moves", &moves),
+        ("moves by halves", &fractions),
+    ] {
+        for size in [1_000, 10_000, 100_000, 1_000_000] {
+            let mut program = part.repeat(size / part.len());
+            program.push(14);
+            assert!(ours_box(&program) == 0);
+            let programs = [program];
+            let once = time_boxes(&programs, 1);
+            let times = (1e6 / once).clamp(1.0, 20_000.0) as usize;
+            let all = (0..rounds).map(|_| time_boxes(&programs, times)).collect();
+            let bytes = programs[0].len();
+            let time: f64 = median(all);
+            println!("| {label} | {bytes} | {time:.0} | {:.2} |", time / bytes as f64);
+        }
+    }
+}
+
 /// Whether the offsets of a bank do not fall: what is to be read of it before a run, whatever the glyph calls.
 fn offsets_rise(bank: &[u8]) -> bool {
     let count = usize::from(u16::from_be_bytes([bank[0], bank[1]]));
@@ -626,10 +723,15 @@ fn main() {
         }
         return;
     }
-    let only_least = words.first().is_some_and(|w| w == "--least");
-    if only_least {
-        words.remove(0);
-    }
+    let only = |words: &mut Vec<String>, option: &str| {
+        let given = words.first().is_some_and(|w| w == option);
+        if given {
+            words.remove(0);
+        }
+        given
+    };
+    let only_least = only(&mut words, "--least");
+    let only_boxes = only(&mut words, "--boxes");
     let mut rounds = 11;
     if words.first().is_some_and(|w| w == "--rounds") {
         rounds = words[1].parse().expect("a count of rounds");
@@ -639,7 +741,12 @@ fn main() {
         least(&words, rounds);
         return;
     }
+    if only_boxes {
+        boxes(&words, rounds);
+        return;
+    }
     fonts(&words, rounds);
     growth(15);
     widths(rounds);
+    boxes(&words, rounds);
 }

@@ -17,11 +17,11 @@
 
 #include "cribstork.h"
 
-enum { CONVERT, FINISH, CONVERT_FINISHED, CHOOSE_WIDTHS, DECRYPT, FUNCTIONS };
+enum { CONVERT, FINISH, CONVERT_FINISHED, BOX, CHOOSE_WIDTHS, DECRYPT, FUNCTIONS };
 enum { FROM_FONTS, RANDOM, DEEPEST, KINDS };
 
 static const char *const names[FUNCTIONS] = {"cribstork_convert", "cribstork_finish", "cribstork_convert_finished",
-    "cribstork_choose_widths", "cribstork_decrypt"};
+    "cribstork_box", "cribstork_choose_widths", "cribstork_decrypt"};
 
 static void fail(const char *what, const char *name) {
     fprintf(stderr, "stack: %s %s\n", what, name);
@@ -106,7 +106,7 @@ static void make_stacks(void) {
     }
 }
 
-/* ---- The five functions --------------------------------------------------------------------------------------- */
+/* ---- The six functions ---------------------------------------------------------------------------------------- */
 
 #define A(x) ((uint64_t)(uintptr_t)(x))
 static uint64_t calls[FUNCTIONS], refused[FUNCTIONS];
@@ -149,7 +149,15 @@ static double matrices[][6] = {
 };
 #define MATRICES (sizeof matrices / sizeof *matrices)
 
-/* All functions of a glyph: converted, decrypted, and finished with widths of both kinds. */
+static void box_of(const uint8_t *program, size_t n) {
+    int64_t window[4] = {0, 0, 500 * 65536, 500 * 65536}, box[4];
+    uint64_t answer[2];
+    struct call c = {.words = {A(program), n, A(window), A(box), A(answer)}};
+    count(BOX, (void *)cribstork_box, &c, 0);
+}
+
+/* All functions of a glyph: converted, decrypted, finished with widths of both kinds, and its box. Its bytes as they are
+   for the box too. */
 static void glyph(struct bytes code, struct bytes bank, size_t len_iv, double *matrix, struct stores *s) {
     uint64_t answer[4];
     double width;
@@ -163,8 +171,8 @@ static void glyph(struct bytes code, struct bytes bank, size_t len_iv, double *m
         uint64_t two[2];
         struct call f = {.words = {A(s->program), n, A(s->out), s->output - (i == 2), A(two)},
             .doubles = {width, widths[i][0], widths[i][1]}};
-        if (s->output > 0)
-            count(FINISH, (void *)cribstork_finish, &f, 0);
+        if (s->output > 0 && count(FINISH, (void *)cribstork_finish, &f, 0) == 0)
+            box_of(s->out, (size_t)two[1]);
         struct call b = {.words = {A(code.at), code.n, A(bank.at), bank.n, len_iv, A(matrix), A(s->stems), s->records,
                              A(s->commands), s->words, A(s->program), s->output, A(s->out), s->output, A(answer)},
             .doubles = {widths[i][0], widths[i][1]}};
@@ -172,6 +180,7 @@ static void glyph(struct bytes code, struct bytes bank, size_t len_iv, double *m
     }
     struct call d = {.words = {A(code.at), code.n, len_iv, A(s->out), s->output, A(answer)}};
     count(DECRYPT, (void *)cribstork_decrypt, &d, 0);
+    box_of(code.at, code.n);
 }
 
 static void widths_of(double *list, size_t n, size_t scratch_len) {

@@ -1,4 +1,4 @@
-/* Converts the glyph that document 01 works through, prints its program, and finishes it. */
+/* Converts the glyph that document 01 works through, prints its program, finishes it, and asks for its box. */
 #include <stdio.h>
 #include <string.h>
 
@@ -59,6 +59,14 @@ int main(void) {
         return 1;
     }
     print_bytes("in one call:", out, (size_t)answer[1]);
+
+    /* Its box in 1/65536, and a window from (0, 0) to (15, 20): 1 within, 2 crossing, 3 outside. */
+    static const int64_t window[4] = {0, 0, 15 * 65536, 20 * 65536};
+    int64_t box[4];
+    uint64_t fits[2];
+    number = cribstork_box(out, (size_t)answer[1], window, box, fits);
+    printf("box: %llu, from (%g, %g) to (%g, %g), %llu\n", (unsigned long long)number, box[0] / 65536.0,
+        box[1] / 65536.0, box[2] / 65536.0, box[3] / 65536.0, (unsigned long long)fits[1]);
 
     static const double widths[3] = {500, 500, 600};
     double scratch[3], pair[2];

@@ -1,5 +1,5 @@
 //! A program without `std`, without an allocator and without a C library, for Linux on x86-64: it converts and
-//! finishes document 01's worked glyph. Its exit status is 0, or the line of the check that failed.
+//! finishes document 01's worked glyph, and asks for its box. Its exit status is 0, or the line of the check that failed.
 
 #![no_std]
 #![no_main]
@@ -7,7 +7,9 @@
 use core::arch::{asm, global_asm};
 use core::panic::PanicInfo;
 use core::ptr::write_volatile;
-use cribstork::{ENTRY_WORDS, IDENTITY, Input, NO_SUBRS, NOT_ENCRYPTED, Refusal, Stem, Stores, Widths};
+use cribstork::{
+    Bounds, ENTRY_WORDS, IDENTITY, Input, NO_SUBRS, NOT_ENCRYPTED, Refusal, Stem, Stores, Verdict, Widths,
+};
 
 /// All that the archive needs of a C library.
 ///
@@ -60,6 +62,21 @@ extern "C" fn main() -> ! {
     };
     let glyph = cribstork::convert_finished(&input, stores, &mut program, widths, &mut out);
     assert!(glyph.is_ok_and(|g| g.program == [0xF8, 0x88, 0x95, 0x9F, 0x15, 0x90, 0x8B, 0x05, 0x0E]));
+
+    let side = 20 << 16;
+    let window = Bounds {
+        left: 0,
+        bottom: 0,
+        right: side,
+        top: side,
+    };
+    let sides = Bounds {
+        left: side / 2,
+        bottom: side,
+        right: side / 4 * 3,
+        top: side,
+    };
+    assert!(cribstork::glyph_box(&out, window) == Ok((sides, Verdict::Within)));
 
     let mut place = [0; 12];
     let itself = cribstork::bank(&[[0x8B, 0x0A]], &mut place);

@@ -57,6 +57,14 @@ unsafe extern "C" {
         answer: *mut [u64; 4],
     ) -> u64;
 
+    pub fn cribstork_box(
+        program: *const u8,
+        program_len: usize,
+        window: *const [i64; 4],
+        bounds: *mut [i64; 4],
+        answer: *mut [u64; 2],
+    ) -> u64;
+
     pub fn cribstork_choose_widths(
         widths: *const f64,
         n: usize,

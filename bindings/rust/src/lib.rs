@@ -1,4 +1,4 @@
-//! Cribstork from Rust: a safe wrapper of the five functions of include/cribstork.h.
+//! Cribstork from Rust: a safe wrapper of the six functions of include/cribstork.h.
 //!
 //! It needs no `std` and no allocator: the caller lends the stores and the output.
 //! Stores may hold anything before a call and are all zeros after it. An output holds the result's bytes and then
@@ -51,11 +51,12 @@ pub enum Refusal {
     OutputShort = 18,
     WidthNotFinite = 19,
     ScratchShort = 20,
+    NoBox = 21,
 }
 
 use Refusal::*;
 
-const REFUSALS: [(Refusal, &str); 20] = [
+const REFUSALS: [(Refusal, &str); 21] = [
     (MatrixNotFinite, "a matrix entry is not finite"),
     (BankLayout, "the bank breaks its layout"),
     (BytesRun, "bytes run over 1,048,576"),
@@ -76,6 +77,10 @@ const REFUSALS: [(Refusal, &str); 20] = [
     (OutputShort, "the output is short"),
     (WidthNotFinite, "a listed width is not finite"),
     (ScratchShort, "the width scratch is shorter than the list"),
+    (
+        NoBox,
+        "bytes on which the Type 2 machine faults, or a glyph that draws no point",
+    ),
 ];
 
 impl Refusal {
@@ -84,7 +89,7 @@ impl Refusal {
         self as u64
     }
 
-    /// The refusal with this number; none for 0 and for numbers beyond 20.
+    /// The refusal with this number; none for 0 and for numbers beyond 21.
     pub fn from_number(number: u64) -> Option<Self> {
         let at = usize::try_from(number).ok()?.checked_sub(1)?;
         REFUSALS.get(at).map(|&(refusal, _)| refusal)
@@ -99,7 +104,7 @@ impl fmt::Display for Refusal {
 
 impl core::error::Error for Refusal {}
 
-/// A number as a result. The archive gives no number beyond 20.
+/// A number as a result. The archive gives no number beyond 21.
 fn accepted(number: u64) -> Result<(), Refusal> {
     match number {
         0 => Ok(()),
@@ -147,6 +152,30 @@ pub struct Glyph<'a> {
     pub bytes_run: u64,
     /// The program, or the finished charstring: the front part of the output.
     pub program: &'a [u8],
+}
+
+/// A box or a window, in units of 1/65536.
+#[derive(Clone, Copy, Debug, PartialEq, Eq)]
+pub struct Bounds {
+    /// The least x.
+    pub left: i64,
+    /// The least y.
+    pub bottom: i64,
+    /// The greatest x.
+    pub right: i64,
+    /// The greatest y.
+    pub top: i64,
+}
+
+/// How a box lies to a window.
+#[derive(Clone, Copy, Debug, PartialEq, Eq)]
+pub enum Verdict {
+    /// All of the box lies in the window, touching edges included.
+    Within,
+    /// Neither of the others.
+    Crossing,
+    /// They share no point.
+    Outside,
 }
 
 /// How many bytes the bank of these bodies has; none where there are over 65,535 or their bytes are over 4,294,967,295.
@@ -264,6 +293,32 @@ pub fn convert_finished<'a>(
         bytes_run: answer[3],
         program: front(out, answer[1]),
     })
+}
+
+/// The box of a finished charstring, over all points that it draws, moves and control points included, and how it lies to
+/// a window. What stands after its endchar is not read. A window whose least is above its greatest has no point.
+pub fn glyph_box(program: &[u8], window: Bounds) -> Result<(Bounds, Verdict), Refusal> {
+    let window = [window.left, window.bottom, window.right, window.top];
+    let mut sides = [0; 4];
+    let mut answer = [0; 2];
+    // SAFETY: as in `convert`.
+    let number = unsafe { ffi::cribstork_box(program.as_ptr(), program.len(), &window, &mut sides, &mut answer) };
+    accepted(number)?;
+    let [left, bottom, right, top] = sides;
+    let verdict = match answer[1] {
+        1 => Verdict::Within,
+        2 => Verdict::Crossing,
+        _ => Verdict::Outside,
+    };
+    Ok((
+        Bounds {
+            left,
+            bottom,
+            right,
+            top,
+        },
+        verdict,
+    ))
 }
 
 /// The default and the nominal width of a font whose glyphs have these widths. The scratch is at least as long as the

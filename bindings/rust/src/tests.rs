@@ -170,6 +170,38 @@ fn widths_of_a_font() {
 }
 
 #[test]
+fn boxes() {
+    let window = |left, bottom, right, top| Bounds {
+        left,
+        bottom,
+        right,
+        top,
+    };
+    let all = window(i64::MIN, i64::MIN, i64::MAX, i64::MAX);
+    // 10 20 rmoveto, 5 0 rlineto.
+    let sides = window(10 << 16, 20 << 16, 15 << 16, 20 << 16);
+    assert_eq!(glyph_box(&PROGRAM, all), Ok((sides, Verdict::Within)));
+    assert_eq!(glyph_box(&PROGRAM, sides), Ok((sides, Verdict::Within)));
+    let with_width = [&[0xF8, 0x88][..], &PROGRAM].concat();
+    assert_eq!(glyph_box(&with_width, sides), Ok((sides, Verdict::Within)));
+    let short = window(10 << 16, 20 << 16, (15 << 16) - 1, 20 << 16);
+    assert_eq!(glyph_box(&PROGRAM, short), Ok((sides, Verdict::Crossing)));
+    let above = window(10 << 16, (20 << 16) + 1, 15 << 16, i64::MAX);
+    assert_eq!(glyph_box(&PROGRAM, above), Ok((sides, Verdict::Outside)));
+    let empty = window(15 << 16, 20 << 16, 10 << 16, 20 << 16);
+    assert_eq!(glyph_box(&PROGRAM, empty), Ok((sides, Verdict::Outside)));
+    // -0.5 hmoveto.
+    let half = window(-0x8000, 0, -0x8000, 0);
+    assert_eq!(
+        glyph_box(&[0xFF, 0xFF, 0xFF, 0x80, 0x00, 0x16, 0x0E], half),
+        Ok((half, Verdict::Within))
+    );
+    for refused in [&[][..], &[0x0E], &PROGRAM[..6], &WORKED] {
+        assert_eq!(glyph_box(refused, all), Err(Refusal::NoBox));
+    }
+}
+
+#[test]
 fn decrypting() {
     let mut out = [0xA5; 4];
     assert_eq!(decrypt(&[0, 0], 0, &mut out).unwrap(), [0x10, 0xD8]);
@@ -218,9 +250,9 @@ fn refusals() {
 #[test]
 fn numbers_of_refusals() {
     assert_eq!(Refusal::from_number(0), None);
-    assert_eq!(Refusal::from_number(21), None);
+    assert_eq!(Refusal::from_number(22), None);
     assert_eq!(Refusal::from_number(u64::MAX), None);
-    for number in 1..=20 {
+    for number in 1..=21 {
         assert_eq!(Refusal::from_number(number).unwrap().number(), number);
     }
     assert_eq!(Refusal::DivByZero.to_string(), "10: div by 0");

@@ -8,6 +8,8 @@
 
 #[allow(dead_code)]
 mod archive;
+#[allow(dead_code)]
+mod boxes;
 mod case;
 #[allow(dead_code)]
 mod charstring;
@@ -27,6 +29,8 @@ mod geometry;
 #[allow(dead_code)]
 mod glyphs;
 mod lent;
+#[allow(dead_code)]
+mod machine;
 mod others;
 mod parts;
 #[allow(dead_code)]
@@ -66,7 +70,7 @@ pub struct Tally {
     pub cases: u64,
     pub different: u64,
     /// How often each number was answered.
-    pub numbers: [u64; 21],
+    pub numbers: [u64; 22],
 }
 
 impl Tally {
@@ -130,7 +134,7 @@ impl Worker<'_> {
 /// A part: its name and what a worker does of it.
 type Part = (&'static str, fn(&mut Worker));
 
-const PARTS: [Part; 15] = [
+const PARTS: [Part; 16] = [
     ("bytes", parts::bytes),
     ("tokens", parts::tokens),
     ("phrases", parts::phrases),
@@ -146,6 +150,7 @@ const PARTS: [Part; 15] = [
     ("finish", others::finish),
     ("widths", others::widths),
     ("decrypt", others::decrypt),
+    ("box", others::glyph_box),
 ];
 
 fn main() {

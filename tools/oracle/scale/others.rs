@@ -1,16 +1,19 @@
-//! The parts that finish, choose widths and decrypt.
+//! The parts that finish, choose widths, decrypt and ask for boxes.
 
 use crate::Worker;
 use crate::archive;
+use crate::boxes;
 use crate::case::{hex, words_of};
 use crate::charstring::decrypt_charstring;
 use crate::cipher::NOT_ENCRYPTED;
 use crate::doubles;
 use crate::fence::Fence;
+use crate::generate::{self, LONG, SHORT};
 use crate::glyphs::refusal;
 use crate::lent::Place;
+use crate::machine;
 use crate::random::Random;
-use crate::type1_to_type2::{choose_widths, oracle};
+use crate::type1_to_type2::{choose_widths, convert_charstring_transformed, oracle};
 
 fn any_double(r: &mut Random, edges: &[f64]) -> f64 {
     match r.below(8) {
@@ -207,6 +210,78 @@ pub fn decrypt(w: &mut Worker) {
                 hex(&data),
                 hex(out.lent()),
                 hex(&bytes)
+            ));
+        }
+    }
+}
+
+/// A finished charstring of a random glyph; none where the Rust refuses it.
+fn finished(r: &mut Random) -> Option<Vec<u8>> {
+    let bounds = if r.once_in(4) { &LONG } else { &SHORT };
+    let g = generate::glyph(r, bounds);
+    let m = generate::matrix(r);
+    let input = generate::encrypted(r, &g);
+    let run = oracle::watched(&input.charstring, &input.subrs, input.len_iv, &m, &oracle::NO_STORES);
+    if run.limit.is_some() || !run.folds_finite {
+        return None;
+    }
+    let glyph = convert_charstring_transformed(&input.charstring, &input.subrs, input.len_iv, &m).ok()?;
+    glyph.charstring(r.pick(&[0.0, 500.0, glyph.width]), 0.0).ok()
+}
+
+/// Bytes, most of them operators and short numbers.
+fn noise(r: &mut Random) -> Vec<u8> {
+    let n = r.below(24);
+    (0..n)
+        .map(|_| match r.below(4) {
+            0 => r.byte(),
+            1 => r.pick(&[1, 3, 4, 5, 8, 12, 14, 14, 14, 18, 19, 21, 22, 23, 28, 35, 255]),
+            _ => r.between(130, 150) as u8,
+        })
+        .collect()
+}
+
+/// Against the oracle's own machine: the Rust has no box.
+pub fn glyph_box(w: &mut Worker) {
+    let (mut sides, mut answer) = (Place::new(), Place::new());
+    let (mut input, mut window_at) = (Fence::new(), Fence::new());
+    let share = w.share();
+    while w.tally.cases < share && !w.has_enough() {
+        let r = &mut w.random;
+        let mut program = match r.below(4) {
+            0 => noise(r),
+            1 => finished(r).unwrap_or_default(),
+            _ => boxes::program(r),
+        };
+        if r.once_in(3) {
+            program = boxes::damaged(r, &program);
+        }
+        let window = boxes::window_of(r, &program);
+        let (number, b, verdict) = machine::answer(&program, &window);
+        let bytes: Vec<u8> = window.iter().flat_map(|v| v.to_ne_bytes()).collect();
+        let got = unsafe {
+            archive::cribstork_box(
+                input.hold(&program),
+                program.len(),
+                window_at.hold(&bytes).cast(),
+                sides.lend_words(4).cast(),
+                answer.lend_words(2).cast(),
+            )
+        };
+        let (words, found) = (words_of(&answer), words_of(&sides));
+        let same = got == number
+            && words[..2] == [number, verdict]
+            && found[..4] == b.map(|v| v as u64)
+            && sides.is_guarded()
+            && answer.is_guarded()
+            && input.holds(&program)
+            && window_at.holds(&bytes);
+        if same {
+            w.count(number);
+        } else {
+            w.report(&format!(
+                "box: {}, window {window:?}: {words:?}, {found:?}; due {number}, {b:?}, {verdict}",
+                hex(&program)
             ));
         }
     }
