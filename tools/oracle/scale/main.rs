@@ -5,6 +5,7 @@
 //! `--thousands` is how many random cases each random part has, `--tokens` the length of exhaustive charstrings.
 //! Every answer, every byte of the output, both stores and the guards around them are compared; inputs end where memory ends. Where the Rust has no
 //! limit, document 01's numbers are taken from the Rust's state after each step. A difference prints the smallest case found.
+//! The Rust has no box: there the oracle's own machine answers.
 
 #[allow(dead_code)]
 mod archive;

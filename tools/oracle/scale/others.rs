@@ -9,9 +9,11 @@ use crate::cipher::NOT_ENCRYPTED;
 use crate::doubles;
 use crate::fence::Fence;
 use crate::generate::{self, LONG, SHORT};
+use crate::geometry::Matrix;
 use crate::glyphs::refusal;
 use crate::lent::Place;
 use crate::machine;
+use crate::parts::MATRICES;
 use crate::random::Random;
 use crate::type1_to_type2::{choose_widths, convert_charstring_transformed, oracle};
 
@@ -215,18 +217,22 @@ pub fn decrypt(w: &mut Worker) {
     }
 }
 
-/// A finished charstring of a random glyph; none where the Rust refuses it.
-fn finished(r: &mut Random) -> Option<Vec<u8>> {
+/// A finished charstring of a glyph; none where the Rust refuses it.
+fn finished(r: &mut Random, charstring: &[u8], subrs: &[Vec<u8>], len_iv: usize, m: &Matrix) -> Option<Vec<u8>> {
+    let run = oracle::watched(charstring, subrs, len_iv, m, &oracle::NO_STORES);
+    if run.limit.is_some() || !run.folds_finite {
+        return None;
+    }
+    let glyph = convert_charstring_transformed(charstring, subrs, len_iv, m).ok()?;
+    glyph.charstring(r.pick(&[0.0, 500.0, glyph.width]), 0.0).ok()
+}
+
+fn finished_random(r: &mut Random) -> Option<Vec<u8>> {
     let bounds = if r.once_in(4) { &LONG } else { &SHORT };
     let g = generate::glyph(r, bounds);
     let m = generate::matrix(r);
     let input = generate::encrypted(r, &g);
-    let run = oracle::watched(&input.charstring, &input.subrs, input.len_iv, &m, &oracle::NO_STORES);
-    if run.limit.is_some() || !run.folds_finite {
-        return None;
-    }
-    let glyph = convert_charstring_transformed(&input.charstring, &input.subrs, input.len_iv, &m).ok()?;
-    glyph.charstring(r.pick(&[0.0, 500.0, glyph.width]), 0.0).ok()
+    finished(r, &input.charstring, &input.subrs, input.len_iv, &m)
 }
 
 /// Bytes, most of them operators and short numbers.
@@ -241,48 +247,81 @@ fn noise(r: &mut Random) -> Vec<u8> {
         .collect()
 }
 
-/// Against the oracle's own machine: the Rust has no box.
+/// What a call for a box reads and writes.
+struct BoxPlaces {
+    program: Fence,
+    window: Fence,
+    sides: Place,
+    answer: Place,
+}
+
+/// A program in a window near its box, against the oracle's own machine: the Rust has no box.
+fn compare_box(w: &mut Worker, p: &mut BoxPlaces, program: &[u8]) {
+    let window = boxes::window_of(&mut w.random, program);
+    let (number, b, verdict) = machine::answer(program, &window);
+    let bytes: Vec<u8> = window.iter().flat_map(|v| v.to_ne_bytes()).collect();
+    let got = unsafe {
+        archive::cribstork_box(
+            p.program.hold(program),
+            program.len(),
+            p.window.hold(&bytes).cast(),
+            p.sides.lend_words(4).cast(),
+            p.answer.lend_words(2).cast(),
+        )
+    };
+    let (words, found) = (words_of(&p.answer), words_of(&p.sides));
+    let same = got == number
+        && words[..2] == [number, verdict]
+        && found == b.map(|v| v as u64)
+        && p.sides.is_guarded()
+        && p.answer.is_guarded()
+        && p.program.holds(program)
+        && p.window.holds(&bytes);
+    if same {
+        w.count(number);
+    } else {
+        w.report(&format!(
+            "box: {}, window {window:?}: {words:?}, {:?}; due {number}, {b:?}, {verdict}",
+            hex(program),
+            found.map(|v| v as i64)
+        ));
+    }
+}
+
 pub fn glyph_box(w: &mut Worker) {
-    let (mut sides, mut answer) = (Place::new(), Place::new());
-    let (mut input, mut window_at) = (Fence::new(), Fence::new());
+    let mut places = BoxPlaces {
+        program: Fence::new(),
+        window: Fence::new(),
+        sides: Place::new(),
+        answer: Place::new(),
+    };
     let share = w.share();
     while w.tally.cases < share && !w.has_enough() {
         let r = &mut w.random;
         let mut program = match r.below(4) {
             0 => noise(r),
-            1 => finished(r).unwrap_or_default(),
+            1 => finished_random(r).unwrap_or_default(),
             _ => boxes::program(r),
         };
         if r.once_in(3) {
             program = boxes::damaged(r, &program);
         }
-        let window = boxes::window_of(r, &program);
-        let (number, b, verdict) = machine::answer(&program, &window);
-        let bytes: Vec<u8> = window.iter().flat_map(|v| v.to_ne_bytes()).collect();
-        let got = unsafe {
-            archive::cribstork_box(
-                input.hold(&program),
-                program.len(),
-                window_at.hold(&bytes).cast(),
-                sides.lend_words(4).cast(),
-                answer.lend_words(2).cast(),
-            )
-        };
-        let (words, found) = (words_of(&answer), words_of(&sides));
-        let same = got == number
-            && words[..2] == [number, verdict]
-            && found[..4] == b.map(|v| v as u64)
-            && sides.is_guarded()
-            && answer.is_guarded()
-            && input.holds(&program)
-            && window_at.holds(&bytes);
-        if same {
-            w.count(number);
-        } else {
-            w.report(&format!(
-                "box: {}, window {window:?}: {words:?}, {found:?}; due {number}, {b:?}, {verdict}",
-                hex(&program)
-            ));
+        compare_box(w, &mut places, &program);
+    }
+    for (at, font) in w.settings.fonts.iter().enumerate() {
+        if !w.takes(at as u64) || w.has_enough() {
+            continue;
+        }
+        for (_, charstring) in &font.glyphs {
+            for [a, b, c, d, tx, ty] in MATRICES {
+                let m = Matrix::new(a, b, c, d, tx, ty);
+                let Some(program) = finished(&mut w.random, charstring, &font.subrs, font.len_iv, &m) else {
+                    continue;
+                };
+                compare_box(w, &mut places, &program);
+                let bad = boxes::damaged(&mut w.random, &program);
+                compare_box(w, &mut places, &bad);
+            }
         }
     }
 }

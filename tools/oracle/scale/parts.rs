@@ -13,7 +13,7 @@ use std::sync::Arc;
 const IDENTITY: [f64; 6] = [1.0, 0.0, 0.0, 1.0, 0.0, 0.0];
 
 /// Matrices of the fixed parts: as it is, scaled, slanted, turned, flipped, by thirds, by a thousandth and moved.
-const MATRICES: [[f64; 6]; 9] = [
+pub const MATRICES: [[f64; 6]; 9] = [
     IDENTITY,
     [0.5, 0.0, 0.0, 0.5, 0.0, 0.0],
     [1.0, 0.0, 0.212_556_561_670_022, 1.0, 0.0, 0.0],
