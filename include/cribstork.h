@@ -50,11 +50,12 @@
  *   cribstork_convert             20,888  20,888
  *   cribstork_finish                 136     136
  *   cribstork_convert_finished    21,000  21,000
+ *   cribstork_box                    376     376
  *   cribstork_choose_widths        3,960   4,032
  *   cribstork_decrypt                 56      56
  *
  * Reserve 24 KiB for a call, which is 3,576 bytes over the largest. What interrupts take comes on top, and a handler on
- * the same stack leaves the 128 bytes below the stack pointer as they are (the red zone; 32 of them are used). No
+ * the same stack leaves the 128 bytes below the stack pointer as they are (the red zone; 120 of them are used). No
  * function tests how much stack is left: that it returns is proved of a machine that has enough.
  *
  * Nothing is kept between calls, nothing is allocated and there is no writable data. Functions may run in several

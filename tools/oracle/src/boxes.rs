@@ -170,6 +170,10 @@ fn faults_and_neighbours(to: &mut Vec<Vec<u8>>) {
     for b in (0..32).filter(|b| !known.contains(b)) {
         faults(ended(&[&first, &[b]]));
         faults(ended(&[&[b], &first]));
+        // With as many operands as an operator takes.
+        for n in [1, 2, 6, 13] {
+            faults(ended(&[&first, &with(&vec![1; n], &[b])]));
+        }
     }
     for (operands, op) in [
         (1, 6),
@@ -188,6 +192,7 @@ fn faults_and_neighbours(to: &mut Vec<Vec<u8>>) {
     faults(ended(&[&stems(1, 1), &first, &[20, 0x80]]));
     for b in (0..=255).filter(|&b| b != 35) {
         faults(ended(&[&first, &with(&[1; 13], &[12, b])]));
+        faults(ended(&[&first, &with(&[1; 12][..[0, 1, 2, 12][usize::from(b) % 4]], &[12, b])]));
     }
     for (operands, op) in [(7, 34), (9, 36), (11, 37), (2, 10), (1, 9)] {
         faults(ended(&[&first, &with(&vec![1; operands], &[12, op])]));
