@@ -199,34 +199,31 @@ skip-to k place m P u e = run-skip k (drop place P) u ∙ ap (λ (l : List ℕ).
 abbrev widthAt : ℕ → List ℕ → State → Option ℤ
 widthAt f o s = cond (eqb f 0) (s .width) (some (unit (getD o 0 0)))
 
-across-both : (f n : ℕ) (o : List ℕ) (s : State) → f ≤ 1 → n ≡ f + 1 → 3 ≤ length o
-    → across (begin (widthAt f o s) (held (drop f (take n o))) s) ≡ draw moves (held (drop f (take (n + 1) (set o n 2147483648)))) (begin (widthAt f (set o n 2147483648) s) (held (drop f (take (n + 1) (set o n 2147483648)))) s)
+-- an array of three or more, with nothing or the width before the operands
+by-first : (Q : ℕ → List ℕ → Type 0) → ((a b c : ℕ) (l : List ℕ) → Q 0 (a ∷ b ∷ c ∷ l)) → ((a b c : ℕ) (l : List ℕ) → Q 1 (a ∷ b ∷ c ∷ l)) → (f : ℕ) (o : List ℕ) → f ≤ 1 → 3 ≤ length o → Q f o
+by-first Q p q zero (a ∷ b ∷ c ∷ l) h k = p a b c l
+by-first Q p q (suc zero) (a ∷ b ∷ c ∷ l) h k = q a b c l
+by-first Q p q (suc (suc f)) (a ∷ b ∷ c ∷ l) h k = absurd (let z : ⊥ = omega arith in z)
+by-first Q p q f [] h k = absurd (let z : ⊥ = omega arith in z)
+by-first Q p q f (a ∷ []) h k = absurd (let z : ⊥ = omega arith in z)
+by-first Q p q f (a ∷ b ∷ []) h k = absurd (let z : ⊥ = omega arith in z)
+
+abbrev Across : State → ℕ → ℕ → List ℕ → Type 0
+Across s n f o = across (begin (widthAt f o s) (held (drop f (take n o))) s) ≡ draw moves (held (drop f (take (n + 1) (set o n 2147483648)))) (begin (widthAt f (set o n 2147483648) s) (held (drop f (take (n + 1) (set o n 2147483648)))) s)
+
+across-both : (f : ℕ) (o : List ℕ) (s : State) → f ≤ 1 → 3 ≤ length o → Across s (f + 1) f o
 unfolding draw held across
-across-both zero n (a ∷ b ∷ c ∷ l) s h e k = rw e
-across-both (suc zero) n (a ∷ b ∷ c ∷ l) s h e k = rw e
-across-both (suc (suc f)) n o s h e k = absurd (let z : ⊥ = omega arith in z)
-across-both zero n [] s h e k = absurd (let z : ⊥ = omega arith in z)
-across-both zero n (a ∷ []) s h e k = absurd (let z : ⊥ = omega arith in z)
-across-both zero n (a ∷ b ∷ []) s h e k = absurd (let z : ⊥ = omega arith in z)
-across-both (suc zero) n [] s h e k = absurd (let z : ⊥ = omega arith in z)
-across-both (suc zero) n (a ∷ []) s h e k = absurd (let z : ⊥ = omega arith in z)
-across-both (suc zero) n (a ∷ b ∷ []) s h e k = absurd (let z : ⊥ = omega arith in z)
+across-both f o s = by-first (λ (f : ℕ) (o : List ℕ). Across s (f + 1) f o) (λ a b c l. refl) (λ a b c l. refl) f o
 
 abbrev risen : ℕ → ℕ → List ℕ → List ℕ
 risen f n o = set (set o n (getD o f 0)) f 2147483648
 
-upward-both : (f n : ℕ) (o : List ℕ) (s : State) → f ≤ 1 → n ≡ f + 1 → 3 ≤ length o
-    → upward (begin (widthAt f o s) (held (drop f (take n o))) s) ≡ draw moves (held (drop f (take (n + 1) (risen f n o)))) (begin (widthAt f (risen f n o) s) (held (drop f (take (n + 1) (risen f n o)))) s)
+abbrev Upward : State → ℕ → ℕ → List ℕ → Type 0
+Upward s n f o = upward (begin (widthAt f o s) (held (drop f (take n o))) s) ≡ draw moves (held (drop f (take (n + 1) (risen f n o)))) (begin (widthAt f (risen f n o) s) (held (drop f (take (n + 1) (risen f n o)))) s)
+
+upward-both : (f : ℕ) (o : List ℕ) (s : State) → f ≤ 1 → 3 ≤ length o → Upward s (f + 1) f o
 unfolding draw held upward
-upward-both zero n (a ∷ b ∷ c ∷ l) s h e k = rw e
-upward-both (suc zero) n (a ∷ b ∷ c ∷ l) s h e k = rw e
-upward-both (suc (suc f)) n o s h e k = absurd (let z : ⊥ = omega arith in z)
-upward-both zero n [] s h e k = absurd (let z : ⊥ = omega arith in z)
-upward-both zero n (a ∷ []) s h e k = absurd (let z : ⊥ = omega arith in z)
-upward-both zero n (a ∷ b ∷ []) s h e k = absurd (let z : ⊥ = omega arith in z)
-upward-both (suc zero) n [] s h e k = absurd (let z : ⊥ = omega arith in z)
-upward-both (suc zero) n (a ∷ []) s h e k = absurd (let z : ⊥ = omega arith in z)
-upward-both (suc zero) n (a ∷ b ∷ []) s h e k = absurd (let z : ⊥ = omega arith in z)
+upward-both f o s = by-first (λ (f : ℕ) (o : List ℕ). Upward s (f + 1) f o) (λ a b c l. refl) (λ a b c l. refl) f o
 
 -- ---- the answers
 module _ {P o : List ℕ} {at byte count place code stems : ℕ} (begun : Bool) (few : stems ≤ 96) (g : Gathers P at o byte count place) (name : code ≡ plain byte (drop place P)) where
@@ -396,14 +393,14 @@ module _ {P o : List ℕ} {at byte count place code stems : ℕ} (begun : Bool) 
       a-level-move c =
           let e = one-more (rw c) (rw c) in
           let z = g .size in
-          moved-to (set o count 2147483648) (length-set o count 2147483648 ∙ z) e (λ s q. comes s q ∙ rw c (ap (λ (x : Step). next x rest (run rest)) (across-both f count o s h e (omega arith))))
+          moved-to (set o count 2147483648) (length-set o count 2147483648 ∙ z) e (λ s q. comes s q ∙ rw c (ap (λ (x : Step). next x rest (run rest)) (subst (λ (n : ℕ). Across s n f o) (sym e) (across-both f o s h (omega arith)))))
 
       pub an-upright-move : code ≡ 4 → Finds P at begun stems (risen f count o) (record { code = 21; first = f; end = count + 1; next = place; stems = stems })
       unfolding doing does
       an-upright-move c =
           let e = one-more (rw c) (rw c) in
           let z = g .size in
-          moved-to (risen f count o) (length-set (set o count (getD o f 0)) f 2147483648 ∙ length-set o count (getD o f 0) ∙ z) e (λ s q. comes s q ∙ rw c (ap (λ (x : Step). next x rest (run rest)) (upward-both f count o s h e (omega arith))))
+          moved-to (risen f count o) (length-set (set o count (getD o f 0)) f 2147483648 ∙ length-set o count (getD o f 0) ∙ z) e (λ s q. comes s q ∙ rw c (ap (λ (x : Step). next x rest (run rest)) (subst (λ (n : ℕ). Upward s n f o) (sym e) (upward-both f o s h (omega arith)))))
 
       -- a mask
       pub cut-mask : (r : Found) → r ≡ notFound → code ≡ 19 → (m : ℕ) → m ≡ afterMask P place stems → m ≡ 0 → Finds P at begun stems o r
