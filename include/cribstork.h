@@ -140,15 +140,14 @@ uint64_t cribstork_convert_finished(
     uint64_t answer[4]);
 
 /*
- * The box of a finished charstring: the least and the greatest coordinates of all points that it draws, moves and control
- * points included; and how it lies to a window. Both are in units of 1/65536.
+ * The box of a finished charstring, which holds all points that it draws, moves and control points included, and how it
+ * lies to a window. Both are in units of 1/65536.
  *
  * program  as cribstork_finish or cribstork_convert_finished wrote it; what stands after its endchar is not read
- * window   least x, least y, greatest x, greatest y; any numbers. Where the least is above the greatest the window has no
- *          point
- * box      likewise; all 0 on a refusal
- * answer   number; then 1 where all of the box lies in the window, touching edges included (within), 3 where they share no
- *          point (outside), 2 in every other case (crossing); 0 on a refusal
+ * window   least x, least y, greatest x, greatest y; any numbers. A window whose least is above its greatest has no point
+ * box      least x, least y, greatest x, greatest y; all 0 on a refusal
+ * answer   number; then 1 (within) where all of the box lies in the window, touching edges included, 3 (outside) where
+ *          they share no point, 2 (crossing) in every other case; 0 on a refusal
  */
 uint64_t cribstork_box(
     const uint8_t *program, size_t program_len,

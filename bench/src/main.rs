@@ -544,8 +544,7 @@ fn widths(rounds: usize) {
 fn ours_box(program: &[u8]) -> u64 {
     let window = [0, 0, 500 << 16, 500 << 16];
     let (mut sides, mut answer) = ([0; 4], [0; 2]);
-    let number =
-        unsafe { archive::cribstork_box(program.as_ptr(), program.len(), &window, &mut sides, &mut answer) };
+    let number = unsafe { archive::cribstork_box(program.as_ptr(), program.len(), &window, &mut sides, &mut answer) };
     black_box((sides, answer));
     number
 }

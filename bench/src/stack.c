@@ -156,8 +156,8 @@ static void box_of(const uint8_t *program, size_t n) {
     count(BOX, (void *)cribstork_box, &c, 0);
 }
 
-/* All functions of a glyph: converted, decrypted, finished with widths of both kinds, and its box. Its bytes as they are
-   for the box too. */
+/* All functions of a glyph: converted, decrypted, finished with widths of both kinds, and the box of what is finished and
+   of its own bytes. */
 static void glyph(struct bytes code, struct bytes bank, size_t len_iv, double *matrix, struct stores *s) {
     uint64_t answer[4];
     double width;

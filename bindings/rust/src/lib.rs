@@ -295,8 +295,8 @@ pub fn convert_finished<'a>(
     })
 }
 
-/// The box of a finished charstring, over all points that it draws, moves and control points included, and how it lies to
-/// a window. What stands after its endchar is not read. A window whose least is above its greatest has no point.
+/// The box of a finished charstring, which holds all points that it draws, moves and control points included, and how it
+/// lies to a window. What stands after its endchar is not read. A window whose least is above its greatest has no point.
 pub fn glyph_box(program: &[u8], window: Bounds) -> Result<(Bounds, Verdict), Refusal> {
     let window = [window.left, window.bottom, window.right, window.top];
     let mut sides = [0; 4];

@@ -192,7 +192,10 @@ fn faults_and_neighbours(to: &mut Vec<Vec<u8>>) {
     faults(ended(&[&stems(1, 1), &first, &[20, 0x80]]));
     for b in (0..=255).filter(|&b| b != 35) {
         faults(ended(&[&first, &with(&[1; 13], &[12, b])]));
-        faults(ended(&[&first, &with(&[1; 12][..[0, 1, 2, 12][usize::from(b) % 4]], &[12, b])]));
+        faults(ended(&[
+            &first,
+            &with(&[1; 12][..[0, 1, 2, 12][usize::from(b) % 4]], &[12, b]),
+        ]));
     }
     for (operands, op) in [(7, 34), (9, 36), (11, 37), (2, 10), (1, 9)] {
         faults(ended(&[&first, &with(&vec![1; operands], &[12, op])]));
@@ -203,7 +206,7 @@ fn faults_and_neighbours(to: &mut Vec<Vec<u8>>) {
     faults([&stems(1, 8)[..], &first, &[19, 14]].concat());
 }
 
-/// Each operator with each number of operands, as the first of a program, where one more is the width, and after a move.
+/// Each operator with each number of operands, after a move, and as a program's first, where one more is the width.
 fn operand_counts(to: &mut Vec<Vec<u8>>) {
     for (op, each, many) in OPERATORS {
         let most = if many { 49 } else { each + 3 };
@@ -527,8 +530,8 @@ pub fn stated(r: &mut Random, to: &mut Vectors) {
     }
 }
 
-/// The whole units that are at most 1 away from a coordinate, the least and the greatest; the coordinate itself where it
-/// is to be met exactly. Scaling by a power of two is exact, and so are whole numbers of this size.
+/// The least and the greatest whole units that are at most 1 away from a coordinate; the coordinate itself where it is to
+/// be met exactly. Scaling by a power of two is exact, and so are whole numbers of this size.
 fn allowed(v: f64, exact: bool) -> (i64, i64) {
     let units = v * 65536.0;
     assert!(units.abs() < (1u64 << 52) as f64);
