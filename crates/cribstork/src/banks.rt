@@ -12,6 +12,8 @@ use crate::converting::ENTRIES;
 use crate::converting::OUTPUT;
 use crate::number;
 use crate::page;
+use crate::window;
+use boxes::Bounds;
 use geometry::Matrix;
 
 // What can be wrong.
@@ -31,6 +33,8 @@ const MANY_CELLS: usize = 7;
 
 const SAME_NAME: usize = 8;
 
+const BEYOND: usize = 9;
+
 // The columns, in the order of `columns`.
 const NAME: usize = 0;
 
@@ -42,20 +46,28 @@ const OUTPUT_STORE: usize = 3;
 
 const MATRIX: usize = 4;
 
-const COLUMNS: usize = 10;
+const WINDOW: usize = 10;
+
+const COLUMNS: usize = 14;
 
 // The word is the name of column c.
 fn is_column(w: &[u8], c: usize) -> bool {
     same(
         w,
-        line(b"name\nstems\ncommands\noutput\na\nb\nc\nd\ntx\nty", c),
+        line(
+            b"name\nstems\ncommands\noutput\na\nb\nc\nd\ntx\nty\nx0\ny0\nx1\ny1",
+            c,
+        ),
     )
 }
 
 fn say_column(page: &mut [u8], c: usize) {
     page::text(
         page,
-        line(b"name\nstems\ncommands\noutput\na\nb\nc\nd\ntx\nty", c),
+        line(
+            b"name\nstems\ncommands\noutput\na\nb\nc\nd\ntx\nty\nx0\ny0\nx1\ny1",
+            c,
+        ),
     );
 }
 
@@ -240,13 +252,18 @@ fn check_store(w: &[u8], line: usize, c: usize) -> Fault {
     no_fault()
 }
 
+// What is wrong with an empty cell of several, which are given all or not at all.
+fn check_empty(line: usize, c: usize, given: bool) -> Fault {
+    if given {
+        return at_fault(NO_CELL, line, c);
+    }
+    no_fault()
+}
+
 // What is wrong with a matrix entry: the six are numbers, or all are empty.
 fn check_entry(w: &[u8], line: usize, c: usize, given: bool) -> Fault {
-    if w.len() == 0 && !given {
-        return no_fault();
-    }
     if w.len() == 0 {
-        return at_fault(NO_CELL, line, c);
+        return check_empty(line, c, given);
     }
     if !binary64::is_finite(number::read_real(w)) {
         return at_fault(NO_NUMBER, line, c);
@@ -254,16 +271,40 @@ fn check_entry(w: &[u8], line: usize, c: usize, given: bool) -> Fault {
     no_fault()
 }
 
-// One of the six entries is given.
-fn has_entry(header: &[u8], row: &[u8]) -> bool {
-    let mut c = MATRIX;
-    while c < COLUMNS {
+// What is wrong with a bound of the window: the four are numbers of the window's size, or all are empty.
+fn check_bound(w: &[u8], line: usize, c: usize, given: bool) -> Fault {
+    if w.len() == 0 {
+        return check_empty(line, c, given);
+    }
+    let n = number::read_units(w);
+    if !n.found {
+        return at_fault(NO_NUMBER, line, c);
+    }
+    if window::is_beyond(n) {
+        return at_fault(BEYOND, line, c);
+    }
+    no_fault()
+}
+
+// One of the columns from one up to another is given.
+fn has_some(header: &[u8], row: &[u8], from: usize, to: usize) -> bool {
+    let mut c = from;
+    while c < to {
         if field(header, row, c).len() > 0 {
             return true;
         }
         c += 1;
     }
     false
+}
+
+// A matrix, or a window, is given.
+fn has_matrix(header: &[u8], row: &[u8]) -> bool {
+    has_some(header, row, MATRIX, WINDOW)
+}
+
+fn has_window(header: &[u8], row: &[u8]) -> bool {
+    has_some(header, row, WINDOW, COLUMNS)
 }
 
 fn check_name(w: &[u8], line: usize) -> Fault {
@@ -282,7 +323,10 @@ fn check_cell(header: &[u8], row: &[u8], line: usize, c: usize) -> Fault {
     if c < MATRIX {
         return check_store(w, line, c);
     }
-    check_entry(w, line, c, has_entry(header, row))
+    if c < WINDOW {
+        return check_entry(w, line, c, has_matrix(header, row));
+    }
+    check_bound(w, line, c, has_window(header, row))
 }
 
 // What is wrong with a bank's line.
@@ -386,13 +430,15 @@ pub(crate) fn check(v: &[u8]) -> Fault {
     check_lines(v, header, n)
 }
 
-// A bank: its stores, and its matrix if it has one.
+// A bank: its stores, and its matrix and its window if it has them.
 pub(crate) struct Bank {
     pub stems: usize,
     pub commands: usize,
     pub output: usize,
     pub has_matrix: bool,
     pub matrix: Matrix,
+    pub has_window: bool,
+    pub window: Bounds,
 }
 
 fn store(header: &[u8], row: &[u8], c: usize) -> usize {
@@ -415,13 +461,28 @@ fn matrix(header: &[u8], row: &[u8]) -> Matrix {
     }
 }
 
+fn bound(header: &[u8], row: &[u8], i: usize) -> i64 {
+    window::bound(number::read_units(field(header, row, place(WINDOW, i))))
+}
+
+fn window_of(header: &[u8], row: &[u8]) -> Bounds {
+    Bounds {
+        left: bound(header, row, 0),
+        bottom: bound(header, row, 1),
+        right: bound(header, row, 2),
+        top: bound(header, row, 3),
+    }
+}
+
 fn bank_of(header: &[u8], row: &[u8]) -> Bank {
     Bank {
         stems: store(header, row, STEM_STORE),
         commands: store(header, row, COMMAND_STORE),
         output: store(header, row, OUTPUT_STORE),
-        has_matrix: has_entry(header, row),
+        has_matrix: has_matrix(header, row),
         matrix: matrix(header, row),
+        has_window: has_window(header, row),
+        window: window_of(header, row),
     }
 }
 
@@ -440,7 +501,7 @@ fn reason(page: &mut [u8], what: usize) {
     page::text(
         page,
         line(
-            b"\nno bank\nno column \nno value for \n is no whole number for \n is more than the program lends for \n is no finite number for \nmore cells than the header has\na bank before has the same name, ",
+            b"\nno bank\nno column \nno value for \n is no whole number for \n is more than the program lends for \n is no finite number for \nmore cells than the header has\na bank before has the same name, \n is not -140737488355328 to below 140737488355328 once rounded, for ",
             what,
         ),
     );
@@ -481,7 +542,7 @@ fn say_cell(page: &mut [u8], v: &[u8], f: Fault) {
 
 // What is wrong with a cell's text.
 fn is_of_cell(what: usize) -> bool {
-    what == NO_COUNT || what == TOO_MANY || what == NO_NUMBER
+    what == NO_COUNT || what == TOO_MANY || what == NO_NUMBER || what == BEYOND
 }
 
 // What stands after the words.

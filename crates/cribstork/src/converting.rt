@@ -10,6 +10,7 @@ use crate::bytes::listed;
 use crate::bytes::place;
 use crate::bytes::put_double;
 use crate::bytes::smaller;
+use boxes::Bounds;
 use geometry::Matrix;
 use type1::Reading;
 use type1_to_type2::Type2Glyph;
@@ -33,13 +34,16 @@ fn width_scratch() -> [f64; GLYPHS]
     [0.0; GLYPHS]
 }
 
-// What converting goes by: the bytes a charstring drops, the matrix, and the sizes of the stores.
+// What converting goes by: the bytes a charstring drops, the matrix, and the sizes of the stores; and the window
+// that the finished glyphs are held to, if there is one.
 pub(crate) struct Setup {
     pub len_iv: usize,
     pub matrix: Matrix,
     pub stems: usize,
     pub commands: usize,
     pub output: usize,
+    pub has_window: bool,
+    pub window: Bounds,
 }
 
 // The same, with all of the program's stores.

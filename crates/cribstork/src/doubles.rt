@@ -95,6 +95,18 @@ fn fraction_text(page: &mut [u8], f: Fixed) {
     page::whole(page, shown);
 }
 
+// How large a signed number is.
+fn size(x: i64) -> u64 {
+    if x >= 0 { x as u64 } else { (!x) as u64 + 1 }
+}
+
+// A number of 1/65536s, to five places: no two print alike.
+pub(crate) fn units(page: &mut [u8], x: i64) {
+    let n = size(x);
+    let fraction = (n % 65536 * 100000 + 32768) / 65536;
+    fixed_text(page, fixed_of(x < 0, n / 65536, fraction));
+}
+
 // How often a double is halved until it is below WHOLE, and what is left.
 struct Halved {
     times: usize,

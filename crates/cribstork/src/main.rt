@@ -27,6 +27,7 @@ mod subroutines;
 mod table;
 mod tokens;
 mod trouble;
+mod window;
 
 use bytes::part;
 use bytes::place;

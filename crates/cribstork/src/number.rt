@@ -299,6 +299,96 @@ pub(crate) fn read_real(v: &[u8]) -> f64 {
     n.value
 }
 
+// A decimal number in a text: where its digits begin, how many there are, and how many of them stand before the
+// written point; by its power of ten, the zeros that come before them and how many digits then stand before the
+// point; and the place after it.
+struct Spelled {
+    from: usize,
+    count: usize,
+    whole: usize,
+    zeros: usize,
+    before: usize,
+    next: usize,
+}
+
+// The unsigned number at a place.
+fn spelled_at(v: &[u8], from: usize) -> Spelled {
+    let front = digits(v, from, 10);
+    let point = front.next;
+    let first = if byte(v, point) == b'.' {
+        place(point, 1)
+    } else {
+        point
+    };
+    let rest = digits(v, first, 10);
+    let e = read_exponent(v, rest.next);
+    let whole = less(point, from);
+    let up = place(whole, e.up);
+    Spelled {
+        from,
+        count: place(whole, less(rest.next, first)),
+        whole,
+        zeros: less(e.down, up),
+        before: less(up, e.down),
+        next: e.next,
+    }
+}
+
+// Digit k of those that are written; 0 beyond them.
+fn written_digit(v: &[u8], s: Spelled, k: usize) -> u64 {
+    if k >= s.count {
+        return 0;
+    }
+    let point: usize = if k < s.whole { 0 } else { 1 };
+    digit(byte(v, place(s.from, place(k, point))))
+}
+
+// Digit k, the zeros before those that are written among them.
+fn spelled_digit(v: &[u8], s: Spelled, k: usize) -> u64 {
+    if k < s.zeros {
+        return 0;
+    }
+    written_digit(v, s, less(k, s.zeros))
+}
+
+// What so many digits from digit k on spell; the largest number where that is too large.
+fn value_of(v: &[u8], s: Spelled, k: usize, count: usize) -> u64 {
+    let mut value: u64 = 0;
+    let mut at = k;
+    let mut left = count;
+    while left > 0 {
+        left -= 1;
+        value = sum(times(value, 10), spelled_digit(v, s, at));
+        at = place(at, 1);
+    }
+    value
+}
+
+// 1/65536s: those of a whole part, and the nearest to a fraction of 17 decimal places, half away from zero. The
+// largest number where there are too many.
+fn units(whole: u64, places: u64) -> u64 {
+    if whole >= 0x1_0000_0000_0000 {
+        return u64::MAX;
+    }
+    sum(65536 * whole, sum(places / 762_939_453_125, 1) / 2)
+}
+
+// The nearest 1/65536 to the number that a text is, half away from zero. A multiple of 1/131072 has at most 17
+// decimal places, so the places after these do not count: 762939453125 is 5 ^ 17, and the first 17 places divided by
+// it are the fraction in whole 1/131072s.
+pub(crate) fn read_units(v: &[u8]) -> Signed {
+    let from = after_sign(v, 0);
+    let s = spelled_at(v, from);
+    if s.count == 0 || s.next != v.len() {
+        return no_whole();
+    }
+    Signed {
+        found: true,
+        negative: byte(v, 0) == b'-',
+        value: units(value_of(v, s, 0, s.before), value_of(v, s, s.before, 17)),
+    }
+}
+
 // A count that a text is, if it is a whole number of 0 or more.
 pub(crate) struct Count {
     pub found: bool,

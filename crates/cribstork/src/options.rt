@@ -8,11 +8,13 @@ use crate::converting::ENTRIES;
 use crate::converting::OUTPUT;
 use crate::number;
 use crate::page;
+use crate::window;
+use boxes::Bounds;
 use geometry::Matrix;
 
 // What the arguments ask. `fault` says what is wrong, `wrong` is the place of the option, and `value` that of
-// the value that is wrong. `matrix`, `banks` and `need` are the places of these options; each is 0 where
-// there is none. `first` is the first option that does not go with --banks.
+// the value that is wrong. `matrix`, `window`, `banks` and `need` are the places of these options; each is 0
+// where there is none. `first` is the first option that does not go with --banks.
 pub(crate) struct Options {
     pub fault: usize,
     pub wrong: usize,
@@ -22,6 +24,7 @@ pub(crate) struct Options {
     pub hex: bool,
     pub glyphs: usize,
     pub matrix: usize,
+    pub window: usize,
     pub stems: usize,
     pub commands: usize,
     pub output: usize,
@@ -42,6 +45,7 @@ fn none() -> Options {
         hex: false,
         glyphs: 0,
         matrix: 0,
+        window: 0,
         stems: usize::MAX,
         commands: usize::MAX,
         output: usize::MAX,
@@ -74,6 +78,8 @@ const NO_FONT: usize = 9;
 
 const TOO_LONG: usize = 10;
 
+const BEYOND: usize = 11;
+
 // The kinds of an argument.
 const HEX: usize = 0;
 
@@ -101,13 +107,15 @@ const NEED: usize = 11;
 
 const MATRIX: usize = 12;
 
-const UNKNOWN: usize = 13;
+const WINDOW: usize = 13;
 
-const FONT: usize = 14;
+const UNKNOWN: usize = 14;
+
+const FONT: usize = 15;
 
 fn kind_of_word(w: &[u8]) -> usize {
     let n = line_number(
-        b"--hex\n--table\n--font-matrix\n--help\n-h\n--version\n--glyph\n--stems\n--commands\n--output\n--banks\n--need\n--matrix",
+        b"--hex\n--table\n--font-matrix\n--help\n-h\n--version\n--glyph\n--stems\n--commands\n--output\n--banks\n--need\n--matrix\n--window",
         UNKNOWN,
         w,
     );
@@ -131,6 +139,9 @@ pub(crate) fn is_font(i: usize) -> bool {
 fn words(kind: usize) -> usize {
     if kind == MATRIX {
         return 7;
+    }
+    if kind == WINDOW {
+        return 5;
     }
     if kind >= GLYPH && kind <= NEED {
         return 2;
@@ -176,6 +187,47 @@ fn not_finite(i: usize) -> usize {
         k += 1;
         let at = place(i, k);
         if !binary64::is_finite(read_real(at)) {
+            return at;
+        }
+    }
+    0
+}
+
+// The nearest 1/65536 to the number that an argument is, if it is one.
+fn read_units(i: usize) -> number::Signed {
+    let mut buf = io::buffer();
+    let n = os::arg(i, &mut buf);
+    number::read_units(&buf[..n])
+}
+
+// The four numbers after --window.
+pub(crate) fn read_window(i: usize) -> Bounds {
+    Bounds {
+        left: window::bound(read_units(place(i, 1))),
+        bottom: window::bound(read_units(place(i, 2))),
+        right: window::bound(read_units(place(i, 3))),
+        top: window::bound(read_units(place(i, 4))),
+    }
+}
+
+// What is wrong with a number of a window; 0 where nothing is.
+fn bound_fault(n: number::Signed) -> usize {
+    if !n.found {
+        return NO_NUMBER;
+    }
+    if window::is_beyond(n) {
+        return BEYOND;
+    }
+    0
+}
+
+// The place of the first of the four arguments that is wrong; 0 where there is none.
+fn wrong_bound(i: usize) -> usize {
+    let mut k: usize = 0;
+    while k < 4 {
+        k += 1;
+        let at = place(i, k);
+        if bound_fault(read_units(at)) != 0 {
             return at;
         }
     }
@@ -256,6 +308,21 @@ fn with_matrix(i: usize, kind: usize, o: Options) -> Options {
     p
 }
 
+// A window, where none was asked before.
+fn with_window(i: usize, o: Options) -> Options {
+    let at = wrong_bound(i);
+    if at != 0 {
+        return faulty(o, bound_fault(read_units(at)), i, at);
+    }
+    if o.window != 0 {
+        return faulty(o, AGAIN, i, i);
+    }
+    let mut p = o;
+    p.window = i;
+    p.table = true;
+    p
+}
+
 // The file of banks or of names, where none was asked before.
 fn with_file(i: usize, kind: usize, o: Options) -> Options {
     let mut p = o;
@@ -311,6 +378,9 @@ fn with_kind(i: usize, kind: usize, o: Options) -> Options {
     if kind == MATRIX || kind == FONT_MATRIX {
         return with_matrix(i, kind, o);
     }
+    if kind == WINDOW {
+        return with_window(i, o);
+    }
     if kind == BANKS || kind == NEED {
         return with_file(i, kind, o);
     }
@@ -319,7 +389,7 @@ fn with_kind(i: usize, kind: usize, o: Options) -> Options {
 
 // The kinds that go with one font's table only.
 fn is_of_table(kind: usize) -> bool {
-    kind == HEX || kind == TABLE || kind >= GLYPH && kind <= OUTPUT_STORE
+    kind == HEX || kind == TABLE || kind == WINDOW || kind >= GLYPH && kind <= OUTPUT_STORE
 }
 
 // The argument at a place, of so many, added to those before.
@@ -446,7 +516,7 @@ fn reason(page: &mut [u8], fault: usize) {
     page::text(
         page,
         crate::bytes::line(
-            b"\nunknown option \n has no value\n is no whole number\n is more than the program lends, \n is no finite number\n is given a second time\n does not go with --banks\n goes with --banks only\nno font is named\nthe names after --glyph have more than 65535 bytes",
+            b"\nunknown option \n has no value\n is no whole number\n is more than the program lends, \n is no finite number\n is given a second time\n does not go with --banks\n goes with --banks only\nno font is named\nthe names after --glyph have more than 65535 bytes\n is not -140737488355328 to below 140737488355328 once rounded",
             fault,
         ),
     );

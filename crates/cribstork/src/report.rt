@@ -26,6 +26,8 @@ use crate::subroutines;
 use crate::table;
 use crate::trouble;
 use crate::trouble::Trouble;
+use crate::window;
+use boxes::Bounds;
 use geometry::Matrix;
 
 fn bank_store() -> [u8; BANK_BYTES]
@@ -92,6 +94,14 @@ fn matrix_asked(v: &[u8], f: Font, o: Options) -> Matrix {
     options::read_matrix(o.matrix)
 }
 
+// The window that the arguments ask for; all zeros where they ask for none.
+fn window_asked(o: Options) -> Bounds {
+    if o.window == 0 {
+        return window::no_bounds();
+    }
+    options::read_window(o.window)
+}
+
 fn setup_asked(v: &[u8], f: Font, o: Options) -> Setup {
     Setup {
         len_iv: f.len_iv,
@@ -99,6 +109,8 @@ fn setup_asked(v: &[u8], f: Font, o: Options) -> Setup {
         stems: o.stems,
         commands: o.commands,
         output: o.output,
+        has_window: o.window != 0,
+        window: window_asked(o),
     }
 }
 
@@ -122,6 +134,7 @@ fn print_sums(
     refusals: &[u64],
 ) -> bool {
     table::totals_if(page, o.table, t, w, refusals);
+    table::window_if(page, o.window != 0, window_asked(o), t);
     table::line_if(page, o.fonts > 1, path, f, t, w, refusals);
     t.converted == t.glyphs
 }
@@ -146,7 +159,7 @@ fn print_table(
     mark(v, f, list, table, asked, &mut marks);
     let w = converting::choose(v, codes, f.glyphs, bank, s, &mut words);
     let most = converting::choose_with_all(v, codes, f.glyphs, bank, s, w, &mut words);
-    table::font_if(page, o.table, path, v, f, bank);
+    table::font_if(page, o, path, v, f, bank);
     let t = table::glyphs(
         page,
         v,

@@ -3,6 +3,7 @@ use crate::banks;
 use crate::banks::Bank;
 use crate::bytes::larger;
 use crate::bytes::listed;
+use crate::bytes::part;
 use crate::bytes::place;
 use crate::bytes::put_word;
 use crate::bytes::word;
@@ -14,6 +15,7 @@ use crate::font::Font;
 use crate::names;
 use crate::page;
 use crate::table;
+use crate::window;
 
 // What a bank makes of a font: how many needed glyphs fail, the bytes of all finished glyphs, what the
 // needed glyphs need of the stores, and the widths.
@@ -28,13 +30,13 @@ struct Sums {
 }
 
 // The sums with one more glyph.
-fn with_glyph(s: Sums, m: Measured, needed: bool) -> Sums {
+fn with_glyph(s: Sums, m: Measured, number: u64, needed: bool) -> Sums {
     let mut t = s;
     t.bytes = place(s.bytes, m.len);
     if !needed {
         return t;
     }
-    if m.number != 0 {
+    if number != 0 {
         t.failing = place(s.failing, 1);
     }
     t.stems = larger(s.stems, m.stems);
@@ -43,7 +45,21 @@ fn with_glyph(s: Sums, m: Measured, needed: bool) -> Sums {
     t
 }
 
-// Measures glyph i on a bank; its number goes into a list.
+// In the list of numbers, a glyph that converts and whose box crosses the bank's window, or lies outside it.
+const CROSSING: u64 = 1002;
+
+const OUTSIDE: u64 = 1003;
+
+// A glyph's number, or how a glyph that converts does not lie within the window; 0 where it prints.
+fn number_with(number: u64, what: usize) -> u64 {
+    match what {
+        window::CROSSING => CROSSING,
+        window::OUTSIDE => OUTSIDE,
+        _ => number,
+    }
+}
+
+// Measures glyph i on a bank, and holds it to the bank's window where it is needed; its number goes into a list.
 fn measure_glyph(
     v: &[u8],
     codes: &[u64],
@@ -61,8 +77,15 @@ fn measure_glyph(
     let mut out = converting::output_store();
     let code = listed(v, codes, i);
     let m = converting::measure(code, bank, s, most, w, words, &mut program, &mut out);
-    put_word(numbers, i, m.number);
-    with_glyph(t, m, names::is_marked(marks, i))
+    let needed = names::is_marked(marks, i);
+    let j = window::judge(
+        part(&out, 0, m.len),
+        s.has_window && needed && m.number == 0,
+        s.window,
+    );
+    let number = number_with(m.number, j.what);
+    put_word(numbers, i, number);
+    with_glyph(t, m, number, needed)
 }
 
 fn no_sums(w: widths::Chosen) -> Sums {
@@ -104,7 +127,20 @@ fn comma(page: &mut [u8], before: bool) {
     page::text_if(page, before, b", ");
 }
 
-// A needed glyph that fails, with its number; the answer is whether an item stands in the cell.
+// Why a glyph fails: its number, or how it lies to the window.
+fn reason(page: &mut [u8], number: u64) {
+    if number == CROSSING {
+        page::text(page, b"crossing");
+        return;
+    }
+    if number == OUTSIDE {
+        page::text(page, b"outside");
+        return;
+    }
+    page::whole(page, number);
+}
+
+// A needed glyph that fails, with the reason; the answer is whether an item stands in the cell.
 fn failing(page: &mut [u8], name: &[u8], number: u64, needed: bool, before: bool) -> bool {
     if !needed || number == 0 {
         return before;
@@ -112,7 +148,7 @@ fn failing(page: &mut [u8], name: &[u8], number: u64, needed: bool, before: bool
     comma(page, before);
     page::name(page, name);
     page::spaces(page, 1);
-    page::whole(page, number);
+    reason(page, number);
     true
 }
 
@@ -248,12 +284,15 @@ fn yes_or_no(page: &mut [u8], fails: usize) {
 // The setup of a bank; `m` holds where it has no matrix of its own.
 fn setup(b: Bank, len_iv: usize, m: geometry::Matrix) -> Setup {
     let own = b.matrix;
+    let window = b.window;
     Setup {
         len_iv,
         matrix: if b.has_matrix { own } else { m },
         stems: b.stems,
         commands: b.commands,
         output: b.output,
+        has_window: b.has_window,
+        window,
     }
 }
 

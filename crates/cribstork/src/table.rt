@@ -2,6 +2,7 @@
 use crate::bytes::larger;
 use crate::bytes::less;
 use crate::bytes::listed;
+use crate::bytes::part;
 use crate::bytes::place;
 use crate::bytes::put_word;
 use crate::bytes::sum;
@@ -16,9 +17,12 @@ use crate::options::Options;
 use crate::page;
 use crate::say;
 use crate::tokens;
+use crate::window;
+use crate::window::Judged;
+use boxes::Bounds;
 
-// What a font's glyphs add up to: how many there are, are shown and convert, and the largest stores that
-// one needs.
+// What a font's glyphs add up to: how many there are, are shown and convert, the largest stores that one
+// needs, and how many lie how to the window.
 pub(crate) struct Totals {
     pub glyphs: usize,
     pub shown: usize,
@@ -26,6 +30,10 @@ pub(crate) struct Totals {
     pub stems: usize,
     pub commands: usize,
     pub output: usize,
+    pub within: usize,
+    pub crossing: usize,
+    pub outside: usize,
+    pub pointless: usize,
 }
 
 fn no_totals() -> Totals {
@@ -36,7 +44,25 @@ fn no_totals() -> Totals {
         stems: 0,
         commands: 0,
         output: 0,
+        within: 0,
+        crossing: 0,
+        outside: 0,
+        pointless: 0,
     }
+}
+
+fn one_if(counts: bool) -> usize {
+    if counts { 1 } else { 0 }
+}
+
+// The totals with one more glyph that lies so to the window.
+fn with_verdict(t: Totals, what: usize) -> Totals {
+    let mut u = t;
+    u.within = place(t.within, one_if(what == window::WITHIN));
+    u.crossing = place(t.crossing, one_if(what == window::CROSSING));
+    u.outside = place(t.outside, one_if(what == window::OUTSIDE));
+    u.pointless = place(t.pointless, one_if(what == window::NO_POINT));
+    u
 }
 
 // The totals with one more glyph.
@@ -54,11 +80,12 @@ fn with_glyph(t: Totals, m: Measured, shown: usize) -> Totals {
 }
 
 // A line of the table.
-fn print_row(page: &mut [u8], name: &[u8], m: Measured) {
+fn print_row(page: &mut [u8], name: &[u8], m: Measured, windowed: bool, j: Judged) {
     page::left(page, name, 28);
     page::whole_right(page, m.number, 6);
     if m.number != 0 {
         page::text(page, b"      -           -      -  ");
+        page::text_if(page, windowed, b"-         ");
         say::refusal(page, m.number as usize);
         page::end(page);
         return;
@@ -66,6 +93,7 @@ fn print_row(page: &mut [u8], name: &[u8], m: Measured) {
     page::count_right(page, m.len, 7);
     doubles::right(page, m.width, 12);
     page::count_right(page, m.ran, 7);
+    window::column_if(page, windowed, j);
     page::end(page);
 }
 
@@ -82,6 +110,7 @@ fn show(
     page: &mut [u8],
     name: &[u8],
     m: Measured,
+    j: Judged,
     marked: bool,
     o: Options,
     out: &mut [u8],
@@ -89,7 +118,7 @@ fn show(
     if !o.table || !marked {
         return 0;
     }
-    print_row(page, name, m);
+    print_row(page, name, m, o.window != 0, j);
     show_bytes(page, m, o.hex, out);
     1
 }
@@ -123,10 +152,15 @@ fn glyph(
     let code = listed(v, codes, i);
     let m = converting::measure(code, bank, s, most, w, words, &mut program, &mut out);
     count_number(refusals, m.number);
+    let j = window::judge(
+        part(&out, 0, m.len),
+        s.has_window && m.number == 0,
+        s.window,
+    );
     let name = listed(v, list, i);
     let marked = names::is_marked(marks, i);
-    let shown = show(page, name, m, marked, o, &mut out);
-    with_glyph(t, m, shown)
+    let shown = show(page, name, m, j, marked, o, &mut out);
+    with_verdict(with_glyph(t, m, shown), j.what)
 }
 
 // Measures so many glyphs, counts the numbers, and shows those that are marked.
@@ -240,6 +274,23 @@ fn print_totals(page: &mut [u8], t: Totals, w: widths::Chosen, refusals: &[u64])
     print_refusals(page, refusals);
     print_widths(page, w);
     print_stores(page, t);
+}
+
+// How many glyphs lie how to the window.
+fn print_window(page: &mut [u8], b: Bounds, t: Totals) {
+    page::text(page, b"window: ");
+    window::numbers(page, b);
+    print_item(page, b"; within: ", t.within);
+    print_item(page, b"; crossing: ", t.crossing);
+    print_item(page, b"; outside: ", t.outside);
+    print_item(page, b"; no point: ", t.pointless);
+    page::end(page);
+}
+
+pub(crate) fn window_if(page: &mut [u8], wanted: bool, b: Bounds, t: Totals) {
+    if wanted {
+        print_window(page, b, t);
+    }
 }
 
 // A number that was given, with its count, in a cell; the answer is whether one stands there.
@@ -443,7 +494,7 @@ fn definitions(page: &mut [u8], v: &[u8], f: Font, bank: &[u8]) {
 }
 
 // What is known of a font before its glyphs are converted.
-fn print_font(page: &mut [u8], path: &[u8], v: &[u8], f: Font, bank: &[u8]) {
+fn print_font(page: &mut [u8], windowed: bool, path: &[u8], v: &[u8], f: Font, bank: &[u8]) {
     page::name(page, path);
     page::end(page);
     definitions(page, v, f, bank);
@@ -452,6 +503,7 @@ fn print_font(page: &mut [u8], path: &[u8], v: &[u8], f: Font, bank: &[u8]) {
         page,
         b"glyph                       number  bytes       width    run",
     );
+    page::text_if(page, windowed, b"  window    box");
     page::end(page);
 }
 
@@ -487,9 +539,9 @@ pub(crate) fn print_all_missing(
     }
 }
 
-pub(crate) fn font_if(page: &mut [u8], wanted: bool, path: &[u8], v: &[u8], f: Font, bank: &[u8]) {
-    if wanted {
-        print_font(page, path, v, f, bank);
+pub(crate) fn font_if(page: &mut [u8], o: Options, path: &[u8], v: &[u8], f: Font, bank: &[u8]) {
+    if o.table {
+        print_font(page, o.window != 0, path, v, f, bank);
     }
 }
 
