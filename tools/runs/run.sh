@@ -18,6 +18,7 @@ work=$(mktemp -d)
 trap 'chmod -R u+rwX "$work"; rm -rf "$work"' EXIT
 chmod 755 "$work"
 cp -r crates/cribstork/data "$work/data"
+cp examples/windows.tsv "$work/data/examples"
 cp "$program" "$work/cribstork"
 cp tools/cribstork.sh "$work/cribstork.sh"
 chmod -R a+rX "$work"
@@ -37,6 +38,10 @@ tsv more-cells 'name\tstems\tcommands\toutput\none\t16\t64\t512\t7\n'
 tsv twice 'name\tstems\tcommands\toutput\none\t16\t64\t512\none\t16\t64\t256\n'
 tsv no-bank '# nothing\nname\tstems\tcommands\toutput\n'
 tsv order '# other columns, in another order; an empty matrix\n\noutput\tstreet\tname\tcommands\tstems\ta\tb\tc\td\ttx\tty\r\n+1e3\tElm\tone\t64\t16\t-\t-\t-\t-\t-\t-\r\n202\tOak\ttwo\t64\t16 # one byte short\r\n300\t\tthree\t19\t6\t1\t0\t0\t1\t0\t0\n'
+tsv three-bounds 'name\tstems\tcommands\toutput\tx0\ty0\tx1\ty1\none\t16\t64\t512\t0\t0\t480\n'
+tsv no-bound 'name\tstems\tcommands\toutput\tx0\ty0\tx1\ty1\none\t16\t64\t512\t0\t0\t480\thigh\n'
+tsv beyond 'name\tstems\tcommands\toutput\tx0\ty0\tx1\ty1\none\t16\t64\t512\t0\t0\t480\t700\ntwo\t16\t64\t512\t0\t-1e15\t480\t700\n'
+tsv windows 'y1\tx1\ty0\tx0\tname\tcommands\tstems\toutput\n7.1e2\t439.5\t-10\t+40.5\tedges\t64\t16\t512\n710\t439.49999\t-10\t40.5\tnarrow\t64\t16\t512\n710\t40\t-10\t440\tempty\t64\t16\t512\n-\t-\t-\t-\tnone\t64\t16\t512\n700\t480\t0\t0\tshort\t64\t16\t64\n'
 printf '' >none.txt
 printf ' \n' >blank.txt
 printf 'zero\teight  Euro\nzero Euro seven\n' >some.txt
@@ -66,6 +71,10 @@ transcript() {
     run --banks order.tsv --need some.txt examples/digits.pfb
     run --banks order.tsv --matrix 0.25 0 0 0.25 0 0 examples/digits.pfb
     for f in no-output no-number too-large five-entries no-entry more-cells twice no-bank missing; do run --banks "$f.tsv" examples/digits.pfb; done
+    run --banks examples/windows.tsv --need examples/label.txt examples/digits.pfb damaged/cut.pfb
+    run --banks windows.tsv --need some.txt examples/digits.pfb
+    run --banks windows.tsv --matrix 0.25 0 0 0.25 0 0 examples/digits.pfb
+    for f in three-bounds no-bound beyond; do run --banks "$f.tsv" examples/digits.pfb; done
     for f in none blank missing; do run --banks order.tsv --need "$f.txt" examples/digits.pfb; done
     run --help
     run -h
@@ -90,8 +99,26 @@ transcript() {
     run --matrix 1e999 0 0 1 0 0 examples/digits.pfb
     run --stems 4 --stems 5 examples/digits.pfb
     run --font-matrix --matrix 1 0 0 1 0 0 examples/digits.pfb
+    run --window 0 -10 480 700 examples/digits.pfb
+    run --window 40.5 -10 439.5 710 --glyph eight,space,accent --hex examples/digits.pfb examples/digits.pfa
+    run --window -439.5 -7.1e2 -40.5 +10 --glyph eight --matrix -1 0 0 -1 0 0 examples/digits.pfb
+    run --window 439.5 710 500 800 --glyph eight,nine examples/digits.pfb
+    run --window 439.5 710.00002 500 800 --glyph eight,nine examples/digits.pfb
+    run --window 440 0 40 700 --glyph eight,nine examples/digits.pfb
+    run --window 40.500007629394531249 -10.00000762939453125 439.5 710 --glyph eight examples/digits.pfb
+    run --window 40.50000762939453125 -.1e2 439.5 710. --glyph eight examples/digits.pfb
+    run --window -140737488355328.0000076293945312499 -140737488355328 140737488355327.99999 14073748835532.8e1 --glyph eight examples/digits.pfb
+    run --window -140737488355328.0000076293945312499 -140737488355328 140737488355327.99999 14073748835532.7e1 --glyph eight examples/digits.pfb
+    run --window 0 -140737488355328.00000762939453125 1 1 examples/digits.pfb
+    run --window 0 0 140737488355327.99999237060546875 1 examples/digits.pfb
+    run --window 0 0 1e99999999999999999999 1 examples/digits.pfb
+    run --window 0 0 480
+    run --window 0 0 480 examples/digits.pfb
+    run --window 0 0 480 nan examples/digits.pfb
+    run --window 0 0 480 -- examples/digits.pfb
+    run --window 0 0 1 1 --window 0 0 1 1 examples/digits.pfb
     run --need some.txt examples/digits.pfb
-    for o in --hex --table '--glyph one' '--stems 4'; do run --banks order.tsv $o examples/digits.pfb; done
+    for o in --hex --table '--glyph one' '--stems 4' '--window 0 0 480 700'; do run --banks order.tsv $o examples/digits.pfb; done
 }
 
 if [ "${1:-}" = --record ]; then

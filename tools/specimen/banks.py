@@ -25,6 +25,7 @@ NEEDED_COLUMNS = ("font", "bank", "prints", "failing", "which")
 LABELS = {"short": "short of", "default": "default width", "nominal": "nominal width"}
 PRINTED = ("short", "notes")  # on paper, beside what fails
 MATRIX = ["a", "b", "c", "d", "tx", "ty"]
+WINDOW = ["x0", "y0", "x1", "y1"]
 
 
 class BadTable(Exception):
@@ -33,18 +34,19 @@ class BadTable(Exception):
 
 # ---- the table. Its bytes are read as latin-1, as the font's names are, so that names can be compared.
 
-WHICH = re.compile(r"(\S+) (\d+|missing)(?:, |$)")
+WHICH = re.compile(r"(\S+) (\d+|crossing|outside|missing)(?:, |$)")
 TOTALS = re.compile(r"cribstork: fonts (\d+), banks (\d+), yes (\d+), no (\d+), unreadable (\d+)$")
 
 
 def read_failing(text):
-    """The needed glyphs that fail: name and number, or name and None where the font lacks it."""
+    """The needed glyphs that fail, each with the reason: a number, how it lies to the window, or None where the font lacks it."""
     out, at = [], 0
     while at < len(text):
         m = WHICH.match(text, at)
         if not m:
-            raise BadTable("no glyph and number: %s" % text[at:at + 40])
-        out.append((m.group(1), None if m.group(2) == "missing" else int(m.group(2))))
+            raise BadTable("no glyph and reason: %s" % text[at:at + 40])
+        reason = m.group(2)
+        out.append((m.group(1), None if reason == "missing" else int(reason) if reason.isdigit() else reason))
         at = m.end()
     return out
 
@@ -91,12 +93,12 @@ class FontRow:
         self.banks = {}
 
     def failing(self):
-        """The failing glyphs in order: name, and by number the banks that refuse it."""
+        """The failing glyphs in order: name, and by reason the banks where it fails so."""
         out = {}
         for bank, row in self.banks.items():
-            for name, number in row.failing:
-                if number is not None:
-                    out.setdefault(name, {}).setdefault(number, []).append(bank)
+            for name, reason in row.failing:
+                if reason is not None:
+                    out.setdefault(name, {}).setdefault(reason, []).append(bank)
         return out
 
 
@@ -129,7 +131,7 @@ def message_for(path, messages):
 
 
 def read_banks(text):
-    """What is said of each bank: its stores, and its matrix where that is not the identity."""
+    """What is said of each bank: its stores, its matrix where that is not the identity, and its window."""
     lines = [line.split("#", 1)[0].rstrip() for line in text.split("\n")]
     cells = [[c.strip() for c in line.split("\t")] for line in lines if line]
     said = {}
@@ -137,9 +139,12 @@ def read_banks(text):
         of = dict(zip(cells[0], line))
         name = of.pop("name", "")
         matrix = [of.pop(c, "") for c in MATRIX]
+        window = [of.pop(c, "") for c in WINDOW]
         out = ["%s %s" % (c, v) for c, v in of.items() if v not in ("", "-")]
         if all(matrix) and matrix not in (["-"] * 6, ["1", "0", "0", "1", "0", "0"]):
             out.append("matrix " + " ".join(matrix))
+        if all(window) and window != ["-"] * 4:
+            out.append("window " + " ".join(window))
         if name in said:
             raise BadTable("two banks are named %s" % name)
         said[name] = out
@@ -197,8 +202,15 @@ def anchor(font, name):
     return "font-%d-glyph-%s" % (font, "".join(c if re.match(r"[A-Za-z0-9._-]", c) else "~%02X" % ord(c) for c in name))
 
 
-def words_of(number):
-    return specimen.MEANINGS.get(number, "unknown number")
+def words_of(reason):
+    """What stands after a number, or after `crossing` or `outside`."""
+    return specimen.MEANINGS.get(reason, "unknown number") if isinstance(reason, int) else "the bank's window"
+
+
+def reason_of(reason):
+    if isinstance(reason, int):
+        return '<a class="number" href="#refusal-%d">%d</a> %s' % (reason, reason, words_of(reason))
+    return '<b>%s</b> %s' % (reason, words_of(reason))
 
 
 def count(n, word):
@@ -218,18 +230,18 @@ def parts(text):
 
 
 def failing_list(n, row):
-    """The failing glyphs, a line for each number; a glyph that the font has is a link to its drawing."""
-    by_number = {}
-    for name, number in row.failing:
-        by_number.setdefault(number, []).append(name)
+    """The failing glyphs, a line for each reason; a glyph that the font has is a link to its drawing."""
+    by_reason = {}
+    for name, reason in row.failing:
+        by_reason.setdefault(reason, []).append(name)
     out = []
-    for number in sorted(by_number, key=lambda v: (v is None, v)):
-        names = by_number[number]
-        if number is None:
+    for reason in sorted(by_reason, key=lambda v: (v is None, isinstance(v, str), v)):
+        names = by_reason[reason]
+        if reason is None:
             head = "missing: the font has no such glyph"
             links = ["<span>%s</span>" % shown(name) for name in names]
         else:
-            head = '<a class="number" href="#refusal-%d">%d</a> %s' % (number, number, words_of(number))
+            head = reason_of(reason)
             links = ['<a class="glyph" href="#%s">%s</a>' % (anchor(n, name), shown(name)) for name in names]
         out.append("<dt>%s</dt><dd>%s</dd>" % (head, " ".join(links)))
     return '<dl class="failing">%s</dl>' % "".join(out)
@@ -278,15 +290,15 @@ def drawing_note(g):
 
 
 def figure(n, name, refused, banks, drawings):
-    """A failing glyph: its drawing, and which bank refuses it with which number."""
+    """A failing glyph: its drawing, and at which bank it fails for which reason."""
     g = drawings.of.get(name)
     note = drawing_note(g) if g else "No drawing: %s." % (drawings.fault or "the glyph was not found here")
     image = specimen.picture(g, drawings.frame) if g and g.listed else '<div class="blank">nothing to draw</div>'
     out = ['<figure class="refused" id="%s" tabindex="-1">%s<figcaption><b title="%s">%s</b>'
            % (anchor(n, name), image, shown(name), shown(name))]
-    for number, where in refused.items():
+    for reason, where in refused.items():
         links = ", ".join('<a href="#cell-%d-%d">%s</a>' % (n, banks.index(b) + 1, shown(b)) for b in where)
-        out.append('<span><a class="number" href="#refusal-%d">%d</a> %s, at %s</span>' % (number, number, words_of(number), links))
+        out.append('<span>%s, at %s</span>' % (reason_of(reason), links))
     if note:
         out.append('<span class="note">%s</span>' % shown(note))
     return "".join(out) + "</figcaption></figure>"
@@ -311,7 +323,7 @@ def refusal_section(numbers, refusals):
 
 
 MEANT = {
-    "yes": "every needed glyph prints", "no": "a needed glyph is refused or missing",
+    "yes": "every needed glyph prints", "no": "a needed glyph is refused, missing or not within the window",
     "unreadable": "the file cannot be read as a Type 1 font",
 }
 
@@ -532,7 +544,7 @@ def page(columns, rows, messages=(), said=None, needed=None, refusals=None):
     if any(drawn):
         out.append('<h2>The glyphs that fail</h2><p class="dim">As the Type 1 font draws them; no bank\'s matrix is applied.</p>')
         out += [d for d in drawn if d]
-    numbers = {number for row in rows for _, number in row.failing if number is not None}
+    numbers = {reason for row in rows for _, reason in row.failing if isinstance(reason, int)}
     out.append(refusal_section(numbers, refusals or {}))
     out.append("<script>%s</script></body></html>" % SCRIPT)
     return "\n".join(out) + "\n"

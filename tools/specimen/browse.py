@@ -31,7 +31,7 @@ HERE = os.path.dirname(os.path.abspath(__file__))
 SIZES = [("desktop", 1280, 900), ("phone", 390, 844)]
 WORDS = ("yes", "no", "unreadable")
 # Of the small table's glyphs, those that have something to draw.
-SAMPLE_DRAWN = {"eight", test_banks.ODD, "halt?ed"}
+SAMPLE_DRAWN = {"eight", "nine", test_banks.ODD, "halt?ed"}
 
 
 def text_of(latin):
@@ -39,6 +39,13 @@ def text_of(latin):
         return latin.encode("latin-1").decode("utf-8")
     except UnicodeError:
         return latin
+
+
+def said_of(reason):
+    """What the page says of a reason."""
+    if reason == "missing":
+        return reason
+    return "%s %s" % (reason, specimen.MEANINGS[int(reason)] if reason.isdigit() else "the bank's window")
 
 
 class Expected:
@@ -56,7 +63,7 @@ class Expected:
             at = self.banks.index(row["bank"]) + 1
             if row["font"] != place or (font, at) in self.cells:
                 font, place = font + 1, row["font"]
-            row["which"] = re.findall(r"(\S+) (\d+|missing)(?:, |$)", row["which"])
+            row["which"] = re.findall(r"(\S+) (\d+|crossing|outside|missing)(?:, |$)", row["which"])
             self.cells[font, at] = row
         self.fonts = font
         self.said = {}
@@ -70,8 +77,8 @@ class Expected:
     def parts(self, row):
         """What the cell must show."""
         out = [text_of(os.path.basename(row["font"])), text_of(row["bank"])]
-        for name, number in row["which"]:
-            out += [text_of(name), "missing" if number == "missing" else "%s %s" % (number, specimen.MEANINGS[int(number)])]
+        for name, reason in row["which"]:
+            out += [text_of(name), said_of(reason)]
         if row["font"] in self.said and row["prints"] == "unreadable":
             out.append(text_of(self.said[row["font"]]))
         for column, value in row.items():
@@ -82,7 +89,7 @@ class Expected:
     def first(self, word):
         """The cell of this word that has most to show."""
         found = [at for at, row in self.cells.items() if row["prints"] == word]
-        refused = {at: [number for _, number in self.cells[at]["which"] if number != "missing"] for at in found}
+        refused = {at: [reason for _, reason in self.cells[at]["which"] if reason != "missing"] for at in found}
         return max(found, key=lambda at: (len(refused[at]), len(self.cells[at]["which"]))) if found else None
 
 
@@ -247,7 +254,7 @@ class Look:
     def links(self):
         """Each failing glyph of the first cells: its link, its drawing, and the way back."""
         for at, row in self.expected.cells.items():
-            for name, number in [w for w in row["which"] if w[1] != "missing"][:6]:
+            for name, reason in [w for w in row["which"] if w[1] != "missing"][:6]:
                 self.away()
                 self.button(at).click()
                 self.shows("cell %d %d: click" % at, at)
@@ -257,12 +264,12 @@ class Look:
                     continue
                 link[0].click()
                 self.followed += 1
-                self.paths += self.drawing(at, name, number)
+                self.paths += self.drawing(at, name, reason)
             if self.followed >= 20:
                 break
         self.holds("a drawing with a path", self.paths or not self.followed)
 
-    def drawing(self, at, name, number):
+    def drawing(self, at, name, reason):
         what = "drawing of %s" % name
         self.shows(what, None)
         found = self.find("figure:target")
@@ -271,7 +278,7 @@ class Look:
             return False
         fig = found[0]
         self.waits(what + ": in view", lambda: self.driver.execute_script(IN_VIEW, fig), True)
-        self.holds(what + ": number and words", "%s %s" % (number, specimen.MEANINGS[int(number)]) in " ".join(fig.text.split()))
+        self.holds(what + ": reason and words", said_of(reason) in " ".join(fig.text.split()))
         self.holds(what + ": name", text_of(name) in fig.text)
         path = fig.find_elements(By.CSS_SELECTOR, "path.t1")
         box = self.driver.execute_script("var r = arguments[0].getBoundingClientRect(); return [r.width, r.height]", path[0]) if path else [0, 0]

@@ -49,11 +49,11 @@ def write_sample(folder):
         f.write(b"no font")
     widths = ["480", "347", "996", "117"]
     rows = [
-        [paths[0], "small", "no", "5", ["eight 18", "accent 12", "space 18", "aring missing", "<script> missing"],
+        [paths[0], "small", "no", "6", ["eight 18", "accent 12", "space 18", "nine crossing", "aring missing", "<script> missing"],
          "output 128 < 203"] + widths + ["-", "-"],
         [paths[0], "large & <wide>", "yes", "0", [], "-"] + widths + ["-", "16 < 32"],
         [paths[1], "small", "no", "2", [ODD + " 17", "halt?ed 6"], "commands 1 < 5", "500", "500", "-", "6", "<b>bold</b>", "-"],
-        [paths[1], "large & <wide>", "no", "1", ["halt?ed 6"], "-", "500", "500", "14", "6", "-", "-"],
+        [paths[1], "large & <wide>", "no", "2", [ODD + " outside", "halt?ed 6"], "-", "500", "500", "14", "6", "-", "-"],
         [paths[2], "small", "unreadable", "-", []] + ["-"] * 7,
         [paths[2], "large & <wide>", "unreadable", "-", []] + ["-"] * 7,
         [paths[3], "small", "no", "1", ["one 18"], "output 1 < 38"] + widths + ["-", "-"],
@@ -68,8 +68,9 @@ def write_sample(folder):
         f.write(os.fsencode(paths[2]) + b": no eexec up to the end, at byte 7 & more\n")
         f.write(b"cribstork: fonts 4, banks 2, yes 2, no 4, unreadable 2\n")
     with open(files[2], "w") as f:
-        f.write("# banks\nname\tstems\tcommands\toutput\ta\tb\tc\td\ttx\tty\n\n"
-                "small\t7\t20\t128\t0.5\t0\t0\t0.5\t0\t0 # half\nlarge & <wide>\t64\t256\t1024\t1\t0\t0\t1\t0\t0\n")
+        f.write("# banks\nname\tstems\tcommands\toutput\ta\tb\tc\td\ttx\tty\tx0\ty0\tx1\ty1\n\n"
+                "small\t7\t20\t128\t0.5\t0\t0\t0.5\t0\t0\t-0.5\t-5\t240\t350 # half\n"
+                "large & <wide>\t64\t256\t1024\t1\t0\t0\t1\t0\t0\t-\t-\t-\t-\n")
     with open(files[3], "w") as f:
         f.write("space one\n eight\taccent aring <script> one\n")
     return files, rows
@@ -163,13 +164,13 @@ class Page(unittest.TestCase):
     def test_totals_and_heads(self):
         self.assertEqual(self.tree.with_id("totals")["text"], "4 fonts, 2 banks: 2 yes, 4 no, 2 unreadable.")
         heads = [e["text"] for e in self.tree.all if e.get("scope") == "col"]
-        self.assertEqual(heads[1:], ["smallprints 0 of 4stems 7commands 20output 128matrix 0.5 0 0 0.5 0 0",
+        self.assertEqual(heads[1:], ["smallprints 0 of 4stems 7commands 20output 128matrix 0.5 0 0 0.5 0 0window -0.5 -5 240 350",
                                      "large & <wide>prints 2 of 4stems 64commands 256output 1024"])
         self.assertIn("The label needs 6 glyphs.", self.text)
 
     def test_facts(self):
         text = self.facts(1, 1)["text"]
-        for part in ("digits.pfb at small: no", "18 output short", "12 seac", "missing: the font has no such glyph", "aring <script>",
+        for part in ("digits.pfb at small: no", "18 output short", "12 seac", "crossing the bank's windownine", "missing: the font has no such glyph", "aring <script>",
                      "short ofoutput 128 < 203", "default width480", "nominal width347", "glyph bytes996", "subroutine bytes117"):
             self.assertIn(part, text)
         self.assertIn("All 6 needed glyphs print.", self.facts(1, 2)["text"])
@@ -194,7 +195,12 @@ class Page(unittest.TestCase):
         text, paths = self.drawing("font-1-glyph-eight")
         self.assertIn("18 output short, at small", text)
         self.assertTrue(len(paths) == 1 and len(paths[0]) > 200)
-        self.assertEqual(self.drawing("font-2-glyph-" + "a~26b~22c~27~7E~E9~2C")[1], ["M100 100L200 100L200 200L100 200Z"])
+        text, paths = self.drawing("font-2-glyph-" + "a~26b~22c~27~7E~E9~2C")
+        self.assertIn("17 command store full, at smalloutside the bank's window, at large & <wide>", text)
+        self.assertEqual(paths, ["M100 100L200 100L200 200L100 200Z"])
+        text, paths = self.drawing("font-1-glyph-nine")
+        self.assertIn("crossing the bank's window, at small", text)
+        self.assertTrue(len(paths) == 1 and len(paths[0]) > 200)
         text, paths = self.drawing("font-2-glyph-halt~3Fed")
         self.assertIn("6 unknown operator, at small, large & <wide>Drawn as far as its run goes.", text)
         self.assertEqual(paths, ["M100 100L200 100Z"])
@@ -203,7 +209,7 @@ class Page(unittest.TestCase):
         self.assertEqual(paths, [])
         self.assertIn("The glyph is empty.", self.drawing("font-1-glyph-space")[0])
         self.assertIn("No drawing: the file cannot be read", self.drawing("font-4-glyph-one")[0])
-        self.assertEqual(len([e for e in self.tree.all if e["tag"] == "figure"]), 6)
+        self.assertEqual(len([e for e in self.tree.all if e["tag"] == "figure"]), 7)
 
     def test_every_link_has_its_place(self):
         ids = [e["id"] for e in self.tree.all if "id" in e]
@@ -230,8 +236,8 @@ class Table(unittest.TestCase):
     HEAD = "bank\tprints\tfailing\twhich\tfont\n"
 
     def test_columns_by_name(self):
-        _, rows = b.read_rows(self.HEAD + "s\tno\t2\ta, 12, b missing\tx.pfb\n")
-        self.assertEqual((rows[0].font, rows[0].failing), ("x.pfb", [("a,", 12), ("b", None)]))
+        _, rows = b.read_rows(self.HEAD + "s\tno\t4\ta, 12, b missing, c crossing, d outside\tx.pfb\n")
+        self.assertEqual((rows[0].font, rows[0].failing), ("x.pfb", [("a,", 12), ("b", None), ("c", "crossing"), ("d", "outside")]))
 
     def test_a_font_given_twice(self):
         _, rows = b.read_rows(self.HEAD + "s\tyes\t0\t-\tx\nt\tyes\t0\t-\tx\n" * 2)
@@ -240,7 +246,7 @@ class Table(unittest.TestCase):
 
     def test_tables_that_are_refused(self):
         for text in ("", "font\tbank\n", self.HEAD, self.HEAD + "s\tyes\n", self.HEAD + "s\tmaybe\t0\t-\tx\n",
-                     self.HEAD + "s\tno\t2\ta 12\tx\n", self.HEAD + "s\tno\t1\ta\tx\n", self.HEAD + "s\tno\tmany\ta 12\tx\n"):
+                     self.HEAD + "s\tno\t2\ta 12\tx\n", self.HEAD + "s\tno\t1\ta\tx\n", self.HEAD + "s\tno\t1\ta within\tx\n", self.HEAD + "s\tno\tmany\ta 12\tx\n"):
             with self.assertRaises(b.BadTable, msg=text):
                 b.read_rows(text)
 

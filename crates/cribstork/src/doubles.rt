@@ -95,9 +95,20 @@ fn fraction_text(page: &mut [u8], f: Fixed) {
     page::whole(page, shown);
 }
 
+// A signed number that is not negative; else 0.
+fn positive(x: i64) -> u64 {
+    if x >= 0 {
+        return x as u64;
+    }
+    0
+}
+
 // How large a signed number is.
 fn size(x: i64) -> u64 {
-    if x >= 0 { x as u64 } else { (!x) as u64 + 1 }
+    if x >= 0 {
+        return positive(x);
+    }
+    crate::bytes::sum(positive(!x), 1)
 }
 
 // A number of 1/65536s, to five places: no two print alike.

@@ -49,7 +49,7 @@ fn number_of(v: Verdict) -> usize {
     }
 }
 
-fn judged(a: Answer) -> Judged {
+fn judged_by(a: Answer) -> Judged {
     match a {
         Answer::Refused => no_box(NO_POINT),
         Answer::Boxed(bounds, v) => Judged {
@@ -64,7 +64,7 @@ pub(crate) fn judge(program: &[u8], asked: bool, window: Bounds) -> Judged {
     if !asked {
         return no_box(UNASKED);
     }
-    judged(boxes::glyph_box(program, window))
+    judged_by(boxes::glyph_box(program, window))
 }
 
 // A number of 1/65536s is beyond those of a window.
@@ -72,20 +72,29 @@ pub(crate) fn is_beyond(n: Signed) -> bool {
     n.value > 0x8000_0000_0000_0000 || !n.negative && n.value == 0x8000_0000_0000_0000
 }
 
-// A number of 1/65536s that is not beyond; else one of the outermost.
-pub(crate) fn bound(n: Signed) -> i64 {
-    let size = n.value;
-    if !n.negative || size == 0 {
-        if size >= 0x8000_0000_0000_0000 {
-            return i64::MAX;
-        }
-        return size as i64;
+fn above_zero(size: u64) -> i64 {
+    if size >= 0x8000_0000_0000_0000 {
+        return i64::MAX;
+    }
+    size as i64
+}
+
+fn below_zero(size: u64) -> i64 {
+    if size < 1 {
+        return 0;
     }
     if size > 0x8000_0000_0000_0000 {
         return i64::MIN;
     }
-    let less = size - 1;
-    !(less as i64)
+    !((size - 1) as i64)
+}
+
+// A number of 1/65536s; the outermost where it is beyond.
+pub(crate) fn bound(n: Signed) -> i64 {
+    if n.negative {
+        return below_zero(n.value);
+    }
+    above_zero(n.value)
 }
 
 // The four numbers of a box or a window.
