@@ -123,6 +123,22 @@ fn show(
     1
 }
 
+// Holds a glyph that was measured to the window, and shows it; the answer is the totals with it.
+fn with_shown(
+    page: &mut [u8],
+    name: &[u8],
+    m: Measured,
+    marked: bool,
+    s: Setup,
+    o: Options,
+    t: Totals,
+    out: &mut [u8],
+) -> Totals {
+    let j = window::judge(part(out, 0, m.len), s.has_window && m.number == 0, s.window);
+    let shown = show(page, name, m, j, marked, o, out);
+    with_verdict(with_glyph(t, m, shown), j.what)
+}
+
 // One more glyph has this number.
 fn count_number(refusals: &mut [u64], number: u64) {
     let at = number as usize;
@@ -152,15 +168,9 @@ fn glyph(
     let code = listed(v, codes, i);
     let m = converting::measure(code, bank, s, most, w, words, &mut program, &mut out);
     count_number(refusals, m.number);
-    let j = window::judge(
-        part(&out, 0, m.len),
-        s.has_window && m.number == 0,
-        s.window,
-    );
     let name = listed(v, list, i);
     let marked = names::is_marked(marks, i);
-    let shown = show(page, name, m, j, marked, o, &mut out);
-    with_verdict(with_glyph(t, m, shown), j.what)
+    with_shown(page, name, m, marked, s, o, t, &mut out)
 }
 
 // Measures so many glyphs, counts the numbers, and shows those that are marked.
