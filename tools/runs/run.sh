@@ -103,7 +103,9 @@ transcript() {
     run --window 40.5 -10 439.5 710 --glyph eight,space,accent --hex examples/digits.pfb examples/digits.pfa
     run --window -439.5 -7.1e2 -40.5 +10 --glyph eight --matrix -1 0 0 -1 0 0 examples/digits.pfb
     run --window 439.5 710 500 800 --glyph eight,nine examples/digits.pfb
+    run --window -100 -100 40.5 -10 --glyph eight,nine examples/digits.pfb
     run --window 439.5 710.00002 500 800 --glyph eight,nine examples/digits.pfb
+    run --window -100 -100 40.49999 800 --glyph eight,nine examples/digits.pfb
     run --window 440 0 40 700 --glyph eight,nine examples/digits.pfb
     run --window 40.500007629394531249 -10.00000762939453125 439.5 710 --glyph eight examples/digits.pfb
     run --window 40.50000762939453125 -.1e2 439.5 710. --glyph eight examples/digits.pfb

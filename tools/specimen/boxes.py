@@ -73,13 +73,17 @@ def windows(boxes, n):
     out = [(0, 0, 0, 0)]
     while boxes and len(out) < n:
         a, b = random.choice(boxes), random.choice(boxes)
-        kind = random.randrange(4)
+        kind = random.randrange(5)
         if kind == 0:
             w = [v + random.choice((-1, 0, 0, 0, 1)) for v in a]
         elif kind == 1:
             w = [random.choice((a, b))[i] + random.choice((-1, 0, 1)) for i in range(4)]
         elif kind == 2:
             w = [a[random.choice((0, 2))], a[random.choice((1, 3))], b[random.choice((0, 2))], b[random.choice((1, 3))]]
+        elif kind == 3:  # beside the box, at one of its sides
+            w, side = list(a), random.randrange(4)
+            w[(side + 2) % 4] = a[side] + random.choice((-1, 0, 1))
+            w[side] = a[side] + random.randrange(2 ** 20) * (-1 if side < 2 else 1)
         else:
             w = [random.randrange(-2 ** 27, 2 ** 27) for _ in range(4)]
         out.append(tuple(w))
@@ -90,7 +94,7 @@ def main():
     p = argparse.ArgumentParser(description="Compares boxes and verdicts with specimen.py's Type 2 machine.")
     p.add_argument("--cribstork", default="target/bin/cribstork", metavar="PROGRAM", help="the program (default: %(default)s)")
     p.add_argument("--seed", type=int, default=1, help="default: %(default)s")
-    p.add_argument("--windows", type=int, default=8, metavar="N", help="windows for each font (default: %(default)s)")
+    p.add_argument("--windows", type=int, default=12, metavar="N", help="windows for each font (default: %(default)s)")
     p.add_argument("font", nargs="+", metavar="FONT")
     options = p.parse_args()
     random.seed(options.seed)
