@@ -28,7 +28,7 @@ MEANINGS = {
     9: "flex not started, or not seven points", 10: "div by 0", 11: "pop, nothing left for it", 12: "seac",
     13: "number not −32768 to below 32768 once rounded", 14: "quotient, point, stem edge or folded value not finite",
     15: "257th operand, or PostScript stack over 256", 16: "257th stem in force or group, or stem store full",
-    17: "command store full", 18: "output short", 19: "a listed width not finite", 20: "width scratch short",
+    17: "command store full", 18: "output short", 19: "a width not finite", 20: "width scratch short",
     21: "the machine faults, or no point is drawn",
 }
 
