@@ -30,13 +30,13 @@ struct Sums {
 }
 
 // The sums with one more glyph.
-fn with_glyph(s: Sums, m: Measured, number: u64, needed: bool) -> Sums {
+fn with_glyph(s: Sums, m: Measured, needed: bool) -> Sums {
     let mut t = s;
     t.bytes = place(s.bytes, m.len);
     if !needed {
         return t;
     }
-    if number != 0 {
+    if m.number != 0 {
         t.failing = place(s.failing, 1);
     }
     t.stems = larger(s.stems, m.stems);
@@ -45,18 +45,65 @@ fn with_glyph(s: Sums, m: Measured, number: u64, needed: bool) -> Sums {
     t
 }
 
-// In the list of numbers, a glyph that converts and whose box crosses the bank's window, or lies outside it.
+// In place of a number: the glyph converts, and its box crosses the bank's window, or lies outside it.
 const CROSSING: u64 = 1002;
 
 const OUTSIDE: u64 = 1003;
 
-// A glyph's number, or how a glyph that converts does not lie within the window; 0 where it prints.
-fn number_with(number: u64, what: usize) -> u64 {
-    match what {
+fn with_verdict(m: Measured, what: usize) -> Measured {
+    let mut n = m;
+    n.number = match what {
         window::CROSSING => CROSSING,
         window::OUTSIDE => OUTSIDE,
-        _ => number,
+        _ => m.number,
+    };
+    n
+}
+
+// Measures a glyph on a bank.
+fn measure(
+    code: &[u8],
+    bank: &[u8],
+    s: Setup,
+    most: widths::Chosen,
+    w: widths::Chosen,
+    words: &mut [u64],
+) -> Measured {
+    let mut program = converting::output_store();
+    let mut out = converting::output_store();
+    converting::measure(code, bank, s, most, w, words, &mut program, &mut out)
+}
+
+// Measures a glyph on a bank, and holds it to the bank's window. Where nothing reads the output afterwards, as in
+// `measure`, LLVM does not fill it with zeros first.
+fn measure_held(
+    code: &[u8],
+    bank: &[u8],
+    s: Setup,
+    most: widths::Chosen,
+    w: widths::Chosen,
+    words: &mut [u64],
+) -> Measured {
+    let mut program = converting::output_store();
+    let mut out = converting::output_store();
+    let m = converting::measure(code, bank, s, most, w, words, &mut program, &mut out);
+    let j = window::judge(part(&out, 0, m.len), m.number == 0, s.window);
+    with_verdict(m, j.what)
+}
+
+fn measure_needed(
+    code: &[u8],
+    bank: &[u8],
+    s: Setup,
+    most: widths::Chosen,
+    w: widths::Chosen,
+    needed: bool,
+    words: &mut [u64],
+) -> Measured {
+    if needed && s.has_window {
+        return measure_held(code, bank, s, most, w, words);
     }
+    measure(code, bank, s, most, w, words)
 }
 
 // Measures glyph i on a bank, and holds it to the bank's window where it is needed; its number goes into a list.
@@ -73,19 +120,11 @@ fn measure_glyph(
     words: &mut [u64],
     numbers: &mut [u64],
 ) -> Sums {
-    let mut program = converting::output_store();
-    let mut out = converting::output_store();
-    let code = listed(v, codes, i);
-    let m = converting::measure(code, bank, s, most, w, words, &mut program, &mut out);
     let needed = names::is_marked(marks, i);
-    let j = window::judge(
-        part(&out, 0, m.len),
-        s.has_window && needed && m.number == 0,
-        s.window,
-    );
-    let number = number_with(m.number, j.what);
-    put_word(numbers, i, number);
-    with_glyph(t, m, number, needed)
+    let code = listed(v, codes, i);
+    let m = measure_needed(code, bank, s, most, w, needed, words);
+    put_word(numbers, i, m.number);
+    with_glyph(t, m, needed)
 }
 
 fn no_sums(w: widths::Chosen) -> Sums {
