@@ -6,7 +6,7 @@ use crate::page::text_if;
 use crate::trouble;
 use crate::trouble::Trouble;
 
-// Document 01's numbers, each on its line.
+// The refusal numbers' words, each on its line.
 pub(crate) fn refusal(page: &mut [u8], number: usize) {
     text(
         page,
