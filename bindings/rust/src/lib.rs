@@ -27,8 +27,9 @@ pub const IDENTITY: [f64; 6] = [1.0, 0.0, 0.0, 1.0, 0.0, 0.0];
 /// A bank with no subroutines.
 pub const NO_SUBRS: [u8; 6] = [0; 6];
 
-/// Why a call was refused, with the number that the board logs.
+/// Why a call was refused, with the number that the board logs. Later versions may have more.
 #[derive(Clone, Copy, Debug, PartialEq, Eq, Hash)]
+#[non_exhaustive]
 #[repr(u64)]
 pub enum Refusal {
     MatrixNotFinite = 1,
@@ -297,6 +298,7 @@ pub fn convert_finished<'a>(
 
 /// The box of a finished charstring, which holds all points that it draws, moves and control points included, and how it
 /// lies to a window. What stands after its endchar is not read. A window whose least is above its greatest has no point.
+/// [`Refusal::NoBox`] for bytes on which the Type 2 machine faults, and for a glyph that draws no point.
 pub fn glyph_box(program: &[u8], window: Bounds) -> Result<(Bounds, Verdict), Refusal> {
     let window = [window.left, window.bottom, window.right, window.top];
     let mut sides = [0; 4];

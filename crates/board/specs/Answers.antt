@@ -1,9 +1,9 @@
--- Definitions: what the C interface reads and writes: a matrix of six entries, the words of each answer. Document 01, "Numbers the board logs": "An answer is the number (0 if none), program length, width and count".
+-- Definitions: what the C interface reads and writes: a matrix of six entries, the words of each answer. Document 01, "Numbers the board logs": "An answer is the number (0 if none), program length, width and count". Document 02, (a): the box, the window and the verdict.
 use Prim.Native.Nat.{ℕ}
 use mathlib.Core.Path.{_≡_}
 use mathlib.Core.List.{List, [], _∷_}
 use lib.IntN.{ℤ, pos}
-use lib.ListN.{length, getD}
+use lib.ListN.{getD}
 use lib.Ieee.{Float, nan, binary64, toBits}
 use Rattle.charstring.specs.declared.Decrypted.{Decrypted}
 use Rattle.geometry.specs.declared.Matrix.{Matrix}
@@ -47,9 +47,6 @@ pairOf c = c .widths .«default_width_x» ∷ c .widths .«nominal_width_x» ∷
 -- a window of four words: least x, least y, greatest x, greatest y
 abbrev pub windowOf : List ℤ → Bounds
 windowOf w = record { left = getD w 0 (pos 0); bottom = getD w 1 (pos 0); right = getD w 2 (pos 0); top = getD w 3 (pos 0) }
-
-abbrev pub fourWords : Bounds → List ℤ
-fourWords b = b .left ∷ b .bottom ∷ b .right ∷ b .top ∷ []
 
 -- number, verdict
 abbrev pub boxedWords : Answer → List ℕ

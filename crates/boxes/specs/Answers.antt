@@ -24,10 +24,14 @@ abbrev pub numberOf : Answer → ℕ
 numberOf Refused = 21
 numberOf (Boxed b v) = 0
 
--- the words of the box: least x, least y, greatest x, greatest y; zeros on a refusal
+-- least x, least y, greatest x, greatest y
+abbrev pub fourWords : Bounds → List ℤ
+fourWords b = b .left ∷ b .bottom ∷ b .right ∷ b .top ∷ []
+
+-- the words of the box; zeros on a refusal
 abbrev pub boxWords : Answer → List ℤ
 boxWords Refused = pos 0 ∷ pos 0 ∷ pos 0 ∷ pos 0 ∷ []
-boxWords (Boxed b v) = b .left ∷ b .bottom ∷ b .right ∷ b .top ∷ []
+boxWords (Boxed b v) = fourWords b
 
 -- the word of the verdict: 1 within, 2 crossing, 3 outside; 0 on a refusal
 abbrev pub verdictWord : Answer → ℕ

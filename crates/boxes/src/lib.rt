@@ -79,7 +79,7 @@ fn grown(e: Extent, x: u64, y: u64) -> Extent
     }
 }
 
-fn far(x: u32) -> u64
+fn wide(x: u32) -> u64
     ensures { λ r. ⌜ (r ≡ x) × (r < 4294967296) ⌝ }
 {
     x as u64
@@ -95,8 +95,8 @@ fn extended(ops: &[u32; 48], first: usize, end: usize, x0: u64, y0: u64, from: E
     let mut y = y0;
     let mut i = first;
     while i + 1 < end {
-        x = x + far(ops[i]) - 2147483648;
-        y = y + far(ops[i + 1]) - 2147483648;
+        x = x + wide(ops[i]) - 2147483648;
+        y = y + wide(ops[i + 1]) - 2147483648;
         e = grown(e, x, y);
         i += 2;
     }

@@ -33,7 +33,7 @@ pub(crate) struct Totals {
     pub within: usize,
     pub crossing: usize,
     pub outside: usize,
-    pub pointless: usize,
+    pub no_point: usize,
 }
 
 fn no_totals() -> Totals {
@@ -47,7 +47,7 @@ fn no_totals() -> Totals {
         within: 0,
         crossing: 0,
         outside: 0,
-        pointless: 0,
+        no_point: 0,
     }
 }
 
@@ -61,7 +61,7 @@ fn with_verdict(t: Totals, what: usize) -> Totals {
     u.within = place(t.within, one_if(what == window::WITHIN));
     u.crossing = place(t.crossing, one_if(what == window::CROSSING));
     u.outside = place(t.outside, one_if(what == window::OUTSIDE));
-    u.pointless = place(t.pointless, one_if(what == window::NO_POINT));
+    u.no_point = place(t.no_point, one_if(what == window::NO_POINT));
     u
 }
 
@@ -293,7 +293,7 @@ fn print_window(page: &mut [u8], b: Bounds, t: Totals) {
     print_item(page, b"; within: ", t.within);
     print_item(page, b"; crossing: ", t.crossing);
     print_item(page, b"; outside: ", t.outside);
-    print_item(page, b"; no point: ", t.pointless);
+    print_item(page, b"; no point: ", t.no_point);
     page::end(page);
 }
 

@@ -9,9 +9,9 @@ use lib.IntN.{ℤ}
 use Rattle.type2.specs.Path.{Kind, moves, lines, curves, flexes}
 use Rattle.type2.specs.Bools.{is-le, not-eq}
 use Rattle.renderer.specs.Machine.{State, fault, on, failed, withOps, next, run, reach, lastOf, allSmall}
-use Rattle.renderer.specs.Reader.{held, pointAt, isNear, isPossible, Stands, noOperator, afterFound, isDrawing, Taken, settledBy, acts, goes, drewEach, Comes}
+use Rattle.renderer.specs.Reader.{held, pointAt, isNear, isPossible, Stands, noOperator, isDrawing, Taken, settledBy, acts, goes, drewEach, Comes}
 use Rattle.renderer.specs.ReaderLaws.{possible-near, part-length, by-drawing, by-still, Splits, draw-drew, draw-faults, split-2, split-6, each-drew, each-faults, each-drawn}
-use Rattle.renderer.specs.Reads.{Finds, does, Goes}
+use Rattle.renderer.specs.Reads.{afterFound, Finds, does, Goes}
 use Rattle.renderer.specs.declared.Reader.{Reader}
 use Rattle.renderer.specs.declared.Operator.{Operator}
 use Rattle.renderer.specs.declared.operators.Found.{Found}
@@ -25,6 +25,7 @@ no-comes P t o z h =
       runs = h;
       stands = λ s k n0 n14. absurd (n0 refl);
       impossible = λ e. refl;
+      faulted = λ c. refl;
       known = refl;
       onward = λ n. absurd (n refl);
       within = omega arith;
@@ -81,6 +82,7 @@ module _ {P o : List ℕ} (t : Reader) {f : Found} (possible : isPossible t ≡ 
             runs = still-runs;
             stands = λ s k a b. still-stands s k b;
             impossible = λ h. absurd (true≢false (sym possible ∙ h));
+            faulted = λ c. absurd (n0 c);
             known = F .known;
             onward = λ n. F .onward n0;
             within = F .within;
@@ -168,6 +170,7 @@ module _ {P o : List ℕ} (t : Reader) {f : Found} (possible : isPossible t ≡ 
               runs = drawn-runs;
               stands = λ s k a b. drawn-stands s k;
               impossible = λ h. absurd (true≢false (sym possible ∙ h));
+              faulted = λ c. absurd (n0 c);
               known = F .known;
               onward = λ n. F .onward n0;
               within = F .within;

@@ -12,7 +12,6 @@ use Rattle.type2.specs.Path.{Kind, moves, lines, curves, flexes}
 use Rattle.renderer.specs.Machine.{Point, State, Result, failed, ended, Takes, exactly, many, least, spare, begin, withOps, withStems, withMask, withEntry, bits, reach, lastOf, allSmall, run}
 use Rattle.renderer.specs.declared.Reader.{Reader}
 use Rattle.renderer.specs.declared.Operator.{Operator}
-use Rattle.renderer.specs.declared.operators.Found.{Found}
 
 -- ---- what is held
 
@@ -29,12 +28,13 @@ coordinate n = subℕ n 2305843009213693952
 abbrev pub pointAt : ℕ → ℕ → Point
 pointAt x y = record { x = coordinate x; y = coordinate y }
 
--- "a coordinate beyond 2^60 units either way"
+-- not "a coordinate beyond 2^60 units either way"
 abbrev pub isNear : ℕ → Bool
 isNear n = leb 1152921504606846976 n && leb n 3458764513820540928
 
 -- ---- the reader
 
+-- "State: point (0, 0), stem count (0)": at the first byte, with no operator run
 abbrev pub firstReader : Reader
 firstReader = record { at = 0; begun = false; stems = 0; x = 2305843009213693952; y = 2305843009213693952 }
 
@@ -55,16 +55,13 @@ pub record Stands (s : State) (t : Reader) : Type 0 where
 abbrev pub noOperator : Operator
 noOperator = record { code = 0; first = 0; end = 0; after = firstReader }
 
-abbrev pub afterFound : Found → ℕ → ℕ → Operator
-afterFound f x y = record { code = f .code; first = f .first; end = f .end; after = record { at = f .next; begun = true; stems = f .stems; x = x; y = y } }
-
 abbrev pub isDrawing : ℕ → Bool
 isDrawing c = eqb c 21 || (eqb c 5 || (eqb c 8 || eqb c 12))
 
 abbrev pub isCode : ℕ → Bool
 isCode c = eqb c 0 || eqb c 1 || eqb c 19 || eqb c 21 || eqb c 5 || eqb c 8 || eqb c 12 || eqb c 14
 
--- how many operands: "1, 3, 18, 23 take one pair or more"; "5 takes pairs, 8 sixes, each at least one; 12 35 takes 13"
+-- how many operands: "1, 3, 18, 23 take one pair or more [..] 19 takes none [..] 21, 22, 4 move; 5 takes pairs, 8 sixes, each at least one; 12 35 takes 13; 14 takes none"
 abbrev pub exactOf : ℕ → ℕ
 exactOf c = cond (eqb c 21) 2 (cond (eqb c 22 || eqb c 4) 1 (cond (eqb c 12) 13 0))
 
@@ -120,6 +117,8 @@ pub record Comes (P : List ℕ) (t : Reader) (o : List ℕ) (r : Operator) : Typ
   pub stands : (s : State) → Stands s t → (r .code ≡ 0 → ⊥) → (r .code ≡ 14 → ⊥) → Stands (acts r P (settledBy r o s)) (r .after)
   -- where no run can stand, a fault is answered
   pub impossible : isPossible t ≡ false → r ≡ noOperator
+  -- a fault has no operands, and the reader is as at the first byte
+  pub faulted : r .code ≡ 0 → r ≡ noOperator
   pub known : isCode (r .code) ≡ true
   pub onward : (r .code ≡ 0 → ⊥) → t .at < r .after .at
   pub within : r .after .at ≤ length P

@@ -8,7 +8,8 @@ use lib.Dec.{leb, eqb, ltb}
 use Rattle.type2.specs.Number.{Reading, noNumber, number, readFrom}
 use Rattle.renderer.specs.Machine.{Point, State, Step, fault, stop, on, Result, withOps, withStems, withMask, least, spare, bits, noneSet, draw, draws, reach, lastOf, allSmall, next, run}
 use Rattle.type2.specs.Path.{moves, lines, curves, flexes}
-use Rattle.renderer.specs.Reader.{unit, held, pointAt, isNear, takesOf, Taken, isCode, afterFound, settledBy, maskOf}
+use Rattle.renderer.specs.Reader.{unit, held, pointAt, isNear, takesOf, Taken, isCode, settledBy, maskOf}
+use Rattle.renderer.specs.declared.Operator.{Operator}
 use Rattle.renderer.specs.declared.operators.Found.{Found}
 use Rattle.renderer.specs.declared.path.Reached.{Reached}
 
@@ -68,6 +69,10 @@ afterMask P at n =
 
 abbrev pub notFound : Found
 notFound = record { code = 0; first = 0; end = 0; next = 0; stems = 0 }
+
+-- what was found, with the point after it
+abbrev pub afterFound : Found → ℕ → ℕ → Operator
+afterFound f x y = record { code = f .code; first = f .first; end = f .end; after = record { at = f .next; begun = true; stems = f .stems; x = x; y = y } }
 
 -- what it does there
 unfoldable pub does : Found → List ℕ → State → Step

@@ -2,7 +2,8 @@
 // operator, as the machine reads it.
 ghost use mathlib.Core.Path.{_≡_};
 ghost use mathlib.Core.Bool.{true};
-ghost use Rattle.renderer.specs.Reader.{isPossible, isDrawing, firstReader, noOperator, afterFound, Comes};
+ghost use Rattle.renderer.specs.Reader.{isPossible, isDrawing, firstReader, noOperator, Comes};
+ghost use Rattle.renderer.specs.Reads.{afterFound};
 
 mod numbers;
 mod opcodes;

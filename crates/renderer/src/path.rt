@@ -19,7 +19,7 @@ pub(crate) fn is_near(x: u64) -> bool
     LEAST <= x && x <= GREATEST
 }
 
-fn far(x: u32) -> u64
+fn wide(x: u32) -> u64
     ensures { λ r. ⌜ (r ≡ x) × (r < 4294967296) ⌝ }
 {
     x as u64
@@ -40,8 +40,8 @@ pub(crate) fn follow(ops: &[u32; 48], first: usize, end: usize, x: u64, y: u64) 
     let mut t = Reached { ok: true, x, y };
     let mut i = first;
     while i + 1 < end {
-        let a = t.x + far(ops[i]) - 2147483648;
-        let b = t.y + far(ops[i + 1]) - 2147483648;
+        let a = t.x + wide(ops[i]) - 2147483648;
+        let b = t.y + wide(ops[i + 1]) - 2147483648;
         if !is_near(a) {
             t.ok = false;
             return t;

@@ -1,4 +1,5 @@
-// Compares our functions with vectors recorded from the Rust, and with Adobe's number examples (tools/oracle/VECTORS.md has their layout).
+// Compares our functions with vectors recorded from the Rust, with Adobe's number examples and with boxes that the oracle states
+// (tools/oracle/VECTORS.md has their layout).
 // Prints for each file of vectors its name, how many were compared and how many differ, then the sums.
 ghost use mathlib.Core.Path.{_≡_};
 ghost use lib.ListN.{length, replicate};

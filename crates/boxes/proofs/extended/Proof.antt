@@ -18,7 +18,7 @@ loop-holds c =
 
 loop-again : tie.Need-loop-again Inv-loop μ-loop
 loop-again c =
-    grows-more (c .before .before .before .before .before .before .before .pre .2) (c .before .before .before .before .before .before .before .pre .1) (c .before .before .before .before .before .before .loop .inv) (omega arith) (c .before .before .before .far .ensures .0) (c .before .far2 .ensures .0) _ (c .grown .ensures)
+    grows-more (c .before .before .before .before .before .before .before .pre .2) (c .before .before .before .before .before .before .before .pre .1) (c .before .before .before .before .before .before .loop .inv) (omega arith) (c .before .before .before .wide .ensures .0) (c .before .wide2 .ensures .0) _ (c .grown .ensures)
 
 returns : tie.Need-returns Inv-loop μ-loop
 returns c =
