@@ -11,7 +11,8 @@ use lib.IntN.{ℤ}
 use Rattle.type2.specs.Path.{Kind, moves, lines, curves, flexes}
 use Rattle.type2.specs.Bools.{not-eq}
 use Rattle.renderer.specs.Machine.{Point, Entry, State, Result, failed, ended, start, run, machine, reach, lastOf}
-use Rattle.renderer.specs.Reader.{Stands, firstReader, isDrawing, Taken, operandsOf, settledBy, drew, drewEach, acts, goes, Comes}
+use Rattle.renderer.specs.Reader.{Stands, firstReader, isDrawing, Taken, operandsOf, settledBy, actedEach, acts, goes, Comes}
+use Rattle.renderer.specs.Operators.{acted}
 use Rattle.renderer.specs.ReaderLaws.{part-length, by-drawing, by-still, Splits, split-2, split-6, nil-of, possible-near}
 use Rattle.renderer.specs.declared.Reader.{Reader}
 use Rattle.renderer.specs.declared.Operator.{Operator}
@@ -36,15 +37,15 @@ box-append b [] m = refl
 box-append b (p ∷ l) m = box-append (grow b p) l m
 
 -- ---- what an operator draws is the points that its operands go to
-one-points : (c : Kind) (l : List ℤ) (s : State) → points (drew c l s .drawn) ≡ points (s .drawn) ++ reach (s .at) l
+one-points : (c : Kind) (l : List ℤ) (s : State) → points (acted c l s .drawn) ≡ points (s .drawn) ++ reach (s .at) l
 one-points c l s = points-more (s .drawn) (record { kind = c; points = reach (s .at) l })
 
-each-points : (c : Kind) (k : ℕ) → Splits k → (n : ℕ) (l : List ℤ) (s : State) → length l ≡ n * k → points (drewEach c k n l s .drawn) ≡ points (s .drawn) ++ reach (s .at) l
-unfolding drewEach reach
+each-points : (c : Kind) (k : ℕ) → Splits k → (n : ℕ) (l : List ℤ) (s : State) → length l ≡ n * k → points (actedEach c k n l s .drawn) ≡ points (s .drawn) ++ reach (s .at) l
+unfolding actedEach reach
 each-points c k split zero l s e = sym (ap (λ (m : List ℤ). points (s .drawn) ++ reach (s .at) m) (nil-of l (e ∙ zero-mul k)) ∙ append-nil (points (s .drawn)))
 each-points c k split (suc n) l s e =
     let w : length l ≡ n * k + k = e ∙ suc-mul n k in
-    let d = each-points c k split n (drop k l) (drew c (take k l) s) (length-drop k l ∙ (let z : length l - k ≡ n * k = omega arith in z)) in
+    let d = each-points c k split n (drop k l) (acted c (take k l) s) (length-drop k l ∙ (let z : length l - k ≡ n * k = omega arith in z)) in
     d ∙ ap (λ (ps : List Point). ps ++ reach (lastOf (s .at) (reach (s .at) (take k l))) (drop k l)) (one-points c (take k l) s)
     ∙ append-assoc (points (s .drawn)) (reach (s .at) (take k l)) _
     ∙ ap (λ (ps : List Point). points (s .drawn) ++ ps) (sym (split (s .at) l (omega arith)))

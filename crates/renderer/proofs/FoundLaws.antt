@@ -305,6 +305,15 @@ module _ {P o : List ℕ} {at byte count place code stems : ℕ} (begun : Bool) 
       faults : (r : Found) → r ≡ notFound → ((s : State) → s .stems ≡ stems → doing code rest (settledTo s) ≡ fault) → Finds P at begun stems o r
       faults r e q = faulty r e (λ s b n. settles s b ∙ q s n)
 
+      -- an operator c that ends at the place m, with n stems then
+      found-at : (c m n : ℕ) → ((s : State) → s .begun ≡ begun → s .stems ≡ stems → run (drop at P) 0 (withOps [] s) ≡ foundGoes (record { code = c; first = f; end = count; next = m; stems = n }) o P s)
+          → isCode c ≡ true → n ≤ 96 → place ≤ m → m ≤ length P → ((c ≡ 1 → ⊥) → n ≡ stems) → Taken c (count - f) → Finds P at begun stems o (record { code = c; first = f; end = count; next = m; stems = n })
+      found-at c m n runs known few after within kept taken′ =
+          record { runs = runs; known = known; size = g .size; few = g .few; order = taken .order; stems96 = few; within = within; onward = λ q. (let w = forward in omega arith); kept = λ p q. kept p; taken = λ q. taken′ }
+
+      of-code : (c : ℕ) → code ≡ c → Taken c (count - f)
+      of-code c e = subst (λ (x : ℕ). Taken x (count - f)) e whole
+
       -- stems
       pub many-stems : (r : Found) → r ≡ notFound → code ≡ 1 → 96 < stems + (count - f) / 2 → Finds P at begun stems o r
       unfolding doing stem
@@ -312,39 +321,13 @@ module _ {P o : List ℕ} {at byte count place code stems : ℕ} (begun : Bool) 
 
       pub some-stems : code ≡ 1 → stems + (count - f) / 2 ≤ 96 → Finds P at begun stems o (record { code = 1; first = f; end = count; next = place; stems = stems + (count - f) / 2 })
       unfolding doing stem does
-      some-stems c k =
-          record {
-            runs = λ s b n. comes s b ∙ rw (c, n, operands-size, is-lt (stems + (count - f) / 2) 97 (omega arith));
-            known = refl;
-            size = g .size;
-            few = g .few;
-            order = taken .order;
-            stems96 = k;
-            within = g .within;
-            onward = λ q. forward;
-            kept = λ p q. absurd (p refl);
-            taken = λ q. subst (λ (x : ℕ). Taken x (count - f)) c whole;
-          }
+      some-stems c k = found-at 1 place (stems + (count - f) / 2) (λ s b n. comes s b ∙ rw (c, n, operands-size, is-lt (stems + (count - f) / 2) 97 (omega arith))) refl k (omega arith) (g .within) (λ p. absurd (p refl)) (of-code 1 c)
 
       -- a move, lines, curves, the end
       pub plainly : (code ≡ 1 → ⊥) → (code ≡ 19 → ⊥) → (code ≡ 22 → ⊥) → (code ≡ 4 → ⊥) → (code ≡ 12 → ⊥) → Finds P at begun stems o (record { code = code; first = f; end = count; next = place; stems = stems })
       unfolding doing does
       plainly a b d e i =
-          record {
-            runs = λ s q n. comes s q ∙ rw (not-eq code 1 a, not-eq code 19 b, not-eq code 22 d, not-eq code 4 e, not-eq code 12 i);
-            known = only-plain a b d e i;
-            size = g .size;
-            few = g .few;
-            order = taken .order;
-            stems96 = few;
-            within = g .within;
-            onward = λ q. forward;
-            kept = λ p q. refl;
-            taken = λ q. whole;
-          }
-        where
-          only-plain : (code ≡ 1 → ⊥) → (code ≡ 19 → ⊥) → (code ≡ 22 → ⊥) → (code ≡ 4 → ⊥) → (code ≡ 12 → ⊥) → isCode code ≡ true
-          only-plain a b d e i = plain-code code byte rest name (not-eq code 22 d) (not-eq code 4 e)
+          found-at code place stems (λ s q n. comes s q ∙ rw (not-eq code 1 a, not-eq code 19 b, not-eq code 22 d, not-eq code 4 e, not-eq code 12 i)) (plain-code code byte rest name (not-eq code 22 d) (not-eq code 4 e)) few (omega arith) (g .within) (λ p. refl) whole
 
       -- a flex
       pub second-byte : code ≡ 12 → place < length P
@@ -354,19 +337,7 @@ module _ {P o : List ℕ} {at byte count place code stems : ℕ} (begun : Bool) 
       unfolding doing does
       a-flex c =
           let j = second-byte c in
-          let w = forward in
-          record {
-            runs = λ s q n. comes s q ∙ rw c (draw-next (held (drop f (take count o))) (settledTo s) rest) ∙ ap (λ (l : List ℕ). next (draw flexes (held (drop f (take count o))) (settledTo s)) l (run l)) (drop-drop 1 place P);
-            known = refl;
-            size = g .size;
-            few = g .few;
-            order = taken .order;
-            stems96 = few;
-            within = omega arith;
-            onward = λ q. omega arith;
-            kept = λ p q. refl;
-            taken = λ q. subst (λ (x : ℕ). Taken x (count - f)) c whole;
-          }
+          found-at 12 (place + 1) stems (λ s q n. comes s q ∙ rw c (draw-next (held (drop f (take count o))) (settledTo s) rest) ∙ ap (λ (l : List ℕ). next (draw flexes (held (drop f (take count o))) (settledTo s)) l (run l)) (drop-drop 1 place P)) refl few (omega arith) (omega arith) (λ p. refl) (of-code 12 c)
 
       -- hmoveto, vmoveto
       pub one-more : (exactOf code ≡ 1) → takesOf code ≡ exactly (exactOf code) → count ≡ f + 1
@@ -426,16 +397,5 @@ module _ {P o : List ℕ} {at byte count place code stems : ℕ} (begun : Bool) 
               let i : m - ((stems + 7) / 8) ≡ place = omega arith in
               let j : ((stems + 7) / 8) ≤ length rest = leb→le ((stems + 7) / 8) (length rest) (both (leb ((stems + 7) / 8) (length rest)) _ y) in
               let v = length-drop place P in
-              record {
-                runs = λ s q n. comes s q ∙ rw (c, n, y, i) (skip-to ((stems + 7) / 8) place m P _ e);
-                known = refl;
-                size = g .size;
-                few = g .few;
-                order = taken .order;
-                stems96 = few;
-                within = omega arith;
-                onward = λ q. omega arith;
-                kept = λ p q. refl;
-                taken = λ q. subst (λ (x : ℕ). Taken x (count - f)) c whole;
-              }
+              found-at 19 m stems (λ s q n. comes s q ∙ rw (c, n, y, i) (skip-to ((stems + 7) / 8) place m P _ e)) refl few (omega arith) (omega arith) (λ p. refl) (of-code 19 c)
           go false y e = absurd (z e)

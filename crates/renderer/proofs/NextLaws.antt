@@ -9,7 +9,7 @@ use lib.IntN.{ℤ}
 use Rattle.type2.specs.Path.{Kind, moves, lines, curves, flexes}
 use Rattle.type2.specs.Bools.{is-le, not-eq}
 use Rattle.renderer.specs.Machine.{State, fault, on, failed, withOps, next, run, reach, lastOf, allSmall}
-use Rattle.renderer.specs.Reader.{held, pointAt, isNear, isPossible, Stands, noOperator, isDrawing, Taken, settledBy, acts, goes, drewEach, Comes}
+use Rattle.renderer.specs.Reader.{operandsOf, held, pointAt, isNear, isPossible, Stands, noOperator, isDrawing, Taken, settledBy, acts, goes, actedEach, Comes}
 use Rattle.renderer.specs.ReaderLaws.{possible-near, part-length, by-drawing, by-still, Splits, draw-drew, draw-faults, split-2, split-6, each-drew, each-faults, each-drawn}
 use Rattle.renderer.specs.Reads.{afterFound, Finds, does, Goes}
 use Rattle.renderer.specs.declared.Reader.{Reader}
@@ -55,6 +55,27 @@ module _ {P o : List ℕ} (t : Reader) {f : Found} (possible : isPossible t ≡ 
   few-stems x y n m = rw (is-le (f .stems) 96 (F .stems96), n, m)
 
   module _ (n0 : f .code ≡ 0 → ⊥) where
+    -- what holds of it wherever the path then stands
+    found-comes : (x y : ℕ) → let r = afterFound f x y in
+        ((s : State) → Stands s t → run (drop (t .at) P) 0 s ≡ goes r o P s)
+        → ((s : State) → Stands s t → (f .code ≡ 14 → ⊥) → Stands (acts r P (settledBy r o s)) (r .after))
+        → (isDrawing (f .code) ≡ true → allSmall (reach (pointAt (t .x) (t .y)) (operandsOf r o)) ≡ true) → Comes P t o r
+    found-comes x y runs stands small =
+        record {
+          runs = runs;
+          stands = λ s k a b. stands s k b;
+          impossible = λ h. absurd (true≢false (sym possible ∙ h));
+          faulted = λ c. absurd (n0 c);
+          known = F .known;
+          onward = λ n. F .onward n0;
+          within = F .within;
+          size = F .size;
+          order = F .order;
+          few = F .few;
+          taken = F .taken;
+          small = small;
+        }
+
     -- ---- stems, a mask or the end
     module _ (still : isDrawing (f .code) ≡ false) where
       abbrev r : Operator
@@ -76,22 +97,7 @@ module _ {P o : List ℕ} (t : Reader) {f : Found} (possible : isPossible t ≡ 
           (λ c. absurd (n14 c))
 
       pub still-comes : (q : Operator) → q ≡ r → Comes P t o q
-      still-comes q e =
-          rw e
-          (record {
-            runs = still-runs;
-            stands = λ s k a b. still-stands s k b;
-            impossible = λ h. absurd (true≢false (sym possible ∙ h));
-            faulted = λ c. absurd (n0 c);
-            known = F .known;
-            onward = λ n. F .onward n0;
-            within = F .within;
-            size = F .size;
-            order = F .order;
-            few = F .few;
-            taken = F .taken;
-            small = λ h. absurd (true≢false (sym h ∙ still));
-          })
+      still-comes q e = rw e (found-comes (t .x) (t .y) still-runs still-stands (λ h. absurd (true≢false (sym h ∙ still))))
 
     -- ---- a move, lines, curves or a flex
     module _ (drawing : isDrawing (f .code) ≡ true) {p : Reached} (A : Goes o (f .first) (f .end) (t .x) (t .y) p) where
@@ -158,25 +164,10 @@ module _ {P o : List ℕ} (t : Reader) {f : Found} (possible : isPossible t ≡ 
             (λ c n. rw c (each curves 6 split-6 (length operands / 6) n u v z))
             (λ c. rw c (record { begun-is = refl; stems-is = v; at-is = z; cleared = refl; possible = u }))
           where
-            each : (c : Kind) (m : ℕ) (split : Splits m) (n : ℕ) → length operands ≡ n * m → isPossible (d .after) ≡ true → s .stems ≡ f .stems → lastOf (s .at) (reach (s .at) operands) ≡ pointAt (p .x) (p .y) → Stands (drewEach c m n operands (settledBy d o s)) (d .after)
+            each : (c : Kind) (m : ℕ) (split : Splits m) (n : ℕ) → length operands ≡ n * m → isPossible (d .after) ≡ true → s .stems ≡ f .stems → lastOf (s .at) (reach (s .at) operands) ≡ pointAt (p .x) (p .y) → Stands (actedEach c m n operands (settledBy d o s)) (d .after)
             each c m split n e u v z =
                 let w = each-drawn c m split n operands (settledBy d o s) e in
                 record { begun-is = w .begun-is; stems-is = w .stems-is ∙ v; at-is = w .at-is ∙ z; cleared = w .cleared; possible = u }
 
         pub drawn-comes : (q : Operator) → q ≡ d → Comes P t o q
-        drawn-comes q e =
-            rw e
-            (record {
-              runs = drawn-runs;
-              stands = λ s k a b. drawn-stands s k;
-              impossible = λ h. absurd (true≢false (sym possible ∙ h));
-              faulted = λ c. absurd (n0 c);
-              known = F .known;
-              onward = λ n. F .onward n0;
-              within = F .within;
-              size = F .size;
-              order = F .order;
-              few = F .few;
-              taken = F .taken;
-              small = λ h. small-is;
-            })
+        drawn-comes q e = rw e (found-comes (p .x) (p .y) drawn-runs (λ s k b. drawn-stands s k) (λ h. small-is))

@@ -9,12 +9,14 @@ use lib.ListN.{length, take, drop, getD}
 use lib.Dec.{leb, eqb}
 use lib.IntN.{ℤ, subℕ}
 use Rattle.type2.specs.Path.{Kind, moves, lines, curves, flexes}
-use Rattle.renderer.specs.Machine.{Point, State, Result, failed, ended, Takes, exactly, many, least, spare, begin, withOps, withStems, withMask, withEntry, bits, reach, lastOf, allSmall, run}
+use Rattle.renderer.specs.Machine.{Point, State, Result, failed, ended, Takes, exactly, many, least, spare, begin, withOps, withStems, withMask, bits, reach, allSmall, run}
+use Rattle.renderer.specs.Operators.{acted}
 use Rattle.renderer.specs.declared.Reader.{Reader}
 use Rattle.renderer.specs.declared.Operator.{Operator}
 
 -- ---- what is held
 
+-- an operand: "It counts in whole 1/65536 units."
 abbrev pub unit : ℕ → ℤ
 unit n = subℕ n 2147483648
 
@@ -22,6 +24,7 @@ unfoldable pub held : List ℕ → List ℤ
 held [] = []
 held (n ∷ l) = unit n ∷ held l
 
+-- a coordinate, and the point of two
 abbrev pub coordinate : ℕ → ℤ
 coordinate n = subℕ n 2305843009213693952
 
@@ -52,12 +55,15 @@ pub record Stands (s : State) (t : Reader) : Type 0 where
 
 -- ---- an operator: 0 a fault, 1 stems, 19 a mask, 21 a move, 5 lines, 8 curves, 12 a flex, 14 the end
 
+-- a fault
 abbrev pub noOperator : Operator
 noOperator = record { code = 0; first = 0; end = 0; after = firstReader }
 
+-- those that draw: "21, 22, 4 move; 5 takes pairs, 8 sixes [..] 12 35 takes 13"
 abbrev pub isDrawing : ℕ → Bool
 isDrawing c = eqb c 21 || (eqb c 5 || (eqb c 8 || eqb c 12))
 
+-- the codes that there are
 abbrev pub isCode : ℕ → Bool
 isCode c = eqb c 0 || eqb c 1 || eqb c 19 || eqb c 21 || eqb c 5 || eqb c 8 || eqb c 12 || eqb c 14
 
@@ -85,23 +91,20 @@ settledBy r o s = begin (cond (eqb (r .first) 0) (s .width) (some (unit (getD o 
 abbrev pub maskOf : Operator → List ℕ → List Bool
 maskOf r P = let k = (r .after .stems + 7) / 8 in take (r .after .stems) (bits (take k (drop (r .after .at - k) P)))
 
--- one entry, and n entries of k operands each
-abbrev pub drew : Kind → List ℤ → State → State
-drew c l s = withEntry c (reach (s .at) l) (lastOf (s .at) (reach (s .at) l)) s
-
-unfoldable pub drewEach : Kind → ℕ → ℕ → List ℤ → State → State
-drewEach c k zero l s = withOps [] s
-drewEach c k (suc n) l s = drewEach c k n (drop k l) (drew c (take k l) s)
+-- n entries, of k operands each
+unfoldable pub actedEach : Kind → ℕ → ℕ → List ℤ → State → State
+actedEach c k zero l s = withOps [] s
+actedEach c k (suc n) l s = actedEach c k n (drop k l) (acted c (take k l) s)
 
 -- the state after it
 unfoldable pub acts : Operator → List ℕ → State → State
 acts r P t =
     cond (eqb (r .code) 1) (withStems (r .after .stems) t)
     (cond (eqb (r .code) 19) (withMask (maskOf r P) t)
-    (cond (eqb (r .code) 21) (drew moves (t .ops) t)
-    (cond (eqb (r .code) 5) (drewEach lines 2 (length (t .ops) / 2) (t .ops) t)
-    (cond (eqb (r .code) 8) (drewEach curves 6 (length (t .ops) / 6) (t .ops) t)
-    (drew flexes (t .ops) t)))))
+    (cond (eqb (r .code) 21) (acted moves (t .ops) t)
+    (cond (eqb (r .code) 5) (actedEach lines 2 (length (t .ops) / 2) (t .ops) t)
+    (cond (eqb (r .code) 8) (actedEach curves 6 (length (t .ops) / 6) (t .ops) t)
+    (acted flexes (t .ops) t)))))
 
 -- how the run goes on from it
 unfoldable pub goes : Operator → List ℕ → List ℕ → State → Result

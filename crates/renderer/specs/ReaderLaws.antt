@@ -16,9 +16,9 @@ use Rattle.type2.specs.Bools.{is-lt, not-lt, and-both, not-eq, choose}
 use Rattle.type2.specs.Signed.{sub-bal, sub-is, add-bal}
 use Rattle.type2.specs.Path.{Kind}
 use Rattle.renderer.specs.Machine.{Point, State, fault, on, small, moved, reach, lastOf, allSmall, draw, draws, andThen}
-use Rattle.renderer.specs.Operators.{draw-is}
+use Rattle.renderer.specs.Operators.{acted, draw-is}
 use Rattle.renderer.specs.declared.Reader.{Reader}
-use Rattle.renderer.specs.Reader.{unit, held, coordinate, pointAt, isNear, isPossible, isDrawing, isCode, Taken, drew, drewEach}
+use Rattle.renderer.specs.Reader.{unit, held, coordinate, pointAt, isNear, isPossible, isDrawing, isCode, Taken, actedEach}
 
 -- ---- a list of bytes or operands at a place
 pub cons-at : (l : List ℕ) (i : ℕ) → i < length l → drop i l ≡ getD l i 0 ∷ drop (i + 1) l
@@ -152,7 +152,7 @@ pub draw-faults : (c : Kind) (l : List ℤ) (s : State) → allSmall (reach (s .
 unfolding draw
 draw-faults c l s e = rw e
 
-pub draw-drew : (c : Kind) (l : List ℤ) (s : State) → allSmall (reach (s .at) l) ≡ true → draw c l s ≡ on 0 (drew c l s)
+pub draw-drew : (c : Kind) (l : List ℤ) (s : State) → allSmall (reach (s .at) l) ≡ true → draw c l s ≡ on 0 (acted c l s)
 draw-drew c l s e = draw-is c l s (subst T (sym e) tt)
 
 module _ (c : Kind) (k : ℕ) (split : Splits k) where
@@ -165,15 +165,15 @@ module _ (c : Kind) (k : ℕ) (split : Splits k) where
   parts-of : (p : Point) (l : List ℤ) → k ≤ length l → allSmall (reach p l) ≡ (allSmall (reach p (take k l)) && allSmall (reach (lastOf p (reach p (take k l))) (drop k l)))
   parts-of p l h = ap allSmall (split p l h) ∙ small-append (reach p (take k l)) _
 
-  pub each-drew : (n : ℕ) (l : List ℤ) (s : State) → length l ≡ n * k → allSmall (reach (s .at) l) ≡ true → draws c k n l s ≡ on 0 (drewEach c k n l s)
-  unfolding draws drewEach
+  pub each-drew : (n : ℕ) (l : List ℤ) (s : State) → length l ≡ n * k → allSmall (reach (s .at) l) ≡ true → draws c k n l s ≡ on 0 (actedEach c k n l s)
+  unfolding draws actedEach
   each-drew zero l s e t = refl
   each-drew (suc n) l s e t =
       let w = rest-of n l e in
       let a = allSmall (reach (s .at) (take k l)) in
       let z = allSmall (reach (lastOf (s .at) (reach (s .at) (take k l))) (drop k l)) in
       let b = sym (parts-of (s .at) l (w .0)) ∙ t in
-      rw (draw-drew c (take k l) s (left-of a z b)) (each-drew n (drop k l) (drew c (take k l) s) (w .1) (right-of a z b))
+      rw (draw-drew c (take k l) s (left-of a z b)) (each-drew n (drop k l) (acted c (take k l) s) (w .1) (right-of a z b))
     where
       left-of : (x y : Bool) → (x && y) ≡ true → x ≡ true
       left-of true y e = refl
@@ -188,27 +188,27 @@ module _ (c : Kind) (k : ℕ) (split : Splits k) where
   each-faults zero l s e t = absurd (true≢false (sym (ap (λ (m : List ℤ). allSmall (reach (s .at) m)) (nil-of l (e ∙ zero-mul k))) ∙ t))
   each-faults (suc n) l s e t =
       let w = rest-of n l e in
-      go (allSmall (reach (s .at) (take k l))) refl (sym (parts-of (s .at) l (w .0)) ∙ t) (each-faults n (drop k l) (drew c (take k l) s) (w .1))
+      go (allSmall (reach (s .at) (take k l))) refl (sym (parts-of (s .at) l (w .0)) ∙ t) (each-faults n (drop k l) (acted c (take k l) s) (w .1))
     where
       go : (x : Bool) → allSmall (reach (s .at) (take k l)) ≡ x → (x && allSmall (reach (lastOf (s .at) (reach (s .at) (take k l))) (drop k l))) ≡ false
-          → (allSmall (reach (lastOf (s .at) (reach (s .at) (take k l))) (drop k l)) ≡ false → draws c k n (drop k l) (drew c (take k l) s) ≡ fault)
+          → (allSmall (reach (lastOf (s .at) (reach (s .at) (take k l))) (drop k l)) ≡ false → draws c k n (drop k l) (acted c (take k l) s) ≡ fault)
           → andThen (draw c (take k l) s) (draws c k n (drop k l)) ≡ fault
       go true p q h = rw (draw-drew c (take k l) s p) (h q)
       go false p q h = rw (draw-faults c (take k l) s p)
 
   -- what stays, and where the path ends
   pub record Drawn (n : ℕ) (l : List ℤ) (s : State) : Type 0 where
-    pub at-is : drewEach c k n l s .at ≡ lastOf (s .at) (reach (s .at) l)
-    pub begun-is : drewEach c k n l s .begun ≡ s .begun
-    pub stems-is : drewEach c k n l s .stems ≡ s .stems
-    pub cleared : drewEach c k n l s .ops ≡ []
+    pub at-is : actedEach c k n l s .at ≡ lastOf (s .at) (reach (s .at) l)
+    pub begun-is : actedEach c k n l s .begun ≡ s .begun
+    pub stems-is : actedEach c k n l s .stems ≡ s .stems
+    pub cleared : actedEach c k n l s .ops ≡ []
 
   pub each-drawn : (n : ℕ) (l : List ℤ) (s : State) → length l ≡ n * k → Drawn n l s
-  unfolding drewEach reach lastOf
+  unfolding actedEach reach lastOf
   each-drawn zero l s e = record { at-is = ap (λ (m : List ℤ). lastOf (s .at) (reach (s .at) m)) (sym (nil-of l (e ∙ zero-mul k))); begun-is = refl; stems-is = refl; cleared = refl }
   each-drawn (suc n) l s e =
       let w = rest-of n l e in
-      let d = each-drawn n (drop k l) (drew c (take k l) s) (w .1) in
+      let d = each-drawn n (drop k l) (acted c (take k l) s) (w .1) in
       record {
         at-is = d .at-is ∙ sym (ap (lastOf (s .at)) (split (s .at) l (w .0)) ∙ last-append (s .at) (reach (s .at) (take k l)) _);
         begun-is = d .begun-is;
