@@ -1,5 +1,6 @@
 pub mod Locals
 pub mod Folds
+pub mod StemOrder
 pub mod TableLaws
 pub mod Ordering
 pub mod Marks
