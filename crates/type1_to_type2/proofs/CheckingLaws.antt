@@ -1,5 +1,5 @@
 -- Laws: the entries checked one after the other; what is planned. Assumes nothing.
-use mathlib.Core.Path.{_≡_, refl, sym, _∙_, ap, ap₂}
+use mathlib.Core.Path.{_≡_, refl, sym, _∙_, ap, ap₂, subst}
 use Prim.Native.Nat.{ℕ, _+_, _*_, _≤_}
 use native.Mathlib.Omega.{arith}
 use native.Mathlib.Numerals.{add-one}
@@ -30,10 +30,10 @@ use Rattle.type1_to_type2.specs.Writing as Writing
 use Rattle.type1_to_type2.specs.Writing.{Written, refused, write}
 use Rattle.type1_to_type2.specs.Convert.{Glyph, glyphOf, writes}
 use Rattle.type1_to_type2.specs.Streaming.{resumed, resumedAll, Ends}
-use Rattle.type1_to_type2.specs.Passes.{both}
+use Rattle.type1_to_type2.specs.Passes.{BothTables, both}
 use Rattle.type1_to_type2.specs.Entry.{groupCount, firstNumber, Planned, tables, Declares, opens, Opens, settles, Answers}
 use Rattle.type1_to_type2.proofs.EntryLaws.{list-end}
-use Rattle.type1_to_type2.proofs.Ordering.{declared-across, declared-upright, declared-masked}
+use Rattle.type1_to_type2.proofs.Ordering.{dropped-tables, declared-across, declared-upright, declared-masked}
 
 and-assoc : (a b c : Bool) → (a && (b && c)) ≡ ((a && b) && c)
 and-assoc true b c = refl
@@ -128,6 +128,7 @@ planned number c d m width w n b few ew ed en eb = record {
     upright = (declared-upright gs c ta tu C few f ∙ sym (ap (λ (x : Collected). tableStems false (x .upright) tu) (ed .0))) i;
     masked = (declared-masked gs c ta tu C few f g ∙ sym (eb ∙ ap needsMasks (ed .0))) i;
   };
+  order = λ l ta tu C. subst (λ (x : Collected). BothTables (x .across) (x .upright) ta tu) (sym (ed .0)) (dropped-tables c l ta tu C);
 }
 
 -- ---- the program's beginning and end

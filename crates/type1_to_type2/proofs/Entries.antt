@@ -131,21 +131,21 @@ entry-none w b fold c e k masked h n1 n2 n3 n4 n5 ss g cs = rw (kind-word c e k 
 -- a line, a curve, a flex, or no entry that is drawn
 pub entry-written : {w r s t : Writer} {b a z y : List ℕ} (fold : Fold) (c : List ℕ) (e kind n : ℕ) → getD c (14 * e) 0 ≡ kind → (kind ≡ 1 → ⊥) → (kind ≡ 5 → ⊥) → n ≡ pointCount kind →
     EntryBegins kind w b r a → Goes (foldedPoints fold (pointsIn c e 1 n)) r a s z → EntryEnds kind (coordinate c e 13) s z t y →
-    (masked : Bool) (k : ℕ) (bits : List Bool) → Writes masked fold c e k bits w b t y
+    (masked : Bool) (k : ℕ) (p : List ℕ) → Writes masked fold c e k p w b t y
 unfolding pointsIn foldedPoints
-entry-written {w} {r} {s} {t} {b} {a} {z} {y} fold c e kind n h n1 n5 u x gs q masked k bits =
-    by-kind kind (λ (i : ℕ). Goes (foldedPoints fold (pointsIn c e 1 i)) r a s z → Writes masked fold c e k bits w b t y)
+entry-written {w} {r} {s} {t} {b} {a} {z} {y} fold c e kind n h n1 n5 u x gs q masked k p =
+    by-kind kind (λ (i : ℕ). Goes (foldedPoints fold (pointsIn c e 1 i)) r a s z → Writes masked fold c e k p w b t y)
     (λ e3 g. left-so (λ e4. let v : ⊥ = omega arith in v) (drawn 3 e3 refl _ (is-curve c e (h ∙ e3)) (curve-drawn _ _ _ (x .curve e3) g)))
     (λ e2 g. left-so (λ e4. let v : ⊥ = omega arith in v) (drawn 2 e2 refl _ (is-line c e (h ∙ e2)) (line-drawn _ (x .line e2) g)))
     (λ e4 g. drawn 4 e4 refl _ (is-flex c e (h ∙ e4)) (flex-drawn _ _ _ _ _ _ _ (x .flex e4) g (q .flex e4)))
     (λ n3 n2 n4 g.
-    let p = x .other n3 n2 n4 in
-    left-so n4 (λ ss gr cs f. nothing-drawn g masked ss cs ∙ ap₂ (λ (v : Writer) (o : List ℕ). resumedAll masked ss v o cs) (p .0) (p .1) ∙ entry-none w b fold c e kind masked h n1 n2 n3 n4 n5 ss gr cs, g .puts .same ∙ ap length (p .1)))
+    let o = x .other n3 n2 n4 in
+    left-so n4 (λ ss gr cs i f. nothing-drawn g masked ss cs ∙ ap₂ (λ (v : Writer) (l : List ℕ). resumedAll masked ss v l cs) (o .0) (o .1) ∙ entry-none w b fold c e kind masked h n1 n2 n3 n4 n5 ss gr cs, g .puts .same ∙ ap length (o .1)))
     (subst (λ (i : ℕ). Goes (foldedPoints fold (pointsIn c e 1 i)) r a s z) u gs)
   where
-    drawn : {v : Writer} {o : List ℕ} (i : ℕ) → kind ≡ i → eqb i 5 ≡ false → (d : Command) → commandIn c e ≡ d ∷ [] → ((masked : Bool) (ss : List Stem) → Draws masked ss (shape (foldedCommand fold d) ∷ []) w b v o) → Writes masked fold c e k bits w b v o
-    drawn i j five d l f = (λ ss gr cs _. entry-drawn fold c e i d (h ∙ j) five l f masked ss gr cs, f true [] .same)
+    drawn : {v : Writer} {o : List ℕ} (i : ℕ) → kind ≡ i → eqb i 5 ≡ false → (d : Command) → commandIn c e ≡ d ∷ [] → ((masked : Bool) (ss : List Stem) → Draws masked ss (shape (foldedCommand fold d) ∷ []) w b v o) → Writes masked fold c e k p w b v o
+    drawn i j five d l f = (λ ss gr cs _ _. entry-drawn fold c e i d (h ∙ j) five l f masked ss gr cs, f true [] .same)
 
     -- nothing comes after the points
-    left-so : (kind ≡ 4 → ⊥) → Writes masked fold c e k bits w b s z → Writes masked fold c e k bits w b t y
-    left-so n4 f = let p = q .other n4 in (λ ss gr cs v. ap₂ (λ (d : Writer) (o : List ℕ). resumedAll masked ss d o cs) (p .0) (p .1) ∙ f .0 ss gr cs v, ap length (p .1) ∙ f .1)
+    left-so : (kind ≡ 4 → ⊥) → Writes masked fold c e k p w b s z → Writes masked fold c e k p w b t y
+    left-so n4 f = let i = q .other n4 in (λ ss gr cs l v. ap₂ (λ (d : Writer) (o : List ℕ). resumedAll masked ss d o cs) (i .0) (i .1) ∙ f .0 ss gr cs l v, ap length (i .1) ∙ f .1)

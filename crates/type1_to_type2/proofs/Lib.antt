@@ -8,6 +8,7 @@ pub mod Coordinates
 pub mod Writes
 pub mod Draws
 pub mod Masking
+pub mod PlaceLaws
 pub mod Points
 pub mod Entries
 pub mod Packing

@@ -40,11 +40,11 @@ use Rattle.type1_to_type2.proofs.Type2Glyph.Laws as G′
 use Rattle.type1_to_type2.proofs.Plan as Q
 use Rattle.type1_to_type2.proofs.Plan.Laws as Q′
 
-abbrev pub tM : Lifetime → Ty
-tM ℓ = tyRef ℓ mut (tyArray tyBool 96)
+abbrev pub tP : Lifetime → Ty
+tP ℓ = tyRef ℓ mut (tyArray (tyInt w8) 96)
 
-abbrev pub sM : Lifetime → Ty
-sM ℓ = tyRef ℓ imm (tyArray tyBool 96)
+abbrev pub sP : Lifetime → Ty
+sP ℓ = tyRef ℓ imm (tyArray (tyInt w8) 96)
 
 abbrev pub sW : Lifetime → Ty
 sW ℓ = tyRef ℓ imm (tyInt w64)

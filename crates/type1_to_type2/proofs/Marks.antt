@@ -1,68 +1,23 @@
--- Laws: a group's stems marked in its mask, one at a time.
+-- Laws: a group's mask, one stem at a time: which bit its stem sets.
 use mathlib.Core.Path.{_≡_, refl, sym, ap, ap₂, _∙_, subst}
-use Prim.Native.Nat.{ℕ, zero, suc, _+_, _-_, _≤_, _<_, min}
-use native.Mathlib.Nat.{zero-add}
-use native.Mathlib.Numerals.{add-one}
+use Prim.Native.Nat.{ℕ, zero, suc, _+_, _-_, _≤_, _<_}
 use native.Mathlib.Omega.{arith}
-use mathlib.Core.Bool.{Bool, true, false, _||_, or-false}
+use mathlib.Core.Bool.{Bool, true, false, not, _&&_, _||_, Bool·beq, or-false, and-true, and-false, true≢false}
 use mathlib.Core.List.{List, [], _∷_, _++_, append-nil}
-use mathlib.Core.Logic.{_⊎_, inl, inr}
-use borrow.Author.Tests.{eqb-true, eqb-false, ltb-true, ltb-false}
+use borrow.Author.Tests.{eqb-true, eqb-false, ltb-true, ltb-false, lt-ltb, ne-eqb, eq-eqb}
 use lib.Dec.{eqb, ltb}
-use lib.Arith.{lt-of-le-ne}
-use lib.ListN.{length, getD, take, set, replicate, length-take, length-set, length-append, List·getD-append, replicate-append-replicate}
-use lib.Seq.{ext-getD, getD-take, getD-set-same, getD-set-other, getD-append-add, take-suc-set, take-all}
-use lib.Ieee.{Float}
+use lib.ListN.{length, getD, set, take, length-set, length-append, List·getD-append}
+use lib.Seq.{ext-getD, getD-set-same, getD-set-other, getD-append-add}
+use lib.Ieee.{Float, eq}
 use Rattle.outline.specs.declared.Stem.{Stem}
 use Rattle.outline.specs.Outline.{stemOf, sameStem, isIn}
 use Rattle.type1_to_type2.specs.Stems.{maskOf}
 use Rattle.type1_to_type2.specs.Table.{tableStems}
-use Rattle.type1_to_type2.specs.Collecting.{tableStem, Marked}
+use Rattle.type1_to_type2.specs.Collecting.{tableStem, Finds}
+use Rattle.type1_to_type2.specs.Places.{placesFrom, PlacePut}
+use Rattle.type1_to_type2.specs.Passes.{both, Places}
+use Rattle.type1_to_type2.proofs.StemOrder.{same-both}
 use Rattle.type1_to_type2.proofs.TableLaws.{table-length, table-at}
-
--- ---- one bit after the other
-module _ (from : ℕ) (s : Stem) (t : List Float) (b : List Bool) where
-  abbrev equal : ℕ → Bool
-  equal i = sameStem s (tableStem (s .horizontal) i t)
-
-  pub mark-start : Marked from 0 s t b b
-  mark-start = record { same = refl; inside = λ i l. absurd (let z : ⊥ = omega arith in z); outside = λ k h. refl }
-
-  mark-turn : (i : ℕ) (d : List Bool) (x : Bool) → Marked from i s t b d → from + i < length b → x ≡ (getD d (from + i) false || equal i) → Marked from (i + 1) s t b (set d (from + i) x)
-  mark-turn i d x M l e = record {
-    same = length-set d (from + i) x ∙ M .same;
-    inside = λ j k. split j k (eqb j i) refl;
-    outside = λ k h. getD-set-other d (from + i) k x false (h i (omega arith)) ∙ M .outside k (λ j m. h j (omega arith));
-  }
-    where
-      here : getD (set d (from + i) x) (from + i) false ≡ (getD b (from + i) false || equal i)
-      here = getD-set-same d (from + i) x false (subst (λ (n : ℕ). from + i < n) (sym (M .same)) l) ∙ e ∙ ap (λ (y : Bool). y || equal i) (M .outside (from + i) (λ j m q. let z : ⊥ = omega arith in z))
-
-      split : (j : ℕ) → j < i + 1 → (y : Bool) → eqb j i ≡ y → getD (set d (from + i) x) (from + j) false ≡ (getD b (from + j) false || equal j)
-      split j k true q = subst (λ (n : ℕ). getD (set d (from + i) x) (from + n) false ≡ (getD b (from + n) false || equal n)) (sym (eqb-true j i q)) here
-      split j k false q = let ne = eqb-false j i q in getD-set-other d (from + i) (from + j) x false (λ r. ne (let z : j ≡ i = omega arith in z)) ∙ M .inside j (lt-of-le-ne (let z : j ≤ i = omega arith in z) ne)
-
-  -- the two are equal, or not
-  mark-equal : (i : ℕ) (d : List Bool) (x : Bool) → Marked from i s t b d → from + i < length b → x ≡ equal i → x ≡ true → Marked from (i + 1) s t b (set d (from + i) true)
-  mark-equal i d x M l e q = mark-turn i d true M l (sym (ap (λ (y : Bool). getD d (from + i) false || y) (sym e ∙ q) ∙ or-true (getD d (from + i) false)))
-    where
-      or-true : (c : Bool) → (c || true) ≡ true
-      or-true true = refl
-      or-true false = refl
-
-  mark-other : (i : ℕ) (d : List Bool) (x : Bool) → Marked from i s t b d → x ≡ equal i → x ≡ false → Marked from (i + 1) s t b d
-  mark-other i d x M e q = record { same = M .same; inside = λ j k. split j k (eqb j i) refl; outside = λ k h. M .outside k (λ j m. h j (omega arith)) }
-    where
-      here : getD d (from + i) false ≡ (getD b (from + i) false || equal i)
-      here = M .outside (from + i) (λ j m r. let z : ⊥ = omega arith in z) ∙ sym (ap (λ (y : Bool). getD b (from + i) false || y) (sym e ∙ q) ∙ or-false (getD b (from + i) false))
-
-      split : (j : ℕ) → j < i + 1 → (y : Bool) → eqb j i ≡ y → getD d (from + j) false ≡ (getD b (from + j) false || equal j)
-      split j k true r = subst (λ (n : ℕ). getD d (from + n) false ≡ (getD b (from + n) false || equal n)) (sym (eqb-true j i r)) here
-      split j k false r = let ne = eqb-false j i r in M .inside j (lt-of-le-ne (let z : j ≤ i = omega arith in z) ne)
-
-  pub mark-either : (i : ℕ) (d d' : List Bool) (x : Bool) → Marked from i s t b d → from + i < length b → x ≡ equal i → ((x ≡ true) × (d' ≡ set d (from + i) true)) ⊎ ((x ≡ false) × (d' ≡ d)) → Marked from (i + 1) s t b d'
-  mark-either i d d' x M l e (inl (q, r)) = subst (Marked from (i + 1) s t b) (sym r) (mark-equal i d x M l e q)
-  mark-either i d d' x M l e (inr (q, r)) = subst (Marked from (i + 1) s t b) (sym r) (mark-other i d x M e q)
 
 -- ---- masks
 in-more : (l : List Stem) (t s : Stem) → isIn (l ++ (t ∷ [])) s ≡ (isIn l s || sameStem t s)
@@ -74,7 +29,7 @@ in-more (u ∷ l) t s = ap (λ (b : Bool). sameStem u s || b) (in-more l t s) �
     assoc true b c = refl
     assoc false b c = refl
 
-mask-length : (g l : List Stem) → length (maskOf g l) ≡ length l
+pub mask-length : (g l : List Stem) → length (maskOf g l) ≡ length l
 unfolding maskOf
 mask-length g [] = refl
 mask-length g (s ∷ l) = ap suc (mask-length g l)
@@ -85,88 +40,153 @@ mask-at g [] k d h = absurd (let z : ⊥ = omega arith in z)
 mask-at g (s ∷ l) zero d h = refl
 mask-at g (s ∷ l) (suc k) d h = mask-at g l k d (omega arith)
 
--- every bit is set where its stem is the same
-mark-all : (g l : List Stem) (s : Stem) (b d : List Bool) (n : ℕ) → length l ≡ n → length d ≡ length b → ((k : ℕ) → k < n → getD d k false ≡ (getD b k false || sameStem s (getD l k s))) → take n b ≡ maskOf g l → take n d ≡ maskOf (g ++ (s ∷ [])) l
-mark-all g l s b d n len same at e =
-    let size : length (take n b) ≡ n = ap length e ∙ mask-length g l ∙ len in
-    let size' : length (take n d) ≡ n = length-take n d ∙ ap (min n) same ∙ sym (length-take n b) ∙ size in
-    ext-getD false (take n d) (maskOf (g ++ (s ∷ [])) l) (size' ∙ sym len ∙ sym (mask-length (g ++ (s ∷ [])) l)) (λ k h.
-    let i : k < n = subst (λ (j : ℕ). k < j) size' h in
-    let i' : k < length l = subst (λ (j : ℕ). k < j) (sym len) i in
-    getD-take n d k false i ∙ at k i
-    ∙ ap (λ (x : Bool). x || sameStem s (getD l k s)) (sym (getD-take n b k false i) ∙ ap (λ (q : List Bool). getD q k false) e ∙ mask-at g l k s i')
-    ∙ sym (mask-at (g ++ (s ∷ [])) l k s i' ∙ in-more g s (getD l k s)))
+-- a stem that equals none of them, or the one at p alone
+module _ (g l : List Stem) (s : Stem) where
+  mask-more : (k : ℕ) → k < length l → getD (maskOf (g ++ (s ∷ [])) l) k false ≡ (getD (maskOf g l) k false || sameStem s (getD l k s))
+  mask-more k h = mask-at (g ++ (s ∷ [])) l k s h ∙ in-more g s (getD l k s) ∙ ap (λ (x : Bool). x || sameStem s (getD l k s)) (sym (mask-at g l k s h))
 
+  mask-same : ((k : ℕ) → k < length l → sameStem s (getD l k s) ≡ false) → maskOf (g ++ (s ∷ [])) l ≡ maskOf g l
+  mask-same n =
+      ext-getD false (maskOf (g ++ (s ∷ [])) l) (maskOf g l) (mask-length (g ++ (s ∷ [])) l ∙ sym (mask-length g l))
+      (λ k h. let i = subst (λ (j : ℕ). k < j) (mask-length (g ++ (s ∷ [])) l) h in mask-more k i ∙ ap (λ (x : Bool). getD (maskOf g l) k false || x) (n k i) ∙ or-false (getD (maskOf g l) k false))
+
+  mask-set : (p : ℕ) → p < length l → ((k : ℕ) → k < length l → sameStem s (getD l k s) ≡ eqb k p) → maskOf (g ++ (s ∷ [])) l ≡ set (maskOf g l) p true
+  mask-set p b n =
+      ext-getD false (maskOf (g ++ (s ∷ [])) l) (set (maskOf g l) p true) (mask-length (g ++ (s ∷ [])) l ∙ sym (length-set (maskOf g l) p true ∙ mask-length g l))
+      (λ k h. let i = subst (λ (j : ℕ). k < j) (mask-length (g ++ (s ∷ [])) l) h in mask-more k i ∙ ap (λ (x : Bool). getD (maskOf g l) k false || x) (n k i) ∙ choose k (eqb k p) refl)
+    where
+      or-true : (c : Bool) → (c || true) ≡ true
+      or-true true = refl
+      or-true false = refl
+
+      choose : (k : ℕ) (x : Bool) → eqb k p ≡ x → (getD (maskOf g l) k false || x) ≡ getD (set (maskOf g l) p true) k false
+      choose k true e = or-true (getD (maskOf g l) k false) ∙ sym (ap (λ (j : ℕ). getD (set (maskOf g l) p true) j false) (eqb-true k p e) ∙ getD-set-same (maskOf g l) p true false (subst (λ (j : ℕ). p < j) (sym (mask-length g l)) b))
+      choose k false e = or-false (getD (maskOf g l) k false) ∙ sym (getD-set-other (maskOf g l) p k true false (eqb-false k p e))
+
+-- ---- a stem among those of one table: it can stand at its place only
+abbrev standsAt : Bool → ℕ → ℕ → List Float → Stem → Bool
+standsAt h r n t s = ltb r n && sameStem (tableStem h r t) s
+
+table-same : (h : Bool) (n : ℕ) (t : List Float) (r : ℕ) (s : Stem) → s .horizontal ≡ h → Finds r n s t → (k : ℕ) → k < n → sameStem s (tableStem h k t) ≡ (eqb k r && standsAt h r n t s)
+table-same h n t r s d F k l = choose (eqb k r) refl
+  where
+    others : (y : Bool) → (k ≡ r → ⊥) → sameStem s (tableStem h k t) ≡ y → sameStem s (tableStem h k t) ≡ false
+    others true e q = absurd (e (F .only k l (ap (λ (x : Bool). sameStem (tableStem x k t) s) d ∙ same-both (tableStem h k t) s ∙ q)))
+    others false e q = q
+
+    choose : (x : Bool) → eqb k r ≡ x → sameStem s (tableStem h k t) ≡ (x && standsAt h r n t s)
+    choose true e =
+        let i = eqb-true k r e in
+        ap (λ (j : ℕ). sameStem s (tableStem h j t)) i ∙ same-both s (tableStem h r t)
+        ∙ sym (ap (λ (x : Bool). x && sameStem (tableStem h r t) s) (lt-ltb r n (subst (λ (j : ℕ). j < n) i l)))
+    choose false e = others (sameStem s (tableStem h k t)) (eqb-false k r e) refl
+
+other-way : (s t : Stem) (x : Bool) → s .horizontal ≡ x → t .horizontal ≡ not x → sameStem s t ≡ false
+other-way s t true e f = ap₂ (λ (p q : Bool). Bool·beq p q && (eq (s .pos) (t .pos) && eq (s .width) (t .width))) e f
+other-way s t false e f = ap₂ (λ (p q : Bool). Bool·beq p q && (eq (s .pos) (t .pos) && eq (s .width) (t .width))) e f
+
+pub within : (r n : ℕ) (y : Bool) → (ltb r n && y) ≡ true → r < n
+within r n y e = choose (ltb r n) refl e
+  where
+    choose : (x : Bool) → ltb r n ≡ x → (x && y) ≡ true → r < n
+    choose true q f = ltb-true r n q
+    choose false q f = absurd (true≢false (sym f))
+
+-- ---- the stems of both tables
 module _ (na nu : ℕ) (a u : List Float) where
-  abbrev both : List Stem
-  both = tableStems true na a ++ tableStems false nu u
+  abbrev ss : List Stem
+  ss = both na nu a u
 
-  pub both-length : length both ≡ na + nu
+  pub both-length : length ss ≡ na + nu
   both-length = length-append (tableStems true na a) (tableStems false nu u) ∙ ap₂ _+_ (table-length true a na) (table-length false u nu)
 
-  both-front : (k : ℕ) (s : Stem) → k < na → getD both k s ≡ tableStem true k a
+  both-front : (k : ℕ) (s : Stem) → k < na → getD ss k s ≡ tableStem true k a
   both-front k s l = List·getD-append (tableStems true na a) (tableStems false nu u) s k (subst (λ (j : ℕ). k < j) (sym (table-length true a na)) l) ∙ table-at true a na k s l
 
-  both-back : (k : ℕ) (s : Stem) → na ≤ k → k < na + nu → getD both k s ≡ tableStem false (k - na) u
+  both-back : (k : ℕ) (s : Stem) → na ≤ k → k < na + nu → getD ss k s ≡ tableStem false (k - na) u
   both-back k s l m =
-      ap (λ (j : ℕ). getD both j s) (let z : k ≡ na + (k - na) = omega arith in z ∙ ap (λ (j : ℕ). j + (k - na)) (sym (table-length true a na)))
+      ap (λ (j : ℕ). getD ss j s) (let z : k ≡ na + (k - na) = omega arith in z ∙ ap (λ (j : ℕ). j + (k - na)) (sym (table-length true a na)))
       ∙ getD-append-add (tableStems true na a) (tableStems false nu u) (k - na) s ∙ table-at false u nu (k - na) s (omega arith)
 
-  -- the mask has a bit for each
-  mask-room : (g : List Stem) (b : List Bool) → take (na + nu) b ≡ maskOf g both → na + nu ≤ length b
-  mask-room g b e = let z = sym (length-take (na + nu) b) ∙ ap length e ∙ mask-length g both ∙ both-length in omega arith
+  -- a stem at place r of its table sets the bit of that place, and one that is not there none
+  module _ (s : Stem) (r : ℕ) where
+    across-at : s .horizontal ≡ true → Finds r na s a → (k : ℕ) → k < length ss → sameStem s (getD ss k s) ≡ (eqb k r && standsAt true r na a s)
+    across-at h F k l = choose (ltb k na) refl
+      where
+        far : (y : Bool) → standsAt true r na a s ≡ y → (z : Bool) → eqb k r ≡ z → na ≤ k → (z && y) ≡ false
+        far true p true q m = let i = within r na (sameStem (tableStem true r a) s) p in let j = eqb-true k r q in absurd (let w : ⊥ = omega arith in w)
+        far true p false q m = refl
+        far false p true q m = refl
+        far false p false q m = refl
 
-  module _ (b d : List Bool) (g : List Stem) (e : take (na + nu) b ≡ maskOf g both) where
-    split-across : (s : Stem) → s .horizontal ≡ true → Marked 0 na s a b d → (k : ℕ) → k < na + nu → (x : Bool) → ltb k na ≡ x → getD d k false ≡ (getD b k false || sameStem s (getD both k s))
-    split-across s h M k l true r =
-        let m = ltb-true k na r in
-        ap (λ (j : ℕ). getD d j false) (sym (zero-add k)) ∙ M .inside k m ∙ ap₂ (λ (j : ℕ) (y : Bool). getD b j false || sameStem s (tableStem y k a)) (zero-add k) h ∙ ap (λ (x : Stem). getD b k false || sameStem s x) (sym (both-front k s m))
-    split-across s h M k l false r =
-        let m = ltb-false k na r in
-        M .outside k (λ i j y. let z : ⊥ = omega arith in z)
-        ∙ sym (ap (λ (x : Stem). getD b k false || sameStem s x) (both-back k s m l) ∙ ap (λ (y : Bool). getD b k false || sameStem (stemOf y (s .pos) (s .width)) (tableStem false (k - na) u)) h ∙ or-false (getD b k false))
+        choose : (x : Bool) → ltb k na ≡ x → sameStem s (getD ss k s) ≡ (eqb k r && standsAt true r na a s)
+        choose true e = let m = ltb-true k na e in ap (sameStem s) (both-front k s m) ∙ table-same true na a r s h F k m
+        choose false e =
+            let m = ltb-false k na e in
+            ap (sameStem s) (both-back k s m (subst (λ (j : ℕ). k < j) both-length l)) ∙ other-way s (tableStem false (k - na) u) true h refl ∙ sym (far (standsAt true r na a s) refl (eqb k r) refl m)
 
-    split-upright : (s : Stem) → s .horizontal ≡ false → Marked na nu s u b d → (k : ℕ) → k < na + nu → (x : Bool) → ltb k na ≡ x → getD d k false ≡ (getD b k false || sameStem s (getD both k s))
-    split-upright s h M k l true r =
-        let m = ltb-true k na r in
-        M .outside k (λ i j y. let z : ⊥ = omega arith in z)
-        ∙ sym (ap (λ (x : Stem). getD b k false || sameStem s x) (both-front k s m) ∙ ap (λ (y : Bool). getD b k false || sameStem (stemOf y (s .pos) (s .width)) (tableStem true k a)) h ∙ or-false (getD b k false))
-    split-upright s h M k l false r =
-        let m = ltb-false k na r in
-        let i : na + (k - na) ≡ k = omega arith in
-        ap (λ (j : ℕ). getD d j false) (sym i) ∙ M .inside (k - na) (omega arith) ∙ ap₂ (λ (j : ℕ) (y : Bool). getD b j false || sameStem s (tableStem y (k - na) u)) i h ∙ ap (λ (x : Stem). getD b k false || sameStem s x) (sym (both-back k s m l))
+    upright-at : s .horizontal ≡ false → Finds r nu s u → (k : ℕ) → k < length ss → sameStem s (getD ss k s) ≡ (eqb k (na + r) && standsAt false r nu u s)
+    upright-at h F k l = choose (ltb k na) refl
+      where
+        moved : (x : Bool) → eqb (k - na) r ≡ x → na ≤ k → x ≡ eqb k (na + r)
+        moved true q m = let i = eqb-true (k - na) r q in sym (eq-eqb k (na + r) (omega arith))
+        moved false q m = let i = eqb-false (k - na) r q in sym (ne-eqb k (na + r) (λ j. i (let w : k - na ≡ r = omega arith in w)))
 
-    module _ (l : List Stem) (s : Stem) (q : l ≡ s ∷ []) where
-      pub mark-across : s .horizontal ≡ true → (0 + na ≤ length b → Marked 0 na s a b d) → take (na + nu) d ≡ maskOf (g ++ l) both
-      mark-across h f =
-          let room = mask-room g b e in
-          let M = f (omega arith) in
-          mark-all g both s b d (na + nu) both-length (M .same) (λ k i. split-across s h M k i (ltb k na) refl) e ∙ ap (λ (x : List Stem). maskOf (g ++ x) both) (sym q)
+        choose : (x : Bool) → ltb k na ≡ x → sameStem s (getD ss k s) ≡ (eqb k (na + r) && standsAt false r nu u s)
+        choose true e =
+            let m = ltb-true k na e in
+            ap (sameStem s) (both-front k s m) ∙ other-way s (tableStem true k a) false h refl ∙ sym (ap (λ (x : Bool). x && standsAt false r nu u s) (ne-eqb k (na + r) (λ q. let w : ⊥ = omega arith in w)))
+        choose false e =
+            let m = ltb-false k na e in
+            let f : k < na + nu = subst (λ (j : ℕ). k < j) both-length l in
+            ap (sameStem s) (both-back k s m f) ∙ table-same false nu u r s h F (k - na) (omega arith) ∙ ap (λ (x : Bool). x && standsAt false r nu u s) (moved (eqb (k - na) r) refl m)
 
-      pub mark-upright : s .horizontal ≡ false → (na + nu ≤ length b → Marked na nu s u b d) → take (na + nu) d ≡ maskOf (g ++ l) both
-      mark-upright h f =
-          let M = f (mask-room g b e) in
-          mark-all g both s b d (na + nu) both-length (M .same) (λ k i. split-upright s h M k i (ltb k na) refl) e ∙ ap (λ (x : List Stem). maskOf (g ++ x) both) (sym q)
+    module _ (g : List Stem) (p : ℕ) (y : Bool) (at : (k : ℕ) → k < length ss → sameStem s (getD ss k s) ≡ (eqb k p && y)) where
+      sets : y ≡ true → p < length ss → maskOf (g ++ (s ∷ [])) ss ≡ set (maskOf g ss) p true
+      sets e l = mask-set g ss s p l (λ k h. at k h ∙ ap (λ (x : Bool). eqb k p && x) e ∙ and-true (eqb k p))
 
-  pub mark-none : (b : List Bool) (g l : List Stem) → take (na + nu) b ≡ maskOf g both → l ≡ [] → take (na + nu) b ≡ maskOf (g ++ l) both
-  mark-none b g l e q = e ∙ ap (λ (x : List Stem). maskOf x both) (sym (append-nil g) ∙ ap (λ (x : List Stem). g ++ x) (sym q))
+      keeps : y ≡ false → maskOf (g ++ (s ∷ [])) ss ≡ maskOf g ss
+      keeps e = mask-same g ss s (λ k h. at k h ∙ ap (λ (x : Bool). eqb k p && x) e ∙ and-false (eqb k p))
 
--- ---- a clear mask
-pub clear-turn : (i : ℕ) (b : List Bool) → i < length b → take i b ≡ replicate i false → take (i + 1) (set b i false) ≡ replicate (i + 1) false
-clear-turn i b l e = ap (λ (n : ℕ). take n (set b i false)) (add-one i) ∙ take-suc-set b i false l ∙ ap (λ (q : List Bool). q ++ (false ∷ [])) e ∙ replicate-append-replicate i 1 false
+    -- ---- the same, of places
+    module _ (l : List Stem) (q : l ≡ s ∷ []) (few : na + nu ≤ 96) (k : ℕ) (t : List ℕ) where
+      placed : (p m : ℕ) (t′ : List ℕ) → p < na + nu → ((g : List Stem) → maskOf (g ++ (s ∷ [])) ss ≡ set (maskOf g ss) p true) → PlacePut p k t m t′ → Places l na nu a u k t m t′
+      placed p m t′ h f P = (
+        P .same,
+        (
+          P .few,
+          λ g e.
+              let n = mask-length g ss ∙ both-length in
+              P .places (maskOf g ss) (omega arith) (omega arith) e ∙ ap (placesFrom 0) (sym (f g) ∙ ap (λ (x : List Stem). maskOf (g ++ x) ss) (sym q)),
+        ),
+      )
 
-pub clear-end : (i : ℕ) (b : List Bool) → i ≡ 96 → length b ≡ 96 → take i b ≡ replicate i false → b ≡ replicate 96 false
-clear-end i b k len e = sym (take-all i b (omega arith)) ∙ e ∙ ap (λ (n : ℕ). replicate n false) k
+      unplaced : k ≤ 96 → ((g : List Stem) → maskOf (g ++ (s ∷ [])) ss ≡ maskOf g ss) → Places l na nu a u k t k t
+      unplaced h f = (refl, (h, λ g e. e ∙ ap (placesFrom 0) (sym (f g) ∙ ap (λ (x : List Stem). maskOf (g ++ x) ss) (sym q))))
 
-none-marked : (l : List Stem) → maskOf [] l ≡ replicate (length l) false
-unfolding maskOf isIn
-none-marked [] = refl
-none-marked (s ∷ l) = ap (λ (q : List Bool). false ∷ q) (none-marked l)
+      pub placed-across : (m : ℕ) (t′ : List ℕ) → s .horizontal ≡ true → Finds r na s a → standsAt (s .horizontal) r na a s ≡ true → PlacePut r k t m t′ → Places l na nu a u k t m t′
+      placed-across m t′ h F e P =
+          let y : standsAt true r na a s ≡ true = ap (λ (x : Bool). standsAt x r na a s) (sym h) ∙ e in
+          let i = within r na (sameStem (tableStem true r a) s) y in
+          placed r m t′ (omega arith) (λ g. sets g r (standsAt true r na a s) (across-at h F) y (subst (λ (j : ℕ). r < j) (sym both-length) (omega arith))) P
 
-take-replicate : (n m : ℕ) → n ≤ m → take n (replicate m false) ≡ replicate n false
-take-replicate zero m l = refl
-take-replicate (suc n) zero l = absurd (let z : ⊥ = omega arith in z)
-take-replicate (suc n) (suc m) l = ap (λ (q : List Bool). false ∷ q) (take-replicate n m (omega arith))
+      pub unplaced-across : s .horizontal ≡ true → Finds r na s a → standsAt (s .horizontal) r na a s ≡ false → k ≤ 96 → Places l na nu a u k t k t
+      unplaced-across h F e j = unplaced j (λ g. keeps g r (standsAt true r na a s) (across-at h F) (ap (λ (x : Bool). standsAt x r na a s) (sym h) ∙ e))
 
-pub clear-mask : (l : List Stem) (n : ℕ) → length l ≡ n → n ≤ 96 → take n (replicate 96 false) ≡ maskOf [] l
-clear-mask l n e h = take-replicate n 96 h ∙ sym (none-marked l ∙ ap (λ (k : ℕ). replicate k false) e)
+      pub placed-upright : (m : ℕ) (t′ : List ℕ) → s .horizontal ≡ false → Finds r nu s u → standsAt (s .horizontal) r nu u s ≡ true → PlacePut (na + r) k t m t′ → Places l na nu a u k t m t′
+      placed-upright m t′ h F e P =
+          let y : standsAt false r nu u s ≡ true = ap (λ (x : Bool). standsAt x r nu u s) (sym h) ∙ e in
+          let i = within r nu (sameStem (tableStem false r u) s) y in
+          placed (na + r) m t′ (omega arith) (λ g. sets g (na + r) (standsAt false r nu u s) (upright-at h F) y (subst (λ (j : ℕ). na + r < j) (sym both-length) (omega arith))) P
+
+      pub unplaced-upright : s .horizontal ≡ false → Finds r nu s u → standsAt (s .horizontal) r nu u s ≡ false → k ≤ 96 → Places l na nu a u k t k t
+      unplaced-upright h F e j = unplaced j (λ g. keeps g (na + r) (standsAt false r nu u s) (upright-at h F) (ap (λ (x : Bool). standsAt x r nu u s) (sym h) ∙ e))
+
+  -- ---- no stem, no place
+  none-marked : (l : List Stem) (i : ℕ) → placesFrom i (maskOf [] l) ≡ []
+  unfolding maskOf isIn placesFrom
+  none-marked [] i = refl
+  none-marked (s ∷ l) i = none-marked l (suc i)
+
+  pub listed-none : (t : List ℕ) → take 0 t ≡ placesFrom 0 (maskOf [] ss)
+  listed-none t = sym (none-marked ss 0)

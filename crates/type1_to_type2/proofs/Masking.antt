@@ -17,20 +17,6 @@ use Rattle.type1_to_type2.specs.declared.Writer.{Writer}
 use Rattle.type1_to_type2.specs.Writing.{Written, put}
 use Rattle.type1_to_type2.specs.Streaming.{resumed, closed, streamed, Puts, Still, Flushed, Masks}
 
--- ---- a stem's bit
-pub bit-in : (l : List Bool) (i n : ℕ) (b : Bool) → i < n → getD l i false ≡ b → bit b ≡ bit (getD (take n l) i false)
-bit-in l i n b h e = ap bit (sym (getD-take n l i false h ∙ e))
-
-pub bit-out : (l : List Bool) (i n : ℕ) → n ≤ i → 0 ≡ bit (getD (take n l) i false)
-bit-out l i n h = ap bit (sym (List·getD-eq-default (take n l) false (let z : length (take n l) ≤ i = omega (arith, length-take n l) in z)))
-
--- ---- the first n
-pub length-taken : (l : List Bool) (n : ℕ) → n ≤ length l → length (take n l) ≡ n
-length-taken l n h = omega (arith, length-take n l)
-
-pub taken-within : (l : List Bool) (n i : ℕ) → n ≤ i → length (take n l) ≤ i
-taken-within l n i h = omega (arith, length-take n l)
-
 -- ---- eight of them
 eight : (m : List Bool) → take 8 (m ++ replicate 8 false) ≡ getD m 0 false ∷ getD m 1 false ∷ getD m 2 false ∷ getD m 3 false ∷ getD m 4 false ∷ getD m 5 false ∷ getD m 6 false ∷ getD m 7 false ∷ []
 eight [] = refl

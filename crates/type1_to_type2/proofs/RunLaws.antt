@@ -35,7 +35,7 @@ use Rattle.type1_to_type2.specs.Convert as Convert
 use Rattle.type1_to_type2.specs.Convert.{foldsFinite, Glyph, glyphOf, Conversion, instructions, writes, folded, ended, roomsOf, convert, answer, output}
 use Rattle.type1_to_type2.specs.Collecting.{Collects, Counted, noneCollected}
 use Rattle.type1_to_type2.specs.Streaming.{resumedAll}
-use Rattle.type1_to_type2.specs.Passes.{both, Gathers, stemsTo, cmdsFrom, Stored}
+use Rattle.type1_to_type2.specs.Passes.{both, BothTables, Gathers, stemsTo, cmdsFrom, Stored}
 use Rattle.type1_to_type2.specs.Entry.{groupCount, noneOf, tables, Planned, opens, Opens, leftState, fromRun, settles, Answers, ConvertsFrom, firstNumber}
 use Rattle.type1_to_type2.specs.Fine.{written-finite}
 use Rattle.type1_to_type2.specs.Nonzero.{write-nonzero}
@@ -88,12 +88,19 @@ module _ (number : ℕ) (m : Matrix) (fold : Fold) (made : fold ≡ foldOf m) (r
   unfolding fromRun folded foldsFinite instructions
   from-made = refl
 
+  -- what was collected of all groups, and the tables of the plan
+  collected-all : (k : ℕ) (c₀ cc : Collected) (l : List Stem) (ta tu ta₁ tu₁ : List Float) → length ta ≡ 192 → length tu ≡ 192 → c₀ ≡ noneOf k → Gathers l c₀ ta tu cc ta₁ tu₁ → Collects l cc ta₁ tu₁
+  collected-all k c₀ cc l ta tu ta₁ tu₁ la lu e₀ G = G .0 [] (subst (λ (x : Collected). Collects [] x ta tu) (sym e₀) (collects-group noneCollected k ta tu [] (collects-first ta tu la lu)))
+
+  pub run-tables : (k : ℕ) (c₀ cc : Collected) (l : List Stem) (ta tu ta₁ tu₁ : List Float) (p : Plan) → length ta ≡ 192 → length tu ≡ 192 → c₀ ≡ noneOf k → Gathers l c₀ ta tu cc ta₁ tu₁ → Planned number cc m (r .width) p → BothTables (p .across) (p .upright) ta₁ tu₁
+  run-tables k c₀ cc l ta tu ta₁ tu₁ p la lu e₀ G P = P .order l ta₁ tu₁ (collected-all k c₀ cc l ta tu ta₁ tu₁ la lu e₀ G)
+
   pub run-answers : (k : ℕ) (c₀ cc : Collected) (ta tu ta₁ tu₁ : List Float) (p : Plan) (w v : Writer) (out₁ out₂ out₃ : List ℕ) (g : Type2Glyph) (z′ : List Stem)
       → length ta ≡ 192 → length tu ≡ 192 → k ≡ groupCount (r .entries) c → c₀ ≡ noneOf k → Gathers (stemsTo fold c z (r .entries)) c₀ ta tu cc ta₁ tu₁ → Planned number cc m (r .width) p → Opens p ta₁ tu₁ room w out₁ → z′ ≡ z
       → resumedAll (p .masked) (both (p .across) (p .upright) ta₁ tu₁) v out₂ [] ≡ resumedAll (p .masked) (both (p .across) (p .upright) ta₁ tu₁) w out₁ (cmdsFrom fold c z′ 0 (r .entries)) → length out₂ ≡ room
       → Answers (settles (p .number) (finiteList (foldedList fold (drawnIn (r .entries) c))) (writes (glyphOf (p .width) (r .ran)) (resumedAll false [] v out₂ []))) (length out₂) g out₃ → Answers (fromRun number m room r c z) room g out₃
   run-answers k c₀ cc ta tu ta₁ tu₁ p w v out₁ out₂ out₃ g z′ la lu K e₀ G P B ez e l A =
-      let C : Collects (stemsTo fold c z (r .entries)) cc ta₁ tu₁ = G .0 [] (subst (λ (x : Collected). Collects [] x ta tu) (sym e₀) (collects-group noneCollected k ta tu [] (collects-first ta tu la lu))) in
+      let C = collected-all k c₀ cc (stemsTo fold c z (r .entries)) ta tu ta₁ tu₁ la lu e₀ G in
       let C′ : Collects (allStems gs) cc ta₁ tu₁ = subst (λ (x : List Stem). Collects x cc ta₁ tu₁) (stems-are fold c z (r .entries)) C in
       let fw = finite (foldedWidth m (r .width)) in
       let ds = foldedList fold (drawnIn (r .entries) c) in

@@ -28,7 +28,7 @@ use Rattle.type1_to_type2.specs.Convert.{Conversion, Rooms, folded, conv
 use Rattle.type1_to_type2.specs.Table.{tableStems}
 use Rattle.type1_to_type2.specs.Collecting.{Collects}
 use Rattle.type1_to_type2.specs.Streaming.{resumedAll}
-use Rattle.type1_to_type2.specs.Passes.{both}
+use Rattle.type1_to_type2.specs.Passes.{both, BothTables}
 
 -- how many of the first n entries start a group
 unfoldable pub groupCount : ℕ → List ℕ → ℕ
@@ -56,6 +56,7 @@ pub record Planned (number : ℕ) (c : Collected) (m : Matrix) (width : Float) (
   pub width-is : p .width ≡ foldedWidth m width
   pub few : p .across + p .upright ≤ 96
   pub stems : (gs : List Group) (ta tu : List Float) → Collects (allStems gs) c ta tu → c .groups ≡ length gs → c .finite ≡ true → declared gs ≡ tables p ta tu
+  pub order : (l : List Stem) (ta tu : List Float) → Collects l c ta tu → BothTables (p .across) (p .upright) ta tu
 
 -- what is written of commands cs, into so much room
 unfoldable pub opens : Plan → List Float → List Float → ℕ → List Cmd → Written
@@ -87,10 +88,10 @@ pub record Answers (x : Conversion) (room : ℕ) (g : Type2Glyph) (out : List �
   pub bytes : out ≡ output room x
 
 -- the entry's arrays have their lengths
-pub record Blank (across upright : List Float) (mask : List Bool) : Type 0 where
+pub record Blank (across upright : List Float) (places : List ℕ) : Type 0 where
   pub across-len : length across ≡ 192
   pub upright-len : length upright ≡ 192
-  pub mask-len : length mask ≡ 96
+  pub places-len : length places ≡ 96
 
 -- what an entry that converts leaves: the answer and the output are a conversion's, every record and every word of the stores is zero
 pub record Converts (x : Conversion) (r : Rooms) (g : Type2Glyph) (stems : List Stem) (commands out : List ℕ) : Type 0 where

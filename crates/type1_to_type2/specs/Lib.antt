@@ -5,6 +5,7 @@ pub mod Convert
 pub mod Finish
 pub mod Table
 pub mod Collecting
+pub mod Places
 pub mod Streaming
 pub mod Passes
 pub mod Entry

@@ -15,7 +15,8 @@ use Rattle.folding.specs.Folding.{foldedStems}
 use Rattle.type1_to_type2.specs.Stems.{maskOf}
 use Rattle.type1_to_type2.specs.Emission.{Cmd}
 use Rattle.type1_to_type2.specs.Table.{tableStems}
-use Rattle.type1_to_type2.specs.Collecting.{Collects, Counted, firstOf, countOf}
+use Rattle.type1_to_type2.specs.Collecting.{Ascending, Collects, Counted, firstOf, countOf}
+use Rattle.type1_to_type2.specs.Places.{placesFrom}
 use Rattle.type1_to_type2.specs.Streaming.{cmdsIn}
 
 -- so many records, from one on
@@ -26,12 +27,23 @@ records first n z = take n (drop first z)
 abbrev pub Gathers : List Stem → Collected → List Float → List Float → Collected → List Float → List Float → Type 0
 Gathers g c ta tu r ta′ tu′ = ((l : List Stem) → Collects l c ta tu → Collects (l ++ g) r ta′ tu′) × ((r .groups ≡ c .groups) × Counted r)
 
--- folded stems g were marked beside those that had been, in the mask of so many stems of both tables
+-- the stems of both tables
 abbrev pub both : ℕ → ℕ → List Float → List Float → List Stem
 both na nu ta tu = tableStems true na ta ++ tableStems false nu tu
 
-abbrev pub Marks : List Stem → ℕ → ℕ → List Float → List Float → List Bool → List Bool → Type 0
-Marks g na nu ta tu mask mask′ = (length mask′ ≡ length mask) × ((l : List Stem) → take (na + nu) mask ≡ maskOf l (both na nu ta tu) → take (na + nu) mask′ ≡ maskOf (l ++ g) (both na nu ta tu))
+-- the tables are in order, and hold no more than are declared
+pub record BothTables (na nu : ℕ) (ta tu : List Float) : Type 0 where
+  pub few : na + nu ≤ 96
+  pub across : Ascending (tableStems true na ta)
+  pub upright : Ascending (tableStems false nu tu)
+
+-- the first k of t are the places of the stems l among those of both tables
+abbrev pub Listed : List Stem → ℕ → ℕ → List Float → List Float → ℕ → List ℕ → Type 0
+Listed l na nu ta tu k t = take k t ≡ placesFrom 0 (maskOf l (both na nu ta tu))
+
+-- the places of folded stems g were put among those of the stems before them
+abbrev pub Places : List Stem → ℕ → ℕ → List Float → List Float → ℕ → List ℕ → ℕ → List ℕ → Type 0
+Places g na nu ta tu k t k′ t′ = (length t′ ≡ length t) × ((k′ ≤ 96) × ((l : List Stem) → Listed l na nu ta tu k t → Listed (l ++ g) na nu ta tu k′ t′))
 
 -- the folded stems of the group that starts at entry e, none where no group does
 unfoldable pub groupAt : Fold → List ℕ → List Stem → ℕ → List Stem

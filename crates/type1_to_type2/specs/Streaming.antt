@@ -19,6 +19,7 @@ use Rattle.type1_to_type2.specs.declared.StemWriter.{StemWriter}
 use Rattle.folding.specs.Folding.{foldedPoint, foldedCommand}
 use Rattle.type1_to_type2.specs.Stems.{maskOf}
 use Rattle.type1_to_type2.specs.Emission.{Cmd, hints, shape, Item, mask, go, items, codeOf, moveOf, pair, secondEdge, deltas, arrives, written}
+use Rattle.type1_to_type2.specs.Places.{placesFrom}
 use Rattle.type1_to_type2.specs.Writing.{Written, refused, wrote, thenWrite, put, putNumbers}
 
 -- ---- the bytes p are written, of an output of so many bytes; f says what follows, by the room left
@@ -171,6 +172,6 @@ abbrev pub Ends : ℕ → Written → Writer → List ℕ → Type 0
 Ends room (refused k) r out = (0 < k) × ((r .number ≡ k) × ((r .next ≡ 0) × (out ≡ replicate room 0)))
 Ends room (wrote b) r out = (r .number ≡ 0) × ((r .next ≡ length b) × (out ≡ b ++ replicate (room - length b) 0))
 
--- entry e is written, with g the stems of the group that it starts, if it starts one
-abbrev pub Writes : Bool → Fold → List ℕ → ℕ → ℕ → List Bool → Writer → List ℕ → Writer → List ℕ → Type 0
-Writes masked fold c e n bits w out r out′ = ((ss g : List Stem) (cs : List Cmd) → take n bits ≡ maskOf g ss → resumedAll masked ss r out′ cs ≡ resumedAll masked ss w out (cmdsIn fold c e g ++ cs)) × (length out′ ≡ length out)
+-- entry e is written, where n stems are declared; g are the stems of the group that it starts, if it starts one, and p their places
+abbrev pub Writes : Bool → Fold → List ℕ → ℕ → ℕ → List ℕ → Writer → List ℕ → Writer → List ℕ → Type 0
+Writes masked fold c e n p w out r out′ = ((ss g : List Stem) (cs : List Cmd) → length ss ≡ n → p ≡ placesFrom 0 (maskOf g ss) → resumedAll masked ss r out′ cs ≡ resumedAll masked ss w out (cmdsIn fold c e g ++ cs)) × (length out′ ≡ length out)

@@ -1,7 +1,7 @@
 // Entries of the command store, written (document 01, "Path").
 ghost use mathlib.Core.Path.{_≡_};
 ghost use Prim.Native.Nat.{_+_, _*_, _≤_, _<_};
-ghost use lib.ListN.{length};
+ghost use lib.ListN.{length, take};
 ghost use Rattle.outline.specs.Store.{entryWords, coordinate, pointIn, commandIn};
 ghost use Rattle.type1.specs.Memory.{Good};
 ghost use Rattle.type1.specs.Sound.{All, OfPoint, OfCommand};
@@ -110,19 +110,20 @@ fn end_entry(commands: &[u64], e: usize, kind: u64, w: Writer, out: &mut [u8]) -
     put_byte(T2_FLEX, b, out)
 }
 
-// Entry e of the command store: a path command, or where `masked` a group's start, whose mask is given.
+// Entry e of the command store: a path command, or where `masked` a group's start, of whose stems the first k places are.
 pub(crate) fn write_entry(
     commands: &[u64],
     e: usize,
     fold: Fold,
     masked: bool,
     n: usize,
-    mask: &[bool; 96],
+    k: usize,
+    places: &[u8; 96],
     w: Writer,
     out: &mut [u8],
 ) -> Writer
-    requires { ⌜ (entryWords * e + entryWords ≤ length (now commands)) × (((n ≤ 96) × (n ≤ length (now mask))) × All (OfCommand Good) (commandIn (now commands) e)) ⌝ }
-    ensures { λ r. ⌜ Writes masked fold (now (commands .entry)) e n (now (mask .entry)) w (now (out .entry)) r (now (out .exit)) ⌝ }
+    requires { ⌜ (entryWords * e + entryWords ≤ length (now commands)) × (((n ≤ 96) × ((k ≤ 96) × (k ≤ length (now places)))) × All (OfCommand Good) (commandIn (now commands) e)) ⌝ }
+    ensures { λ r. ⌜ Writes masked fold (now (commands .entry)) e n (take k (now (places .entry))) w (now (out .entry)) r (now (out .exit)) ⌝ }
 {
     let kind = commands[ENTRY * e];
     if kind == MOVE {
@@ -131,7 +132,7 @@ pub(crate) fn write_entry(
     }
     if kind == GROUP {
         if masked {
-            return write_mask(n, mask, w, out);
+            return write_mask(n, k, places, w, out);
         }
         return w;
     }

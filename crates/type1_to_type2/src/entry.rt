@@ -130,10 +130,10 @@ fn convert_run(
     commands: &mut [u64],
     across: &mut [f64; 192],
     upright: &mut [f64; 192],
-    mask: &mut [bool; 96],
+    places: &mut [u8; 96],
     out: &mut [u8],
 ) -> Type2Glyph
-    requires { ⌜ Stored (r .entries) (now commands) (now stems) × Blank (now across) (now upright) (now mask) ⌝ }
+    requires { ⌜ Stored (r .entries) (now commands) (now stems) × Blank (now across) (now upright) (now places) ⌝ }
     ensures { λ g. ⌜ (now (stems .exit) ≡ now (stems .entry)) × ((now (commands .exit) ≡ now (commands .entry)) ×
         Answers (fromRun number m (length (now (out .entry))) r (now (commands .entry)) (now (stems .entry))) (length (now (out .entry))) g (now (out .exit))) ⌝ }
 {
@@ -160,7 +160,7 @@ fn convert_run(
         p.upright,
         across,
         upright,
-        mask,
+        places,
         w,
         out,
     );
@@ -183,7 +183,7 @@ pub(crate) fn convert_stored(
 {
     let mut across = [0.0; 192];
     let mut upright = [0.0; 192];
-    let mut mask = [false; 96];
+    let mut places = [0; 96];
     convert_run(
         r,
         number,
@@ -192,7 +192,7 @@ pub(crate) fn convert_stored(
         commands,
         &mut across,
         &mut upright,
-        &mut mask,
+        &mut places,
         out,
     )
 }

@@ -10,6 +10,7 @@ ghost use Rattle.type1.specs.Run.{pointAt};
 ghost use Rattle.type2.specs.Number.{units};
 ghost use Rattle.type1_to_type2.specs.Emission.{written, shape};
 ghost use Rattle.type1_to_type2.specs.Writing.{put, putNumbers};
+ghost use Rattle.type1_to_type2.specs.Places.{placesFrom};
 ghost use Rattle.type1_to_type2.specs.Streaming.{Puts, Still, Flushed, Batched, Goes, Draws, Ends, resumedAll, Masks};
 use crate::Writer;
 use crate::masks::mask_byte;
@@ -159,16 +160,21 @@ pub(crate) fn move_to(px: f64, py: f64, w: Writer, out: &mut [u8]) -> Writer
     put_byte(T2_RMOVETO, c, out)
 }
 
-// The mask of a group, where n stems are declared.
-pub(crate) fn write_mask(n: usize, mask: &[bool; 96], w: Writer, out: &mut [u8]) -> Writer
-    requires { ⌜ (n ≤ 96) × (n ≤ length (now mask)) ⌝ }
-    ensures { λ r. ⌜ Masks (take n (now (mask .entry))) w (now (out .entry)) r (now (out .exit)) ⌝ }
+// The mask of a group, where n stems are declared; the first k places are those of its stems. Each byte is made finished
+// and written once.
+pub(crate) fn write_mask(n: usize, k: usize, places: &[u8; 96], w: Writer, out: &mut [u8]) -> Writer
+    requires { ⌜ (n ≤ 96) × ((k ≤ 96) × (k ≤ length (now places))) ⌝ }
+    ensures { λ _. ⌜ length (now (out .exit)) ≡ length (now (out .entry)) ⌝ }
+    ensures { λ r. ⌜ ((b : List Bool) → length b ≡ n → take k (now (places .entry)) ≡ placesFrom 0 b → Masks b w (now (out .entry)) r (now (out .exit))) ⌝ }
 {
     let f = flush(w, out);
     let mut r = put_byte(T2_HINTMASK, f, out);
+    let mut j = 0;
     let mut i = 0;
     while i < n {
-        r = put_byte(mask_byte(i, n, mask), r, out);
+        let m = mask_byte(i as u8, j, k, places);
+        r = put_byte(m.byte, r, out);
+        j = m.next;
         i += 8;
     }
     r

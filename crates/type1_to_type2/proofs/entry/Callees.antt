@@ -62,7 +62,7 @@ use Rattle.type1.specs.Sound.{All, OfCommand}
 use Rattle.type1.specs.Memory.{Good}
 use Rattle.type1_to_type2.specs.Streaming.{resumedAll}
 use Rattle.type1_to_type2.specs.Collecting.{Counted}
-use Rattle.type1_to_type2.specs.Passes.{Gathers, both, stemsTo, cmdsFrom, Stored}
+use Rattle.type1_to_type2.specs.Passes.{Gathers, BothTables, both, stemsTo, cmdsFrom, Stored}
 use Rattle.geometry.specs.Transform.{identity}
 use Rattle.type1.specs.Interpret.{sourceOf, outcome, Leaves}
 use Rattle.type1_to_type2.specs.Convert.{glyphOf, writes, roomsOf}
@@ -223,29 +223,29 @@ module _ {M : Type 1} (𝓤 : URA M) (H : Heap 𝓤) (A : Atoms 𝓤) (mem : Mem
       move ! (2 ∷ 0 ∷ []) $ join ! $ frame ! $ done !) (known y)
 
   pub write-all-as : Triple 𝓤 (C #type1-to-type2·write-all) (WriteAllC 𝓤 H A mem run′) → (κstems : Lft) (qstems : Share) (mstems bstems ostems : ℕ) (γstems : GName) (ysstems : List Stem) (κcommands : Lft) (qcommands : Share)
-      (xcommands : RefT (List ℕ)) (κacross : Lft) (qacross : Share) (xacross : RefT (List Float)) (κupright : Lft) (qupright : Share) (xupright : RefT (List Float)) (κmask : Lft) (qmask : Share) (bmask omask : ℕ) (γmask : GName)
-      (ysmask : List Bool) (κout : Lft) (qout : Share) (mout bout oout : ℕ) (γout : GName) (ysout : List ℕ) (entries : ℕ) (fold : Fold) (masked : Bool) (na : ℕ) (nu : ℕ) (wr : Writer) → entries < 2 ^ 64 → Is F.the-row fold
-      (machF fold ∷ []) → na < 2 ^ 64 → nu < 2 ^ 64 → Is R.the-row wr (machR wr ∷ []) → Stored entries (xcommands .now) ysstems × ((na + nu ≤ 96) × (length ysmask ≡ 96))
+      (xcommands : RefT (List ℕ)) (κacross : Lft) (qacross : Share) (xacross : RefT (List Float)) (κupright : Lft) (qupright : Share) (xupright : RefT (List Float)) (κplaces : Lft) (qplaces : Share) (bplaces oplaces : ℕ) (γplaces : GName)
+      (ysplaces : List ℕ) (κout : Lft) (qout : Share) (mout bout oout : ℕ) (γout : GName) (ysout : List ℕ) (entries : ℕ) (fold : Fold) (masked : Bool) (na : ℕ) (nu : ℕ) (wr : Writer) → entries < 2 ^ 64 → Is F.the-row fold
+      (machF fold ∷ []) → na < 2 ^ 64 → nu < 2 ^ 64 → Is R.the-row wr (machR wr ∷ []) → Stored entries (xcommands .now) ysstems × (BothTables na nu (xacross .now) (xupright .now) × (length ysplaces ≡ 96))
       → ent 𝓤 (mean 𝓤 H A ((‵ (flft κstems qstems) ⊛ ‵ (Own T.the-row mstems bstems ostems κstems γstems ysstems))
       ⊛ ((‵ (flft κcommands qcommands) ⊛ ‵ (ShrSlice (named 0) κcommands u64 .own xcommands (sliceVal (xcommands .ptr) (length (xcommands .now)) ∷ [])))
       ⊛ ((‵ (flft κacross qacross) ⊛ ‵ (ShrRef (named 0) κacross (Array f64 192) .own xacross (vptr (xacross .ptr .0) (xacross .ptr .1) ∷ [])))
       ⊛ ((‵ (flft κupright qupright) ⊛ ‵ (ShrRef (named 0) κupright (Array f64 192) .own xupright (vptr (xupright .ptr .0) (xupright .ptr .1) ∷ [])))
-      ⊛ ((‵ (flft κmask qmask) ⊛ ‵ (OwnR (Array bool 96) bmask omask κmask γmask ysmask)) ⊛ (‵ (flft κout qout) ⊛ ‵ (Own u8 mout bout oout κout γout ysout))))))))
+      ⊛ ((‵ (flft κplaces qplaces) ⊛ ‵ (OwnR (Array u8 96) bplaces oplaces κplaces γplaces ysplaces)) ⊛ (‵ (flft κout qout) ⊛ ‵ (Own u8 mout bout oout κout γout ysout))))))))
       (C #type1-to-type2·write-all (sliceVal (bstems, ostems) mstems ∷ sliceVal (xcommands .ptr) (length (xcommands .now)) ∷ vint w64 entries ∷ machF fold ∷ vbool masked ∷ vint w64 na ∷ vint w64 nu
-      ∷ vptr (xacross .ptr .0) (xacross .ptr .1) ∷ vptr (xupright .ptr .0) (xupright .ptr .1) ∷ vptr bmask omask ∷ machR wr ∷ sliceVal (bout, oout) mout ∷ [])
-      (λ w. mean 𝓤 H A (GotAll 𝓤 R.the-row (List Stem × (Unit {0} × (Unit {0} × (Unit {0} × (Unit {0} × (Unit {0} × (Unit {0} × (Unit {0} × (Unit {0} × (List Bool × (Unit {0} × (List ℕ × Unit {0}))))))))))))
+      ∷ vptr (xacross .ptr .0) (xacross .ptr .1) ∷ vptr (xupright .ptr .0) (xupright .ptr .1) ∷ vptr bplaces oplaces ∷ machR wr ∷ sliceVal (bout, oout) mout ∷ [])
+      (λ w. mean 𝓤 H A (GotAll 𝓤 R.the-row (List Stem × (Unit {0} × (Unit {0} × (Unit {0} × (Unit {0} × (Unit {0} × (Unit {0} × (Unit {0} × (Unit {0} × (List ℕ × (Unit {0} × (List ℕ × Unit {0}))))))))))))
       (λ r lasts. (lasts .0 ≡ ysstems) × (resumedAll masked (both na nu (xacross .now) (xupright .now)) r (lasts .1 .1 .1 .1 .1 .1 .1 .1 .1 .1 .1 .0) [] ≡ resumedAll masked (both na nu (xacross .now) (xupright .now)) wr ysout (cmdsFrom fold (xcommands .now) ysstems 0 entries)))
       (λ lasts. fsep (fsep (finally T.the-row γstems (lasts .0)) (feq ℕ (length (lasts .0)) (length ysstems))) (fsep ftrue (fsep ftrue
-      (fsep ftrue (fsep ftrue (fsep ftrue (fsep ftrue (fsep ftrue (fsep ftrue (fsep (fres γmask ((Array bool 96) .coded .code (lasts .1 .1 .1 .1 .1 .1 .1 .1 .1 .0)))
+      (fsep ftrue (fsep ftrue (fsep ftrue (fsep ftrue (fsep ftrue (fsep ftrue (fsep (fres γplaces ((Array u8 96) .coded .code (lasts .1 .1 .1 .1 .1 .1 .1 .1 .1 .0)))
       (fsep ftrue (fsep (fsep (finally u8 γout (lasts .1 .1 .1 .1 .1 .1 .1 .1 .1 .1 .1 .0)) (feq ℕ (length (lasts .1 .1 .1 .1 .1 .1 .1 .1 .1 .1 .1 .0)) (length ysout))) ftrue))))))))))))
-      (‵ (flft κstems qstems) ⊛ (‵ (flft κcommands qcommands) ⊛ (‵ (flft κacross qacross) ⊛ (‵ (flft κupright qupright) ⊛ (‵ (flft κmask qmask) ⊛ (‵ (flft κout qout) ⊛ ‵ ftrue)))))) w)))
-  write-all-as known κstems qstems mstems bstems ostems γstems ysstems κcommands qcommands xcommands κacross qacross xacross κupright qupright xupright κmask qmask bmask omask γmask ysmask κout qout mout bout oout γout ysout entries fold masked na nu wr entries-fits fold-fits na-fits nu-fits wr-fits need =
-      let y : WriteAllC 𝓤 H A mem run′ .Ghost = (((κstems, (κcommands, (κacross, (κupright, (κmask, (κout, tt)))))), (qstems, (qcommands, (qacross, (qupright, (qmask, (qout, tt)))))), tt, (at-list T.the-row mstems bstems ostems γstems ysstems, (xcommands, (entries, (fold, (masked, (na, (nu, (xacross, (xupright, (at-one (Array bool 96) bmask omask γmask ysmask, (wr, (at-list u8 mout bout oout γout ysout, tt)))))))))))), (sliceVal (bstems, ostems) mstems ∷ [], (sliceVal (xcommands .ptr) (length (xcommands .now)) ∷ [], (vint w64 entries ∷ [], (machF fold ∷ [], (vbool masked ∷ [], (vint w64 na ∷ [], (vint w64 nu ∷ [], (vptr (xacross .ptr .0) (xacross .ptr .1) ∷ [], (vptr (xupright .ptr .0) (xupright .ptr .1) ∷ [], (vptr bmask omask ∷ [], (machR wr ∷ [], (sliceVal (bout, oout) mout ∷ [], tt))))))))))))), tt) in
+      (‵ (flft κstems qstems) ⊛ (‵ (flft κcommands qcommands) ⊛ (‵ (flft κacross qacross) ⊛ (‵ (flft κupright qupright) ⊛ (‵ (flft κplaces qplaces) ⊛ (‵ (flft κout qout) ⊛ ‵ ftrue)))))) w)))
+  write-all-as known κstems qstems mstems bstems ostems γstems ysstems κcommands qcommands xcommands κacross qacross xacross κupright qupright xupright κplaces qplaces bplaces oplaces γplaces ysplaces κout qout mout bout oout γout ysout entries fold masked na nu wr entries-fits fold-fits na-fits nu-fits wr-fits need =
+      let y : WriteAllC 𝓤 H A mem run′ .Ghost = (((κstems, (κcommands, (κacross, (κupright, (κplaces, (κout, tt)))))), (qstems, (qcommands, (qacross, (qupright, (qplaces, (qout, tt)))))), tt, (at-list T.the-row mstems bstems ostems γstems ysstems, (xcommands, (entries, (fold, (masked, (na, (nu, (xacross, (xupright, (at-one (Array u8 96) bplaces oplaces γplaces ysplaces, (wr, (at-list u8 mout bout oout γout ysout, tt)))))))))))), (sliceVal (bstems, ostems) mstems ∷ [], (sliceVal (xcommands .ptr) (length (xcommands .now)) ∷ [], (vint w64 entries ∷ [], (machF fold ∷ [], (vbool masked ∷ [], (vint w64 na ∷ [], (vint w64 nu ∷ [], (vptr (xacross .ptr .0) (xacross .ptr .1) ∷ [], (vptr (xupright .ptr .0) (xupright .ptr .1) ∷ [], (vptr bplaces oplaces ∷ [], (machR wr ∷ [], (sliceVal (bout, oout) mout ∷ [], tt))))))))))))), tt) in
       via 𝓤 (WriteAllC 𝓤 H A mem run′ .pre y) (qed W (((‵ (flft κstems qstems) ⊛ ‵ (Own T.the-row mstems bstems ostems κstems γstems ysstems))
       ⊛ ((‵ (flft κcommands qcommands) ⊛ ‵ (ShrSlice (named 0) κcommands u64 .own xcommands (sliceVal (xcommands .ptr) (length (xcommands .now)) ∷ [])))
       ⊛ ((‵ (flft κacross qacross) ⊛ ‵ (ShrRef (named 0) κacross (Array f64 192) .own xacross (vptr (xacross .ptr .0) (xacross .ptr .1) ∷ [])))
       ⊛ ((‵ (flft κupright qupright) ⊛ ‵ (ShrRef (named 0) κupright (Array f64 192) .own xupright (vptr (xupright .ptr .0) (xupright .ptr .1) ∷ [])))
-      ⊛ ((‵ (flft κmask qmask) ⊛ ‵ (OwnR (Array bool 96) bmask omask κmask γmask ysmask)) ⊛ (‵ (flft κout qout) ⊛ ‵ (Own u8 mout bout oout κout γout ysout))))))) ∷ []) ∵ says ! need $ split ! $ move ! (1 ∷ []) $ split ! $
+      ⊛ ((‵ (flft κplaces qplaces) ⊛ ‵ (OwnR (Array u8 96) bplaces oplaces κplaces γplaces ysplaces)) ⊛ (‵ (flft κout qout) ⊛ ‵ (Own u8 mout bout oout κout γout ysout))))))) ∷ []) ∵ says ! need $ split ! $ move ! (1 ∷ []) $ split ! $
       move ! (1 ∷ []) $ split ! $ move ! (1 ∷ []) $ split ! $ move ! (1 ∷ []) $ split ! $ move ! (5 ∷ []) $ split ! $ move ! (6 ∷ []) $ split ! $ move ! (7 ∷ []) $ split ! $ move ! (8 ∷ []) $ split ! $ move ! (8 ∷ []) $
       split ! $ move ! (10 ∷ []) $ split ! $ nothing ! $ move ! (2 ∷ 0 ∷ []) $ fjoin ! $ owned ! R.the-row (Is R.the-row) (LL.makes R.the-type R′.the-plain 𝓤 H A) wr _ wr-fits $ fjoin ! $ move ! (3 ∷ 0 ∷ []) $ fjoin ! $
       move ! (4 ∷ 0 ∷ []) $ fjoin ! $ move ! (5 ∷ 0 ∷ []) $ fjoin ! $ owned ! usize (Is usize) (uint-makes 𝓤 H A W w64) nu _ (refl, nu-fits) $ fjoin ! $ owned ! usize (Is usize) (uint-makes 𝓤 H A W w64) na _ (refl, na-fits) $
@@ -318,27 +318,27 @@ module _ {M : Type 1} (𝓤 : URA M) (H : Heap 𝓤) (A : Atoms 𝓤) (mem : Mem
 
   pub convert-run-as : Triple 𝓤 (C #type1-to-type2·convert-run) (ConvertRunC 𝓤 H A mem run′) → (κstems : Lft) (qstems : Share) (mstems bstems ostems : ℕ) (γstems : GName) (ysstems : List Stem)
       (κcommands : Lft) (qcommands : Share) (mcommands bcommands ocommands : ℕ) (γcommands : GName) (yscommands : List ℕ) (κacross : Lft) (qacross : Share) (bacross oacross : ℕ) (γacross : GName) (ysacross : List Float)
-      (κupright : Lft) (qupright : Share) (bupright oupright : ℕ) (γupright : GName) (ysupright : List Float) (κmask : Lft) (qmask : Share) (bmask omask : ℕ) (γmask : GName) (ysmask : List Bool)
+      (κupright : Lft) (qupright : Share) (bupright oupright : ℕ) (γupright : GName) (ysupright : List Float) (κplaces : Lft) (qplaces : Share) (bplaces oplaces : ℕ) (γplaces : GName) (ysplaces : List ℕ)
       (κout : Lft) (qout : Share) (mout bout oout : ℕ) (γout : GName) (ysout : List ℕ) (ri : Interpreted) (number : ℕ) (m : Matrix) → Is I.the-row ri (machI ri ∷ []) → number < 2 ^ 64 → Is Z.the-row m (machZ m ∷ [])
-      → Stored (ri .entries) yscommands ysstems × Blank ysacross ysupright ysmask
+      → Stored (ri .entries) yscommands ysstems × Blank ysacross ysupright ysplaces
       → ent 𝓤 (mean 𝓤 H A ((‵ (flft κstems qstems) ⊛ ‵ (Own T.the-row mstems bstems ostems κstems γstems ysstems)) ⊛ ((‵ (flft κcommands qcommands) ⊛ ‵ (Own u64 mcommands bcommands ocommands κcommands γcommands yscommands))
       ⊛ ((‵ (flft κacross qacross) ⊛ ‵ (OwnR (Array f64 192) bacross oacross κacross γacross ysacross)) ⊛ ((‵ (flft κupright qupright) ⊛ ‵ (OwnR (Array f64 192) bupright oupright κupright γupright ysupright))
-      ⊛ ((‵ (flft κmask qmask) ⊛ ‵ (OwnR (Array bool 96) bmask omask κmask γmask ysmask)) ⊛ (‵ (flft κout qout) ⊛ ‵ (Own u8 mout bout oout κout γout ysout))))))))
-      (C #type1-to-type2·convert-run (machI ri ∷ vint w64 number ∷ machZ m ∷ sliceVal (bstems, ostems) mstems ∷ sliceVal (bcommands, ocommands) mcommands ∷ vptr bacross oacross ∷ vptr bupright oupright ∷ vptr bmask omask
-      ∷ sliceVal (bout, oout) mout ∷ []) (λ w. mean 𝓤 H A (GotAll 𝓤 G.the-row (Unit {0} × (Unit {0} × (Unit {0} × (List Stem × (List ℕ × (List Float × (List Float × (List Bool × (List ℕ × Unit {0})))))))))
+      ⊛ ((‵ (flft κplaces qplaces) ⊛ ‵ (OwnR (Array u8 96) bplaces oplaces κplaces γplaces ysplaces)) ⊛ (‵ (flft κout qout) ⊛ ‵ (Own u8 mout bout oout κout γout ysout))))))))
+      (C #type1-to-type2·convert-run (machI ri ∷ vint w64 number ∷ machZ m ∷ sliceVal (bstems, ostems) mstems ∷ sliceVal (bcommands, ocommands) mcommands ∷ vptr bacross oacross ∷ vptr bupright oupright ∷ vptr bplaces oplaces
+      ∷ sliceVal (bout, oout) mout ∷ []) (λ w. mean 𝓤 H A (GotAll 𝓤 G.the-row (Unit {0} × (Unit {0} × (Unit {0} × (List Stem × (List ℕ × (List Float × (List Float × (List ℕ × (List ℕ × Unit {0})))))))))
       (λ r lasts. (lasts .1 .1 .1 .0 ≡ ysstems) × ((lasts .1 .1 .1 .1 .0 ≡ yscommands) × Answers (fromRun number m (length ysout) ri yscommands ysstems) (length ysout) r (lasts .1 .1 .1 .1 .1 .1 .1 .1 .0)))
       (λ lasts. fsep ftrue (fsep ftrue (fsep ftrue (fsep (fsep (finally T.the-row γstems (lasts .1 .1 .1 .0)) (feq ℕ (length (lasts .1 .1 .1 .0)) (length ysstems)))
       (fsep (fsep (finally u64 γcommands (lasts .1 .1 .1 .1 .0)) (feq ℕ (length (lasts .1 .1 .1 .1 .0)) (length yscommands)))
       (fsep (fres γacross ((Array f64 192) .coded .code (lasts .1 .1 .1 .1 .1 .0)))
       (fsep (fres γupright ((Array f64 192) .coded .code (lasts .1 .1 .1 .1 .1 .1 .0)))
-      (fsep (fres γmask ((Array bool 96) .coded .code (lasts .1 .1 .1 .1 .1 .1 .1 .0)))
+      (fsep (fres γplaces ((Array u8 96) .coded .code (lasts .1 .1 .1 .1 .1 .1 .1 .0)))
       (fsep (fsep (finally u8 γout (lasts .1 .1 .1 .1 .1 .1 .1 .1 .0)) (feq ℕ (length (lasts .1 .1 .1 .1 .1 .1 .1 .1 .0)) (length ysout))) ftrue)))))))))
-      (‵ (flft κstems qstems) ⊛ (‵ (flft κcommands qcommands) ⊛ (‵ (flft κacross qacross) ⊛ (‵ (flft κupright qupright) ⊛ (‵ (flft κmask qmask) ⊛ (‵ (flft κout qout) ⊛ ‵ ftrue)))))) w)))
-  convert-run-as known κstems qstems mstems bstems ostems γstems ysstems κcommands qcommands mcommands bcommands ocommands γcommands yscommands κacross qacross bacross oacross γacross ysacross κupright qupright bupright oupright γupright ysupright κmask qmask bmask omask γmask ysmask κout qout mout bout oout γout ysout ri number m ri-fits number-fits m-fits need =
-      let y : ConvertRunC 𝓤 H A mem run′ .Ghost = (((κstems, (κcommands, (κacross, (κupright, (κmask, (κout, tt)))))), (qstems, (qcommands, (qacross, (qupright, (qmask, (qout, tt)))))), tt, (ri, (number, (m, (at-list T.the-row mstems bstems ostems γstems ysstems, (at-list u64 mcommands bcommands ocommands γcommands yscommands, (at-one (Array f64 192) bacross oacross γacross ysacross, (at-one (Array f64 192) bupright oupright γupright ysupright, (at-one (Array bool 96) bmask omask γmask ysmask, (at-list u8 mout bout oout γout ysout, tt))))))))), (machI ri ∷ [], (vint w64 number ∷ [], (machZ m ∷ [], (sliceVal (bstems, ostems) mstems ∷ [], (sliceVal (bcommands, ocommands) mcommands ∷ [], (vptr bacross oacross ∷ [], (vptr bupright oupright ∷ [], (vptr bmask omask ∷ [], (sliceVal (bout, oout) mout ∷ [], tt)))))))))), tt) in
+      (‵ (flft κstems qstems) ⊛ (‵ (flft κcommands qcommands) ⊛ (‵ (flft κacross qacross) ⊛ (‵ (flft κupright qupright) ⊛ (‵ (flft κplaces qplaces) ⊛ (‵ (flft κout qout) ⊛ ‵ ftrue)))))) w)))
+  convert-run-as known κstems qstems mstems bstems ostems γstems ysstems κcommands qcommands mcommands bcommands ocommands γcommands yscommands κacross qacross bacross oacross γacross ysacross κupright qupright bupright oupright γupright ysupright κplaces qplaces bplaces oplaces γplaces ysplaces κout qout mout bout oout γout ysout ri number m ri-fits number-fits m-fits need =
+      let y : ConvertRunC 𝓤 H A mem run′ .Ghost = (((κstems, (κcommands, (κacross, (κupright, (κplaces, (κout, tt)))))), (qstems, (qcommands, (qacross, (qupright, (qplaces, (qout, tt)))))), tt, (ri, (number, (m, (at-list T.the-row mstems bstems ostems γstems ysstems, (at-list u64 mcommands bcommands ocommands γcommands yscommands, (at-one (Array f64 192) bacross oacross γacross ysacross, (at-one (Array f64 192) bupright oupright γupright ysupright, (at-one (Array u8 96) bplaces oplaces γplaces ysplaces, (at-list u8 mout bout oout γout ysout, tt))))))))), (machI ri ∷ [], (vint w64 number ∷ [], (machZ m ∷ [], (sliceVal (bstems, ostems) mstems ∷ [], (sliceVal (bcommands, ocommands) mcommands ∷ [], (vptr bacross oacross ∷ [], (vptr bupright oupright ∷ [], (vptr bplaces oplaces ∷ [], (sliceVal (bout, oout) mout ∷ [], tt)))))))))), tt) in
       via 𝓤 (ConvertRunC 𝓤 H A mem run′ .pre y) (qed W (((‵ (flft κstems qstems) ⊛ ‵ (Own T.the-row mstems bstems ostems κstems γstems ysstems))
       ⊛ ((‵ (flft κcommands qcommands) ⊛ ‵ (Own u64 mcommands bcommands ocommands κcommands γcommands yscommands)) ⊛ ((‵ (flft κacross qacross) ⊛ ‵ (OwnR (Array f64 192) bacross oacross κacross γacross ysacross))
-      ⊛ ((‵ (flft κupright qupright) ⊛ ‵ (OwnR (Array f64 192) bupright oupright κupright γupright ysupright)) ⊛ ((‵ (flft κmask qmask) ⊛ ‵ (OwnR (Array bool 96) bmask omask κmask γmask ysmask)) ⊛
+      ⊛ ((‵ (flft κupright qupright) ⊛ ‵ (OwnR (Array f64 192) bupright oupright κupright γupright ysupright)) ⊛ ((‵ (flft κplaces qplaces) ⊛ ‵ (OwnR (Array u8 96) bplaces oplaces κplaces γplaces ysplaces)) ⊛
       (‵ (flft κout qout) ⊛ ‵ (Own u8 mout bout oout κout γout ysout))))))) ∷ []) ∵ says ! need $ split ! $ move ! (1 ∷ []) $ split ! $ move ! (1 ∷ []) $ split ! $ move ! (1 ∷ []) $ split ! $ move ! (1 ∷ []) $ split ! $
       move ! (5 ∷ []) $ split ! $ move ! (6 ∷ []) $ split ! $ move ! (7 ∷ []) $ split ! $ move ! (8 ∷ []) $ split ! $ move ! (8 ∷ []) $ split ! $ move ! (10 ∷ []) $ split ! $ nothing ! $ move ! (2 ∷ 0 ∷ []) $ fjoin ! $
       move ! (3 ∷ 0 ∷ []) $ fjoin ! $ move ! (4 ∷ 0 ∷ []) $ fjoin ! $ move ! (5 ∷ 0 ∷ []) $ fjoin ! $ move ! (6 ∷ 0 ∷ []) $ fjoin ! $ move ! (7 ∷ 0 ∷ []) $ fjoin ! $ owned ! Z.the-row (Is Z.the-row)

@@ -95,14 +95,14 @@ use Rattle.type1_to_type2.proofs.entry.convert_run as f
 use Rattle.type1_to_type2.proofs.entry.convert_run.Statement as stated
 use Rattle.type1_to_type2.proofs.entry.convert_run.Code as code
 use Rattle.type1_to_type2.proofs.entry.Callees.{FoldNewC, CountGroupsC, NoneCollectedC, CollectAllC, MakePlanC, BeginProgramC, WriteAllC, EndProgramC, Fold·new-as, count-groups-as, none-collected-as, collect-all-as, make-plan-as, begin-program-as, write-all-as, end-program-as}
-use Rattle.type1_to_type2.proofs.RunLaws.{few-none, run-answers}
+use Rattle.type1_to_type2.proofs.RunLaws.{few-none, run-tables, run-answers}
 
 abbrev pub stayed : Stays (f.ended .signature .params) (f.ended .kept)
-stayed = (stay-none (λ _. I.the-row) yes, (stay-none (λ _. u64) yes, (stay-none (λ _. Z.the-row) yes, (stay-slice (0 ∷ []) tt (plain (λ _. T.the-row)), (stay-slice (1 ∷ []) tt (plain (λ _. u64)), (stay-ref (2 ∷ []) tt (ArrayOf (plain (λ _. f64)) (λ _. tt) 192), (stay-ref (3 ∷ []) tt (ArrayOf (plain (λ _. f64)) (λ _. tt) 192), (stay-ref (4 ∷ []) tt (ArrayOf (plain (λ _. bool)) (λ _. tt) 96), (stay-slice (5 ∷ []) tt (plain (λ _. u8)), tt)))))))))
+stayed = (stay-none (λ _. I.the-row) yes, (stay-none (λ _. u64) yes, (stay-none (λ _. Z.the-row) yes, (stay-slice (0 ∷ []) tt (plain (λ _. T.the-row)), (stay-slice (1 ∷ []) tt (plain (λ _. u64)), (stay-ref (2 ∷ []) tt (ArrayOf (plain (λ _. f64)) (λ _. tt) 192), (stay-ref (3 ∷ []) tt (ArrayOf (plain (λ _. f64)) (λ _. tt) 192), (stay-ref (4 ∷ []) tt (ArrayOf (plain (λ _. u8)) (λ _. tt) 96), (stay-slice (5 ∷ []) tt (plain (λ _. u8)), tt)))))))))
 
 module _ {M : Type 1} (𝓤 : URA M) (H : Heap 𝓤) (A : Atoms 𝓤) (W : Given 𝓤 H A) (mem : Memory → SProp 𝓤) (run′ : Routine → Fun 𝓤) (𝓣 : Tables 𝓤 H) (κstems : Lft) (qstems : Share) (bstems ostems : ℕ) (γstems : GName)
     (ysstems : List Stem) (κcommands : Lft) (qcommands : Share) (bcommands ocommands : ℕ) (γcommands : GName) (yscommands : List ℕ) (κacross : Lft) (qacross : Share) (bacross oacross : ℕ) (γacross : GName) (ysacross : List Float)
-    (κupright : Lft) (qupright : Share) (bupright oupright : ℕ) (γupright : GName) (ysupright : List Float) (κmask : Lft) (qmask : Share) (bmask omask : ℕ) (γmask : GName) (ysmask : List Bool) (κout : Lft) (qout : Share)
+    (κupright : Lft) (qupright : Share) (bupright oupright : ℕ) (γupright : GName) (ysupright : List Float) (κplaces : Lft) (qplaces : Share) (bplaces oplaces : ℕ) (γplaces : GName) (ysplaces : List ℕ) (κout : Lft) (qout : Share)
     (bout oout : ℕ) (γout : GName) (ysout : List ℕ) (ri : Interpreted) (number : ℕ) (m : Matrix)
     (fitstems : Room T.the-row (length ysstems)) (fitcommands : Room u64 (length yscommands)) (fitout : Room u8 (length ysout)) (ri-fits : Is I.the-row ri (machI ri ∷ [])) (number-fits : number < 2 ^ 64) (m-fits : Is Z.the-row m (machZ m ∷ [])) where
   abbrev C : Calls 𝓤 H
@@ -123,31 +123,31 @@ module _ {M : Type 1} (𝓤 : URA M) (H : Heap 𝓤) (A : Atoms 𝓤) (W : Given
   abbrev mout : ℕ
   mout = length ysout
 
-  abbrev a : (Interpreted × (ℕ × (Matrix × (RefT (List Stem) × (RefT (List ℕ) × (RefT (List Float) × (RefT (List Float) × (RefT (List Bool) × (RefT (List ℕ) × Unit {0})))))))))
-  a = (ri, (number, (m, (at-list T.the-row mstems bstems ostems γstems ysstems, (at-list u64 mcommands bcommands ocommands γcommands yscommands, (at-one (Array f64 192) bacross oacross γacross ysacross, (at-one (Array f64 192) bupright oupright γupright ysupright, (at-one (Array bool 96) bmask omask γmask ysmask, (at-list u8 mout bout oout γout ysout, tt)))))))))
+  abbrev a : (Interpreted × (ℕ × (Matrix × (RefT (List Stem) × (RefT (List ℕ) × (RefT (List Float) × (RefT (List Float) × (RefT (List ℕ) × (RefT (List ℕ) × Unit {0})))))))))
+  a = (ri, (number, (m, (at-list T.the-row mstems bstems ostems γstems ysstems, (at-list u64 mcommands bcommands ocommands γcommands yscommands, (at-one (Array f64 192) bacross oacross γacross ysacross, (at-one (Array f64 192) bupright oupright γupright ysupright, (at-one (Array u8 96) bplaces oplaces γplaces ysplaces, (at-list u8 mout bout oout γout ysout, tt)))))))))
 
   abbrev vals : (List Val × (List Val × (List Val × (List Val × (List Val × (List Val × (List Val × (List Val × (List Val × Unit {0})))))))))
-  vals = (machI ri ∷ [], (vint w64 number ∷ [], (machZ m ∷ [], (sliceVal (bstems, ostems) mstems ∷ [], (sliceVal (bcommands, ocommands) mcommands ∷ [], (vptr bacross oacross ∷ [], (vptr bupright oupright ∷ [], (vptr bmask omask ∷ [], (sliceVal (bout, oout) mout ∷ [], tt)))))))))
+  vals = (machI ri ∷ [], (vint w64 number ∷ [], (machZ m ∷ [], (sliceVal (bstems, ostems) mstems ∷ [], (sliceVal (bcommands, ocommands) mcommands ∷ [], (vptr bacross oacross ∷ [], (vptr bupright oupright ∷ [], (vptr bplaces oplaces ∷ [], (sliceVal (bout, oout) mout ∷ [], tt)))))))))
 
   abbrev args : List Val
-  args = (machI ri ∷ vint w64 number ∷ machZ m ∷ sliceVal (bstems, ostems) mstems ∷ sliceVal (bcommands, ocommands) mcommands ∷ vptr bacross oacross ∷ vptr bupright oupright ∷ vptr bmask omask ∷ sliceVal (bout, oout) mout ∷ [])
+  args = (machI ri ∷ vint w64 number ∷ machZ m ∷ sliceVal (bstems, ostems) mstems ∷ sliceVal (bcommands, ocommands) mcommands ∷ vptr bacross oacross ∷ vptr bupright oupright ∷ vptr bplaces oplaces ∷ sliceVal (bout, oout) mout ∷ [])
 
   abbrev bound : tripleOf 𝓤 H A f.signature (f.spec 𝓤 H A mem run′) .Ghost
-  bound = (((κstems, (κcommands, (κacross, (κupright, (κmask, (κout, tt)))))), (qstems, (qcommands, (qacross, (qupright, (qmask, (qout, tt)))))), tt, (ri, (number, (m, (at-list T.the-row mstems bstems ostems γstems ysstems, (at-list u64 mcommands bcommands ocommands γcommands yscommands, (at-one (Array f64 192) bacross oacross γacross ysacross, (at-one (Array f64 192) bupright oupright γupright ysupright, (at-one (Array bool 96) bmask omask γmask ysmask, (at-list u8 mout bout oout γout ysout, tt))))))))), (machI ri ∷ [], (vint w64 number ∷ [], (machZ m ∷ [], (sliceVal (bstems, ostems) mstems ∷ [], (sliceVal (bcommands, ocommands) mcommands ∷ [], (vptr bacross oacross ∷ [], (vptr bupright oupright ∷ [], (vptr bmask omask ∷ [], (sliceVal (bout, oout) mout ∷ [], tt)))))))))), tt)
+  bound = (((κstems, (κcommands, (κacross, (κupright, (κplaces, (κout, tt)))))), (qstems, (qcommands, (qacross, (qupright, (qplaces, (qout, tt)))))), tt, (ri, (number, (m, (at-list T.the-row mstems bstems ostems γstems ysstems, (at-list u64 mcommands bcommands ocommands γcommands yscommands, (at-one (Array f64 192) bacross oacross γacross ysacross, (at-one (Array f64 192) bupright oupright γupright ysupright, (at-one (Array u8 96) bplaces oplaces γplaces ysplaces, (at-list u8 mout bout oout γout ysout, tt))))))))), (machI ri ∷ [], (vint w64 number ∷ [], (machZ m ∷ [], (sliceVal (bstems, ostems) mstems ∷ [], (sliceVal (bcommands, ocommands) mcommands ∷ [], (vptr bacross oacross ∷ [], (vptr bupright oupright ∷ [], (vptr bplaces oplaces ∷ [], (sliceVal (bout, oout) mout ∷ [], tt)))))))))), tt)
 
   abbrev Post : Val → SProp 𝓤
   Post = walkOf 𝓤 H A f.ended stayed (f.clauses 𝓤 H A mem run′) .post bound
 
-  exits : (r : Type2Glyph) (w : Val) (usstems : List Stem) (uscommands : List ℕ) (usacross : List Float) (usupright : List Float) (usmask : List Bool) (usout : List ℕ) → (usstems ≡ ysstems)
+  exits : (r : Type2Glyph) (w : Val) (usstems : List Stem) (uscommands : List ℕ) (usacross : List Float) (usupright : List Float) (usplaces : List ℕ) (usout : List ℕ) → (usstems ≡ ysstems)
       × ((uscommands ≡ yscommands) × Answers (fromRun number m (length ysout) ri yscommands ysstems) (length ysout) r usout) → length usstems ≡ mstems → length uscommands ≡ mcommands → length usout ≡ mout
       → ent 𝓤 (⋆ 𝓤 H A (‵ (G.the-row .own r (w ∷ [])) ∷ ‵ (Own T.the-row mstems bstems ostems κstems γstems usstems) ∷ ‵ (flft κstems qstems) ∷ ‵ (Own u64 mcommands bcommands ocommands κcommands γcommands uscommands)
       ∷ ‵ (flft κcommands qcommands) ∷ ‵ (OwnR (Array f64 192) bacross oacross κacross γacross usacross) ∷ ‵ (flft κacross qacross) ∷ ‵ (OwnR (Array f64 192) bupright oupright κupright γupright usupright)
-      ∷ ‵ (flft κupright qupright) ∷ ‵ (OwnR (Array bool 96) bmask omask κmask γmask usmask) ∷ ‵ (flft κmask qmask) ∷ ‵ (Own u8 mout bout oout κout γout usout) ∷ ‵ (flft κout qout) ∷ [])) (Post w)
-  exits r w usstems uscommands usacross usupright usmask usout e lstems lcommands lout =
+      ∷ ‵ (flft κupright qupright) ∷ ‵ (OwnR (Array u8 96) bplaces oplaces κplaces γplaces usplaces) ∷ ‵ (flft κplaces qplaces) ∷ ‵ (Own u8 mout bout oout κout γout usout) ∷ ‵ (flft κout qout) ∷ [])) (Post w)
+  exits r w usstems uscommands usacross usupright usplaces usout e lstems lcommands lout =
       qed W (‵ (G.the-row .own r (w ∷ [])) ∷ ‵ (Own T.the-row mstems bstems ostems κstems γstems usstems) ∷ ‵ (flft κstems qstems) ∷ ‵ (Own u64 mcommands bcommands ocommands κcommands γcommands uscommands)
       ∷ ‵ (flft κcommands qcommands) ∷ ‵ (OwnR (Array f64 192) bacross oacross κacross γacross usacross) ∷ ‵ (flft κacross qacross) ∷ ‵ (OwnR (Array f64 192) bupright oupright κupright γupright usupright)
-      ∷ ‵ (flft κupright qupright) ∷ ‵ (OwnR (Array bool 96) bmask omask κmask γmask usmask) ∷ ‵ (flft κmask qmask) ∷ ‵ (Own u8 mout bout oout κout γout usout) ∷ ‵ (flft κout qout) ∷ [])
-      ∵ suffices ! _ (ends-at 𝓤 H A f.ended stayed (f.clauses 𝓤 H A mem run′) W bound w r (tt, (tt, (tt, (usstems, (uscommands, (usacross, (usupright, (usmask, (usout, tt))))))))) (tt, (tt, (tt, (lstems, (lcommands, (tt, (tt, (tt, (lout, tt)))))))))) $
+      ∷ ‵ (flft κupright qupright) ∷ ‵ (OwnR (Array u8 96) bplaces oplaces κplaces γplaces usplaces) ∷ ‵ (flft κplaces qplaces) ∷ ‵ (Own u8 mout bout oout κout γout usout) ∷ ‵ (flft κout qout) ∷ [])
+      ∵ suffices ! _ (ends-at 𝓤 H A f.ended stayed (f.clauses 𝓤 H A mem run′) W bound w r (tt, (tt, (tt, (usstems, (uscommands, (usacross, (usupright, (usplaces, (usout, tt))))))))) (tt, (tt, (tt, (lstems, (lcommands, (tt, (tt, (tt, (lout, tt)))))))))) $
       says ! e $
       nothing ! $ move ! (13 ∷ 0 ∷ []) $ join ! $ move ! (11 ∷ 0 ∷ []) $ join ! $ move ! (9 ∷ 0 ∷ []) $ join ! $ move ! (7 ∷ 0 ∷ []) $ join ! $ move ! (5 ∷ 0 ∷ []) $ join ! $ move ! (3 ∷ 0 ∷ []) $ join ! $ frame ! $ nothing ! $
       move ! (7 ∷ 0 ∷ []) $ fjoin ! $ move ! (6 ∷ 0 ∷ []) $ fjoin ! $ move ! (5 ∷ 0 ∷ []) $ fjoin ! $ move ! (4 ∷ 0 ∷ []) $ fjoin ! $ move ! (3 ∷ 0 ∷ []) $ fjoin ! $ move ! (2 ∷ 0 ∷ []) $ fjoin ! $
@@ -158,12 +158,12 @@ module _ {M : Type 1} (𝓤 : URA M) (H : Heap 𝓤) (A : Atoms 𝓤) (W : Given
       (known-none-collected : Triple 𝓤 (C #type1-to-type2·none-collected) (NoneCollectedC 𝓤 H A mem run′)) (known-collect-all : Triple 𝓤 (C #type1-to-type2·collect-all) (CollectAllC 𝓤 H A mem run′))
       (known-make-plan : Triple 𝓤 (C #type1-to-type2·make-plan) (MakePlanC 𝓤 H A mem run′)) (known-begin-program : Triple 𝓤 (C #type1-to-type2·begin-program) (BeginProgramC 𝓤 H A mem run′))
       (known-write-all : Triple 𝓤 (C #type1-to-type2·write-all) (WriteAllC 𝓤 H A mem run′)) (known-end-program : Triple 𝓤 (C #type1-to-type2·end-program) (EndProgramC 𝓤 H A mem run′))
-      (need : Stored (ri .entries) yscommands ysstems × Blank ysacross ysupright ysmask) where
-    pub walk : ent 𝓤 (onEntry 𝓤 H A f.signature (κstems, (κcommands, (κacross, (κupright, (κmask, (κout, tt)))))) (qstems, (qcommands, (qacross, (qupright, (qmask, (qout, tt)))))) a vals) (WpFn 𝓤 H C Λ code.function args Post)
+      (need : Stored (ri .entries) yscommands ysstems × Blank ysacross ysupright ysplaces) where
+    pub walk : ent 𝓤 (onEntry 𝓤 H A f.signature (κstems, (κcommands, (κacross, (κupright, (κplaces, (κout, tt)))))) (qstems, (qcommands, (qacross, (qupright, (qplaces, (qout, tt)))))) a vals) (WpFn 𝓤 H C Λ code.function args Post)
     walk =
-        qed W ((‵ (flft κstems qstems) ⊛ (‵ (flft κcommands qcommands) ⊛ (‵ (flft κacross qacross) ⊛ (‵ (flft κupright qupright) ⊛ (‵ (flft κmask qmask) ⊛ (‵ (flft κout qout) ⊛ ‵ ftrue))))))
+        qed W ((‵ (flft κstems qstems) ⊛ (‵ (flft κcommands qcommands) ⊛ (‵ (flft κacross qacross) ⊛ (‵ (flft κupright qupright) ⊛ (‵ (flft κplaces qplaces) ⊛ (‵ (flft κout qout) ⊛ ‵ ftrue))))))
         ∷ ‵ (owns (I.the-row ∷ u64 ∷ Z.the-row ∷ MutSlice (named 0) κstems T.the-row ∷ MutSlice (named 1) κcommands u64 ∷ MutRef (named 2) κacross (Array f64 192) ∷ MutRef (named 3) κupright (Array f64 192)
-        ∷ MutRef (named 4) κmask (Array bool 96) ∷ MutSlice (named 5) κout u8 ∷ []) a vals) ∷ []) ∵ enter ! C Λ code.function args _ $
+        ∷ MutRef (named 4) κplaces (Array u8 96) ∷ MutSlice (named 5) κout u8 ∷ []) a vals) ∷ []) ∵ enter ! C Λ code.function args _ $
         alloc1 ! (λ l₀. alloc1 ! (λ l₁. alloc1 ! (λ l₂. alloc1 ! (λ l₃. alloc1 ! (λ l₄. alloc1 ! (λ l₅. alloc1 ! (λ l₆. alloc1 ! (λ l₇. alloc1 !
         (λ l₈. alloc1 ! (λ l₉. alloc1 ! (λ l₁₀. alloc1 ! (λ l₁₁. alloc1 ! (λ l₁₂. alloc1 ! (λ l₁₃. alloc1 ! (λ l₁₄. alloc1 ! (λ l₁₅. alloc1 !
         (λ l₁₆. alloc1 ! (λ l₁₇. alloc1 ! (λ l₁₈. alloc1 ! (λ l₁₉. alloc1 ! (λ l₂₀. alloc1 ! (λ l₂₁. alloc1 ! (λ l₂₂. alloc1 ! (λ l₂₃. alloc1 !
@@ -262,20 +262,20 @@ module _ {M : Type 1} (𝓤 : URA M) (H : Heap 𝓤) (A : Atoms 𝓤) (W : Given
         -- `write_all`
         move ! (8 ∷ 9 ∷ []) $ lend ! tt T.the-row mstems bstems ostems (zs4 .0) (lstems4) (λ νstems7 δstems7. move ! (8 ∷ 9 ∷ []) $ lend-shared ! tt u64 mcommands bcommands ocommands yscommands (refl)
         (λ νcommands7 δcommands7. move ! (8 ∷ 9 ∷ []) $ lend-shr ! tt (Array f64 192) bacross oacross (zs4 .1 .1 .1 .1 .1 .0)
-        (λ νacross7 δacross7. move ! (8 ∷ 9 ∷ []) $ lend-shr ! tt (Array f64 192) bupright oupright (zs4 .1 .1 .1 .1 .1 .1 .0) (λ νupright7 δupright7. move ! (10 ∷ 11 ∷ []) $ lend-ref ! tt (Array bool 96) bmask omask ysmask
-        (λ νmask7 δmask7. move ! (10 ∷ 11 ∷ []) $ lend ! tt u8 mout bout oout (zs6 .1 .1 .1 .0) (lout6) (λ νout7 δout7. move ! (2 ∷ 0 ∷ []) $ join ! $ move ! (3 ∷ 0 ∷ []) $ join ! $ move ! (4 ∷ 0 ∷ []) $ join ! $
+        (λ νacross7 δacross7. move ! (8 ∷ 9 ∷ []) $ lend-shr ! tt (Array f64 192) bupright oupright (zs4 .1 .1 .1 .1 .1 .1 .0) (λ νupright7 δupright7. move ! (10 ∷ 11 ∷ []) $ lend-ref ! tt (Array u8 96) bplaces oplaces ysplaces
+        (λ νplaces7 δplaces7. move ! (10 ∷ 11 ∷ []) $ lend ! tt u8 mout bout oout (zs6 .1 .1 .1 .0) (lout6) (λ νout7 δout7. move ! (2 ∷ 0 ∷ []) $ join ! $ move ! (3 ∷ 0 ∷ []) $ join ! $ move ! (4 ∷ 0 ∷ []) $ join ! $
         move ! (5 ∷ 0 ∷ []) $ join ! $ move ! (6 ∷ 0 ∷ []) $ join ! $ asks-all ! fm R.the-row (Is R.the-row) (shows 𝓤 H A R.the-row) (List Stem ×
-        (Unit {0} × (Unit {0} × (Unit {0} × (Unit {0} × (Unit {0} × (Unit {0} × (Unit {0} × (Unit {0} × (List Bool × (Unit {0} × (List ℕ × Unit {0})))))))))))) _
+        (Unit {0} × (Unit {0} × (Unit {0} × (Unit {0} × (Unit {0} × (Unit {0} × (Unit {0} × (Unit {0} × (List ℕ × (Unit {0} × (List ℕ × Unit {0})))))))))))) _
         (λ lasts. fsep (fsep (finally T.the-row δstems7 (lasts .0)) (feq ℕ (length (lasts .0)) (length (zs4 .0)))) (fsep ftrue (fsep ftrue
-        (fsep ftrue (fsep ftrue (fsep ftrue (fsep ftrue (fsep ftrue (fsep ftrue (fsep (fres δmask7 ((Array bool 96) .coded .code (lasts .1 .1 .1 .1 .1 .1 .1 .1 .1 .0)))
+        (fsep ftrue (fsep ftrue (fsep ftrue (fsep ftrue (fsep ftrue (fsep ftrue (fsep (fres δplaces7 ((Array u8 96) .coded .code (lasts .1 .1 .1 .1 .1 .1 .1 .1 .1 .0)))
         (fsep ftrue (fsep (fsep (finally u8 δout7 (lasts .1 .1 .1 .1 .1 .1 .1 .1 .1 .1 .1 .0)) (feq ℕ (length (lasts .1 .1 .1 .1 .1 .1 .1 .1 .1 .1 .1 .0)) (length (zs6 .1 .1 .1 .0)))) ftrue))))))))))))
         (‵ (flft (νstems7 ∷ []) fullShare) ⊛ (‵ (flft (νcommands7 ∷ []) fullShare) ⊛ (‵ (flft (νacross7 ∷ []) fullShare) ⊛
-        (‵ (flft (νupright7 ∷ []) fullShare) ⊛ (‵ (flft (νmask7 ∷ []) fullShare) ⊛
+        (‵ (flft (νupright7 ∷ []) fullShare) ⊛ (‵ (flft (νplaces7 ∷ []) fullShare) ⊛
         (‵ (flft (νout7 ∷ []) fullShare) ⊛ ‵ ftrue)))))) _ _ (write-all-as 𝓤 H A mem run′ W C known-write-all (νstems7 ∷ []) fullShare mstems bstems ostems δstems7 (zs4 .0) (νcommands7 ∷ []) fullShare
         (at-list u64 mcommands bcommands ocommands δcommands7 yscommands) (νacross7 ∷ []) fullShare (at-one (Array f64 192) bacross oacross δacross7 (zs4 .1 .1 .1 .1 .1 .0)) (νupright7 ∷ []) fullShare
-        (at-one (Array f64 192) bupright oupright δupright7 (zs4 .1 .1 .1 .1 .1 .1 .0)) (νmask7 ∷ []) fullShare bmask omask δmask7 ysmask (νout7 ∷ []) fullShare mout bout oout δout7 (zs6 .1 .1 .1 .0) ((ri .entries)) (r1) ((r5 .masked)) ((r5 .across)) ((r5 .upright)) (r6) ((LL.owed I.the-type I′.the-laws ri
+        (at-one (Array f64 192) bupright oupright δupright7 (zs4 .1 .1 .1 .1 .1 .1 .0)) (νplaces7 ∷ []) fullShare bplaces oplaces δplaces7 ysplaces (νout7 ∷ []) fullShare mout bout oout δout7 (zs6 .1 .1 .1 .0) ((ri .entries)) (r1) ((r5 .masked)) ((r5 .across)) ((r5 .upright)) (r6) ((LL.owed I.the-type I′.the-laws ri
         (machI ri ∷ []) ri-fits) .1 .1 .1 .0 .1) (mineF r1 w1 is1) ((LL.owed Q.the-type Q′.the-laws r5 (w5 ∷ []) is5) .1 .1 .0 .1) ((LL.owed Q.the-type Q′.the-laws r5 (w5 ∷ []) is5) .1 .1 .1 .0 .1)
-        (mineR r6 w6 is6) (subst (Stored (ri .entries) yscommands) (sym (e4 .0)) (need .0), (e5 .few, need .1 .mask-len))) (and-then ! (load ! (from ! (stop !)) (look ! 29 refl))
+        (mineR r6 w6 is6) (subst (Stored (ri .entries) yscommands) (sym (e4 .0)) (need .0), (run-tables number m r1 e1 ri yscommands ysstems (length ysout) r2 r3 r4 _ ysacross ysupright (zs4 .1 .1 .1 .1 .1 .0) (zs4 .1 .1 .1 .1 .1 .1 .0) r5 (need .1 .across-len) (need .1 .upright-len) e3 (e4 .1) e5, need .1 .places-len))) (and-then ! (load ! (from ! (stop !)) (look ! 29 refl))
         (and-then ! (load ! (from ! (stop !)) (look ! 25 refl)) (and-then ! (load ! (from ! (fld ! refl (stop !))) (look-in ! 87 (sub ! 3 refl (whole !))))
         (and-then ! (load ! (from ! (stop !)) (look ! 69 refl)) (and-then ! (load ! (from ! (fld ! refl (stop !))) (look-in ! 63 (sub ! 1 refl (whole !))))
         (and-then ! (load ! (from ! (fld ! refl (stop !))) (look-in ! 63 (sub ! 2 refl (whole !)))) (and-then ! (load ! (from ! (fld ! refl (stop !))) (look-in ! 63 (sub ! 3 refl (whole !))))
@@ -289,7 +289,7 @@ module _ {M : Type 1} (𝓤 : URA M) (H : Heap 𝓤) (A : Atoms 𝓤) (W : Given
         returned-shared ! tt u64 mcommands bcommands ocommands νcommands7 yscommands (refl) fitcommands (move ! (9 ∷ 13 ∷ []) $
         returned-shr ! tt (Array f64 192) bacross oacross νacross7 (zs4 .1 .1 .1 .1 .1 .0) (move ! (10 ∷ 13 ∷ []) $
         returned-shr ! tt (Array f64 192) bupright oupright νupright7 (zs4 .1 .1 .1 .1 .1 .1 .0) (move ! (11 ∷ 13 ∷ 9 ∷ []) $
-        returned-ref ! tt (Array bool 96) bmask omask νmask7 δmask7 ysmask (zs7 .1 .1 .1 .1 .1 .1 .1 .1 .1 .0) (move ! (11 ∷ 12 ∷ 10 ∷ []) $
+        returned-ref ! tt (Array u8 96) bplaces oplaces νplaces7 δplaces7 ysplaces (zs7 .1 .1 .1 .1 .1 .1 .1 .1 .1 .0) (move ! (11 ∷ 12 ∷ 10 ∷ []) $
         returned ! tt u8 mout bout oout νout7 δout7 (zs6 .1 .1 .1 .0) (zs7 .1 .1 .1 .1 .1 .1 .1 .1 .1 .1 .1 .0) (lout6) lout7 fitout (
         assigns ! (addr ! (from ! (fld ! refl (hop ! (look-in ! 84 (sub ! 0 refl (whole !))) (stop !))))) (from ! (stop !)) (init ! 18 refl (tt, tt)) $
         assigns ! (agg ! (and-then ! (load ! (from ! (stop !)) (look ! 18 refl)) (and-then ! (load ! (from ! (fld ! refl (stop !))) (look-in ! 84 (sub ! 1 refl (whole !)))) (no-more !)))) (from ! (stop !))
@@ -325,11 +325,11 @@ module _ {M : Type 1} (𝓤 : URA M) (H : Heap 𝓤) (A : Atoms 𝓤) (W : Given
       (C #type1-to-type2·begin-program) (BeginProgramC 𝓤 H A mem run′) → Triple 𝓤 (C #type1-to-type2·write-all) (WriteAllC 𝓤 H A mem run′) → Triple 𝓤 (C #type1-to-type2·end-program) (EndProgramC 𝓤 H A mem run′)
       → Meets 𝓤 H A f.signature (WpFn 𝓤 H (𝓣 .C) (𝓣 .Λ) code.function) (f.spec 𝓤 H A mem run′))
   meets 𝓣 k0 k1 k2 k3 k4 k5 k6 k7 = walk-meets 𝓤 H A f.ended stayed W
-      (goes-none 𝓤 H A W 6 (λ _. I.the-row) yes (λ κs x f. refl), (goes-none 𝓤 H A W 6 (λ _. u64) yes (λ κs x f. refl), (goes-none 𝓤 H A W 6 (λ _. Z.the-row) yes (λ κs x f. refl), (goes-slice 𝓤 H A W 6 0 tt (plain (λ _. T.the-row)), (goes-slice 𝓤 H A W 6 1 tt (plain (λ _. u64)), (goes-ref 𝓤 H A W 6 2 tt (ArrayOf (plain (λ _. f64)) (λ _. tt) 192), (goes-ref 𝓤 H A W 6 3 tt (ArrayOf (plain (λ _. f64)) (λ _. tt) 192), (goes-ref 𝓤 H A W 6 4 tt (ArrayOf (plain (λ _. bool)) (λ _. tt) 96), (goes-slice 𝓤 H A W 6 5 tt (plain (λ _. u8)), tt))))))))) (f.clauses 𝓤 H A mem run′)
+      (goes-none 𝓤 H A W 6 (λ _. I.the-row) yes (λ κs x f. refl), (goes-none 𝓤 H A W 6 (λ _. u64) yes (λ κs x f. refl), (goes-none 𝓤 H A W 6 (λ _. Z.the-row) yes (λ κs x f. refl), (goes-slice 𝓤 H A W 6 0 tt (plain (λ _. T.the-row)), (goes-slice 𝓤 H A W 6 1 tt (plain (λ _. u64)), (goes-ref 𝓤 H A W 6 2 tt (ArrayOf (plain (λ _. f64)) (λ _. tt) 192), (goes-ref 𝓤 H A W 6 3 tt (ArrayOf (plain (λ _. f64)) (λ _. tt) 192), (goes-ref 𝓤 H A W 6 4 tt (ArrayOf (plain (λ _. u8)) (λ _. tt) 96), (goes-slice 𝓤 H A W 6 5 tt (plain (λ _. u8)), tt))))))))) (f.clauses 𝓤 H A mem run′)
       (WpFn 𝓤 H (𝓣 .C) (𝓣 .Λ) code.function) (WpFn-mono 𝓤 H (W .laws) 𝓣 code.function)
       (walked 𝓤 H A f.ended stayed (f.clauses 𝓤 H A mem run′) (WpFn 𝓤 H (𝓣 .C) (𝓣 .Λ) code.function)
       (λ κs. (LL.vals I.the-type I′.the-laws, (uint-vals w64, (LL.vals Z.the-type Z′.the-laws, (slice-vals, (slice-vals, (ptr-vals, (ptr-vals, (ptr-vals, (slice-vals, tt))))))))))
-      (λ κs. (LL.tells I.the-type I′.the-laws, (uint-tells w64, (LL.tells Z.the-type Z′.the-laws, (mut-slice-tells (named 0) (κs .0) T.the-row, (mut-slice-tells (named 1) (κs .1 .0) u64, (mut-tells (named 2) (κs .1 .1 .0) (Array f64 192), (mut-tells (named 3) (κs .1 .1 .1 .0) (Array f64 192), (mut-tells (named 4) (κs .1 .1 .1 .1 .0) (Array bool 96), (mut-slice-tells (named 5) (κs .1 .1 .1 .1 .1 .0) u8, tt))))))))))
+      (λ κs. (LL.tells I.the-type I′.the-laws, (uint-tells w64, (LL.tells Z.the-type Z′.the-laws, (mut-slice-tells (named 0) (κs .0) T.the-row, (mut-slice-tells (named 1) (κs .1 .0) u64, (mut-tells (named 2) (κs .1 .1 .0) (Array f64 192), (mut-tells (named 3) (κs .1 .1 .1 .0) (Array f64 192), (mut-tells (named 4) (κs .1 .1 .1 .1 .0) (Array u8 96), (mut-slice-tells (named 5) (κs .1 .1 .1 .1 .1 .0) u8, tt))))))))))
       (λ κs qs bounds a g are. needs 𝓤 (Stored ((a .0) .entries) (a .1 .1 .1 .1 .0 .now) (a .1 .1 .1 .0 .now) × Blank (a .1 .1 .1 .1 .1 .0 .now) (a .1 .1 .1 .1 .1 .1 .0 .now) (a .1 .1 .1 .1 .1 .1 .1 .0 .now)) _
       (λ need. walk 𝓤 H A W mem run′ 𝓣 (κs .0) (qs .0) ((a .1 .1 .1 .0) .ptr .0) ((a .1 .1 .1 .0) .ptr .1) ((a .1 .1 .1 .0) .name) ((a .1 .1 .1 .0) .now) (κs .1 .0) (qs .1 .0) ((a .1 .1 .1 .1 .0) .ptr .0)
       ((a .1 .1 .1 .1 .0) .ptr .1) ((a .1 .1 .1 .1 .0) .name) ((a .1 .1 .1 .1 .0) .now) (κs .1 .1 .0) (qs .1 .1 .0) ((a .1 .1 .1 .1 .1 .0) .ptr .0) ((a .1 .1 .1 .1 .1 .0) .ptr .1) ((a .1 .1 .1 .1 .1 .0) .name)
