@@ -3,14 +3,14 @@ use mathlib.Core.Path.{_≡_, refl, sym, ap, ap₂, _∙_, subst}
 use Prim.Native.Nat.{ℕ, zero, suc, _+_, _-_, _≤_, _<_}
 use native.Mathlib.Omega.{arith}
 use mathlib.Core.Bool.{Bool, true, false, not, _&&_, _||_, Bool·beq, or-false, and-true, and-false, true≢false}
-use mathlib.Core.List.{List, [], _∷_, _++_, append-nil}
+use mathlib.Core.List.{List, [], _∷_, _++_}
 use borrow.Author.Tests.{eqb-true, eqb-false, ltb-true, ltb-false, lt-ltb, ne-eqb, eq-eqb}
 use lib.Dec.{eqb, ltb}
 use lib.ListN.{length, getD, set, take, length-set, length-append, List·getD-append}
 use lib.Seq.{ext-getD, getD-set-same, getD-set-other, getD-append-add}
 use lib.Ieee.{Float, eq}
 use Rattle.outline.specs.declared.Stem.{Stem}
-use Rattle.outline.specs.Outline.{stemOf, sameStem, isIn}
+use Rattle.outline.specs.Outline.{sameStem, isIn}
 use Rattle.type1_to_type2.specs.Stems.{maskOf}
 use Rattle.type1_to_type2.specs.Table.{tableStems}
 use Rattle.type1_to_type2.specs.Collecting.{tableStem, Finds}

@@ -8,8 +8,8 @@ use mathlib.Core.Bool.{Bool, true, false}
 use lib.Dec.{leb}
 use borrow.Author.Tests.{leb-true, leb-false}
 use mathlib.Core.List.{List, [], _∷_, _++_}
-use lib.ListN.{length, take, drop, getD, replicate, length-take, length-drop, drop-of-length-le, List·getD-eq-default}
-use lib.Seq.{getD-take, getD-drop, drop-drop}
+use lib.ListN.{length, take, drop, getD, replicate, length-drop, drop-of-length-le}
+use lib.Seq.{getD-drop, drop-drop}
 use Rattle.type1.specs.Run.{pointAt}
 use Rattle.type2.specs.Instruction.{bit, value, packed, maskBytes}
 use Rattle.type1_to_type2.proofs.Writes.{put-nil, put-cons}

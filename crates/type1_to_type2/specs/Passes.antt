@@ -1,7 +1,7 @@
 -- Definitions: what the functions that hold the stem store leave. Document 01, "Forms of the Rust that need another": "the caller lends the stem store as a slice of stem records".
 use Prim.Native.Nat.{ℕ, zero, suc, _+_, _*_, _≤_, _<_}
 use mathlib.Core.Path.{_≡_}
-use mathlib.Core.Bool.{Bool, true, false}
+use mathlib.Core.Bool.{true, false}
 use mathlib.Core.List.{List, [], _++_}
 use lib.ListN.{length, take, drop}
 use lib.Ieee.{Float}

@@ -2,7 +2,6 @@
 -- Assumes nothing.
 use mathlib.Core.Path.{_≡_, refl, sym, _∙_, ap, subst}
 use Prim.Native.Nat.{ℕ, _<_, _^_}
-use mathlib.Core.Bool.{Bool}
 use mathlib.Core.List.{[], _∷_, List}
 use lib.ListN.{length}
 use lib.Ieee.{Float}
@@ -24,7 +23,7 @@ use sound.WpLaws.{FmC, fmOf, WpFn-mono}
 use denote.RattleType.{owns}
 use denote.Laws.{Is, shows}
 use denote.Plain.{uint-makes, uint-lawful, uint-vals, uint-tells}
-use denote.Builtin.{u8, u64, usize, f64, bool, ArrayOf}
+use denote.Builtin.{u8, u64, usize, f64, ArrayOf}
 use denote.Array.{Array}
 use denote.Ref.{RefT, MutRef, ptr-vals, mut-tells}
 use denote.Slice.{sliceVal, MutSlice, Room, finally, slice-vals, mut-slice-tells}

@@ -1,3 +1,4 @@
+-- `type1_to_type2::writing::write_mask` meets its contract.
 use Rattle.type1_to_type2.proofs.Masking.{mask-step, mask-end}
 use Rattle.type1_to_type2.specs.Writing.{Written, put}
 use Rattle.type1_to_type2.specs.Streaming.{resumed, Still}
@@ -8,15 +9,10 @@ use Prim.Native.Nat.{ℕ, _-_}
 use mathlib.Core.List.{List}
 use mathlib.Core.Bool.{Bool}
 use mathlib.Core.Path.{_≡_, refl, _∙_}
-use borrow.Author.Needs.{needs, fits-under}
+use borrow.Author.Needs.{fits-under}
 use native.Mathlib.Omega.{arith}
 use Rattle.type1_to_type2.proofs.writing.write_mask.Statement.{statement}
 use Rattle.type1_to_type2.proofs.writing.write_mask.Tie as tie
-use Rattle.type1_to_type2.proofs.writing.write_mask.Reads as reads
-use Rattle.type1_to_type2.proofs.writing.write_mask.Lts as lts
-use Rattle.type1_to_type2.proofs.masks.mask_byte.Reads as mask-byte-reads
-use Rattle.type1_to_type2.proofs.writing.flush.Reads as flush-reads
-use Rattle.type1_to_type2.proofs.writing.put_byte.Reads as put-byte-reads
 
 abbrev Inv-loop : tie.InvT-loop
 Inv-loop n k places out₀ r₀ j₀ i₀ out r j i =
@@ -26,22 +22,18 @@ Inv-loop n k places out₀ r₀ j₀ i₀ out r j i =
 abbrev μ-loop : tie.MeasureT-loop
 μ-loop n k places out₀ r₀ j₀ i₀ out r j i = n - i
 
--- src/writing.rt:170:9
 flush-requires : tie.Need-flush-requires Inv-loop μ-loop
 flush-requires c κs =
     tt
 
--- src/writing.rt:171:9
 put-byte-requires : tie.Need-put-byte-requires Inv-loop μ-loop
 put-byte-requires c κs =
     tt
 
--- src/writing.rt:174:5
 loop-holds : tie.Need-loop-holds Inv-loop μ-loop
 loop-holds c =
     (λ b l e. (e, λ f. refl), (record { x = refl; y = refl; waits = refl; held = refl }, refl))
 
--- src/writing.rt:175:13
 cast-i : tie.Need-cast-mask-byte Inv-loop μ-loop
 cast-i c =
     fits-under _ _ 96 (omega (arith, c .loop-test .taken, c .before .before .before .before .before .before .before .before .before .before .before .pre .0)) tt
@@ -50,22 +42,18 @@ mask-byte-requires : tie.Need-mask-byte-requires Inv-loop μ-loop
 mask-byte-requires c κs =
     (omega (arith, c .loop-test .taken, c .before .before .before .before .before .before .before .before .before .before .before .pre .0), c .before .before .before .before .before .before .before .before .before .before .before .pre .1)
 
--- src/writing.rt:176:9
 put-byte-requires-2 : tie.Need-put-byte-requires-2 Inv-loop μ-loop
 put-byte-requires-2 c κs =
     tt
 
--- src/writing.rt:178:9
 add-i : tie.Need-add-i Inv-loop μ-loop
 add-i c =
     omega (arith, c .before .before .before .before .before .before .before .before .before .before .before .before .before .before .before .before .pre .0, c .before .before .before .before .before .loop-test .taken)
 
--- src/writing.rt:174:5
 loop-less : tie.Need-loop-less Inv-loop μ-loop
 loop-less c =
     omega (arith, c .before .before .before .before .before .loop-test .taken)
 
--- src/writing.rt:174:5
 loop-again : tie.Need-loop-again Inv-loop μ-loop
 loop-again c =
     let p = c .before .before .put-byte2 .ensures in let inv = c .before .before .before .before .before .before .loop .inv in let s = p .1 .0 in let q = inv .1 .0 in let m = c .before .before .before .before .mask-byte .ensures in (
@@ -73,12 +61,10 @@ loop-again c =
       (record { x = s .x ∙ q .x; y = s .y ∙ q .y; waits = s .waits ∙ q .waits; held = s .held ∙ q .held }, p .0 .same ∙ inv .1 .1),
     )
 
--- src/writing.rt:165:1
 same-length : tie.Need-same-length Inv-loop μ-loop
 same-length c =
     c .before .loop .inv .1 .1 ∙ c .before .before .before .before .put-byte .ensures .0 .same ∙ c .before .before .before .before .before .before .before .before .flush .ensures .puts .same
 
--- src/writing.rt:165:1
 returns : tie.Need-returns Inv-loop μ-loop
 returns c =
     (c .before .loop .inv .1 .1 ∙ c .before .before .before .before .put-byte .ensures .0 .same ∙ c .before .before .before .before .before .before .before .before .flush .ensures .puts .same, λ b l e. mask-end b (c .before .loop .i) (omega (arith, l, c .loop-test .left)) (c .before .before .before .before .before .before .before .before .flush .ensures) (c .before .before .before .before .put-byte .ensures .0) (c .before .before .before .before .put-byte .ensures .1 .0) (c .before .loop .inv .0 b l e .1) (c .before .loop .inv .1 .0) (c .before .loop .inv .1 .1))
