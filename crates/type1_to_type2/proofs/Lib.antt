@@ -3,7 +3,7 @@ pub mod Folds
 pub mod StemOrder
 pub mod TableLaws
 pub mod Ordering
-pub mod Marks
+pub mod StemBits
 pub mod Coordinates
 pub mod Writes
 pub mod Draws

@@ -29,14 +29,15 @@ eight (a ∷ b ∷ c ∷ d ∷ e ∷ f ∷ []) = refl
 eight (a ∷ b ∷ c ∷ d ∷ e ∷ f ∷ g ∷ []) = refl
 eight (a ∷ b ∷ c ∷ d ∷ e ∷ f ∷ g ∷ h ∷ l) = refl
 
-value-eight : (a b c d e f g h : Bool) → value (a ∷ b ∷ c ∷ d ∷ e ∷ f ∷ g ∷ h ∷ []) ≡ (bit a * 8 + bit b * 4 + bit c * 2 + bit d) * 16 + (bit e * 8 + bit f * 4 + bit g * 2 + bit h)
+value-eight : (a b c d e f g h : Bool) → value (a ∷ b ∷ c ∷ d ∷ e ∷ f ∷ g ∷ h ∷ []) ≡ ((((((bit a * 2 + bit b) * 2 + bit c) * 2 + bit d) * 2 + bit e) * 2 + bit f) * 2 + bit g) * 2 + bit h
 unfolding value
 value-eight a b c d e f g h = omega arith
 
-pub byte-of : (l : List Bool) (i a b c d e f g h : ℕ) → a ≡ bit (getD l i false) → b ≡ bit (getD l (i + 1) false) → c ≡ bit (getD l (i + 2) false) → d ≡ bit (getD l (i + 3) false) → e ≡ bit (getD l (i + 4) false) → f ≡ bit (getD l (i + 5) false) → g ≡ bit (getD l (i + 6) false) → h ≡ bit (getD l (i + 7) false) →
-    (a * 8 + b * 4 + c * 2 + d) * 16 + (e * 8 + f * 4 + g * 2 + h) ≡ value (take 8 (drop i l ++ replicate 8 false))
-byte-of l i a b c d e f g h pa pb pc pd pe pf pg ph =
-    rw (eight (drop i l), value-eight (getD (drop i l) 0 false) (getD (drop i l) 1 false) (getD (drop i l) 2 false) (getD (drop i l) 3 false) (getD (drop i l) 4 false) (getD (drop i l) 5 false) (getD (drop i l) 6 false) (getD (drop i l) 7 false), getD-drop i l 0 false, getD-drop i l 1 false, getD-drop i l 2 false, getD-drop i l 3 false, getD-drop i l 4 false, getD-drop i l 5 false, getD-drop i l 6 false, getD-drop i l 7 false, add-zero i, pa, pb, pc, pd, pe, pf, pg, ph)
+pub byte-of : (l : List Bool) (i : ℕ) →
+    ((((((bit (getD l i false) * 2 + bit (getD l (i + 1) false)) * 2 + bit (getD l (i + 2) false)) * 2 + bit (getD l (i + 3) false)) * 2 + bit (getD l (i + 4) false)) * 2 + bit (getD l (i + 5) false)) * 2 + bit (getD l (i + 6) false)) * 2 + bit (getD l (i + 7) false)
+    ≡ value (take 8 (drop i l ++ replicate 8 false))
+byte-of l i =
+    rw (eight (drop i l), value-eight (getD (drop i l) 0 false) (getD (drop i l) 1 false) (getD (drop i l) 2 false) (getD (drop i l) 3 false) (getD (drop i l) 4 false) (getD (drop i l) 5 false) (getD (drop i l) 6 false) (getD (drop i l) 7 false), getD-drop i l 0 false, getD-drop i l 1 false, getD-drop i l 2 false, getD-drop i l 3 false, getD-drop i l 4 false, getD-drop i l 5 false, getD-drop i l 6 false, getD-drop i l 7 false, add-zero i)
 
 -- ---- a byte more
 count-more : (n : ℕ) → 1 ≤ n → (n + 7) / 8 ≡ suc ((n - 8 + 7) / 8)

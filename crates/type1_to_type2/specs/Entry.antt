@@ -88,7 +88,7 @@ pub record Answers (x : Conversion) (room : ℕ) (g : Type2Glyph) (out : List �
   pub bytes : out ≡ output room x
 
 -- the entry's arrays have their lengths
-pub record Blank (across upright : List Float) (places : List ℕ) : Type 0 where
+pub record Lengths (across upright : List Float) (places : List ℕ) : Type 0 where
   pub across-len : length across ≡ 192
   pub upright-len : length upright ≡ 192
   pub places-len : length places ≡ 96

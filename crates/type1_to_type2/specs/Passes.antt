@@ -42,8 +42,8 @@ abbrev pub Listed : List Stem → ℕ → ℕ → List Float → List Float → 
 Listed l na nu ta tu k t = take k t ≡ placesFrom 0 (maskOf l (both na nu ta tu))
 
 -- the places of folded stems g were put among those of the stems before them
-abbrev pub Places : List Stem → ℕ → ℕ → List Float → List Float → ℕ → List ℕ → ℕ → List ℕ → Type 0
-Places g na nu ta tu k t k′ t′ = (length t′ ≡ length t) × ((k′ ≤ 96) × ((l : List Stem) → Listed l na nu ta tu k t → Listed (l ++ g) na nu ta tu k′ t′))
+abbrev pub ListsMore : List Stem → ℕ → ℕ → List Float → List Float → ℕ → List ℕ → ℕ → List ℕ → Type 0
+ListsMore g na nu ta tu k t k′ t′ = (length t′ ≡ length t) × ((k′ ≤ 96) × ((l : List Stem) → Listed l na nu ta tu k t → Listed (l ++ g) na nu ta tu k′ t′))
 
 -- the folded stems of the group that starts at entry e, none where no group does
 unfoldable pub groupAt : Fold → List ℕ → List Stem → ℕ → List Stem

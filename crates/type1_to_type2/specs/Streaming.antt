@@ -1,7 +1,7 @@
 -- Definitions: a program written as its parts come, an operator once no more operands share it; and what the code has yet to write. Document 01, "Path", "Stems and masks", "Numbers the board logs": "writing in byte order".
 use mathlib.Core.Path.{_≡_}
 use Prim.Native.Nat.{ℕ, zero, suc, _+_, _-_, _%_, _≤_, _<_}
-use mathlib.Core.Bool.{Bool, _&&_}
+use mathlib.Core.Bool.{Bool, true, _&&_}
 use mathlib.Core.List.{List, [], _∷_, _++_}
 use lib.ListN.{length, take, replicate}
 use lib.Dec.{eqb, leb}
@@ -172,6 +172,6 @@ abbrev pub Ends : ℕ → Written → Writer → List ℕ → Type 0
 Ends room (refused k) r out = (0 < k) × ((r .number ≡ k) × ((r .next ≡ 0) × (out ≡ replicate room 0)))
 Ends room (wrote b) r out = (r .number ≡ 0) × ((r .next ≡ length b) × (out ≡ b ++ replicate (room - length b) 0))
 
--- entry e is written, where n stems are declared; g are the stems of the group that it starts, if it starts one, and p their places
+-- entry e is written, where n stems are declared; g are the stems of the group that it starts, if it starts one, and p their places where masks are needed
 abbrev pub Writes : Bool → Fold → List ℕ → ℕ → ℕ → List ℕ → Writer → List ℕ → Writer → List ℕ → Type 0
-Writes masked fold c e n p w out r out′ = ((ss g : List Stem) (cs : List Cmd) → length ss ≡ n → p ≡ placesFrom 0 (maskOf g ss) → resumedAll masked ss r out′ cs ≡ resumedAll masked ss w out (cmdsIn fold c e g ++ cs)) × (length out′ ≡ length out)
+Writes masked fold c e n p w out r out′ = ((ss g : List Stem) (cs : List Cmd) → length ss ≡ n → (masked ≡ true → p ≡ placesFrom 0 (maskOf g ss)) → resumedAll masked ss r out′ cs ≡ resumedAll masked ss w out (cmdsIn fold c e g ++ cs)) × (length out′ ≡ length out)

@@ -10,7 +10,7 @@ ghost use Rattle.outline.specs.Store.{entryWords, word, commandIn, drawnIn};
 ghost use Rattle.type1.specs.Memory.{Good};
 ghost use Rattle.type1.specs.Sound.{All, OfCommand};
 ghost use Rattle.folding.specs.Folding.{foldedPoint, foldedList, finiteList, finitePoint};
-ghost use Rattle.type1_to_type2.specs.Collecting.{firstOf, countOf};
+ghost use Rattle.type1_to_type2.specs.Collecting.{firstOf, countOf, maskCount};
 ghost use Rattle.type1_to_type2.specs.Entry.{groupCount};
 use folding::Fold;
 use outline::CURVE;
@@ -47,6 +47,17 @@ pub(crate) fn count_of(commands: &[u64], e: usize) -> usize
     let at = ENTRY * e;
     if commands[at] == GROUP {
         return commands[at + 2] as usize;
+    }
+    0
+}
+
+// How many records its mask is made of: none where no masks are needed.
+pub(crate) fn mask_count(masked: bool, commands: &[u64], e: usize) -> usize
+    requires { ⌜ entryWords * e + entryWords ≤ length (now commands) ⌝ }
+    ensures { λ r. ⌜ r ≡ maskCount masked (now (commands .entry)) e ⌝ }
+{
+    if masked {
+        return count_of(commands, e);
     }
     0
 }

@@ -110,7 +110,7 @@ fn end_entry(commands: &[u64], e: usize, kind: u64, w: Writer, out: &mut [u8]) -
     put_byte(T2_FLEX, b, out)
 }
 
-// Entry e of the command store: a path command, or where `masked` a group's start, of whose stems the first k places are.
+// Entry e of the command store: a path command, or where `masked` a group's start; the first k of `places` are its stems'.
 pub(crate) fn write_entry(
     commands: &[u64],
     e: usize,

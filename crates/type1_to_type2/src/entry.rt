@@ -15,7 +15,7 @@ ghost use Rattle.type1_to_type2.specs.Convert.{glyphOf, writes};
 ghost use Rattle.type1_to_type2.specs.Collecting.{Counted};
 ghost use Rattle.type1_to_type2.specs.Streaming.{resumedAll};
 ghost use Rattle.type1_to_type2.specs.Passes.{Stored};
-ghost use Rattle.type1_to_type2.specs.Entry.{Blank, Planned, Opens, firstNumber, fromRun, settles, Answers};
+ghost use Rattle.type1_to_type2.specs.Entry.{Lengths, Planned, Opens, firstNumber, fromRun, settles, Answers};
 use crate::Collected;
 use crate::Plan;
 use crate::Type2Glyph;
@@ -133,7 +133,7 @@ fn convert_run(
     places: &mut [u8; 96],
     out: &mut [u8],
 ) -> Type2Glyph
-    requires { ⌜ Stored (r .entries) (now commands) (now stems) × Blank (now across) (now upright) (now places) ⌝ }
+    requires { ⌜ Stored (r .entries) (now commands) (now stems) × Lengths (now across) (now upright) (now places) ⌝ }
     ensures { λ g. ⌜ (now (stems .exit) ≡ now (stems .entry)) × ((now (commands .exit) ≡ now (commands .entry)) ×
         Answers (fromRun number m (length (now (out .entry))) r (now (commands .entry)) (now (stems .entry))) (length (now (out .entry))) g (now (out .exit))) ⌝ }
 {

@@ -3,7 +3,7 @@ ghost use mathlib.Core.Path.{_≡_};
 ghost use mathlib.Core.Bool.{Bool, true};
 ghost use mathlib.Core.List.{List, [], _∷_};
 ghost use Prim.Native.Nat.{_+_, _≤_, _<_};
-ghost use lib.ListN.{length, take};
+ghost use lib.ListN.{length, set, take};
 ghost use Rattle.outline.specs.Outline.{move};
 ghost use Rattle.outline.specs.declared.Stem.{Stem};
 ghost use Rattle.type1.specs.Run.{pointAt};
@@ -59,6 +59,14 @@ pub(crate) fn put_number(v: f64, w: Writer, out: &mut [u8]) -> Writer
     r
 }
 
+// A byte over what lay there.
+fn write_byte(b: u8, at: usize, out: &mut [u8])
+    requires { ⌜ at < length (now out) ⌝ }
+    ensures { λ _. ⌜ now (out .exit) ≡ set (now (out .entry)) at b ⌝ }
+{
+    out[at] = b;
+}
+
 // An operator, or a byte of a mask.
 pub(crate) fn put_byte(b: u8, w: Writer, out: &mut [u8]) -> Writer
     ensures { λ r. ⌜ Puts (λ f left. put left (b ∷ []) f) w (now (out .entry)) r (now (out .exit)) ⌝ }
@@ -74,7 +82,7 @@ pub(crate) fn put_byte(b: u8, w: Writer, out: &mut [u8]) -> Writer
         r.number = 18;
         return r;
     }
-    out[at] = b;
+    write_byte(b, at, out);
     r.next = at + 1;
     r
 }

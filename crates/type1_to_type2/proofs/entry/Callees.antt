@@ -66,7 +66,7 @@ use Rattle.type1_to_type2.specs.Passes.{Gathers, BothTables, both, stems
 use Rattle.geometry.specs.Transform.{identity}
 use Rattle.type1.specs.Interpret.{sourceOf, outcome, Leaves}
 use Rattle.type1_to_type2.specs.Convert.{glyphOf, writes, roomsOf}
-use Rattle.type1_to_type2.specs.Entry.{Blank, groupCount, noneOf, Planned, Opens, firstNumber, fromRun, settles, Answers, ConvertsFrom}
+use Rattle.type1_to_type2.specs.Entry.{Lengths, groupCount, noneOf, Planned, Opens, firstNumber, fromRun, settles, Answers, ConvertsFrom}
 use Rattle.folding.specs.Folding.{foldOf, foldedList, finiteList}
 use Rattle.folding.proofs.Fold.new as Fold·new-f
 use Rattle.folding.proofs.Fold.new.Symbol.{name as #folding·Fold·new}
@@ -320,7 +320,7 @@ module _ {M : Type 1} (𝓤 : URA M) (H : Heap 𝓤) (A : Atoms 𝓤) (mem : Mem
       (κcommands : Lft) (qcommands : Share) (mcommands bcommands ocommands : ℕ) (γcommands : GName) (yscommands : List ℕ) (κacross : Lft) (qacross : Share) (bacross oacross : ℕ) (γacross : GName) (ysacross : List Float)
       (κupright : Lft) (qupright : Share) (bupright oupright : ℕ) (γupright : GName) (ysupright : List Float) (κplaces : Lft) (qplaces : Share) (bplaces oplaces : ℕ) (γplaces : GName) (ysplaces : List ℕ)
       (κout : Lft) (qout : Share) (mout bout oout : ℕ) (γout : GName) (ysout : List ℕ) (ri : Interpreted) (number : ℕ) (m : Matrix) → Is I.the-row ri (machI ri ∷ []) → number < 2 ^ 64 → Is Z.the-row m (machZ m ∷ [])
-      → Stored (ri .entries) yscommands ysstems × Blank ysacross ysupright ysplaces
+      → Stored (ri .entries) yscommands ysstems × Lengths ysacross ysupright ysplaces
       → ent 𝓤 (mean 𝓤 H A ((‵ (flft κstems qstems) ⊛ ‵ (Own T.the-row mstems bstems ostems κstems γstems ysstems)) ⊛ ((‵ (flft κcommands qcommands) ⊛ ‵ (Own u64 mcommands bcommands ocommands κcommands γcommands yscommands))
       ⊛ ((‵ (flft κacross qacross) ⊛ ‵ (OwnR (Array f64 192) bacross oacross κacross γacross ysacross)) ⊛ ((‵ (flft κupright qupright) ⊛ ‵ (OwnR (Array f64 192) bupright oupright κupright γupright ysupright))
       ⊛ ((‵ (flft κplaces qplaces) ⊛ ‵ (OwnR (Array u8 96) bplaces oplaces κplaces γplaces ysplaces)) ⊛ (‵ (flft κout qout) ⊛ ‵ (Own u8 mout bout oout κout γout ysout))))))))

@@ -5,7 +5,7 @@ use native.Mathlib.Omega.{arith}
 use mathlib.Core.Path.{refl, ap, _∙_}
 use lib.ListN.{take}
 use Rattle.type1_to_type2.specs.Stems.{maskOf}
-use Rattle.type1_to_type2.proofs.Marks.{mask-length}
+use Rattle.type1_to_type2.proofs.StemBits.{mask-length}
 use mathlib.Core.Bool.{true}
 use mathlib.Core.List.{[]}
 use borrow.Author.Needs.{needs}
@@ -22,7 +22,7 @@ returns c =
 
 returns-2 : tie.Need-returns-2
 returns-2 c =
-    let d = c .before .before .write-mask .ensures in (λ ss g cs l h. mask-drawn _ _ _ (maskOf g ss) _ (c .before .before .before .before .before .if2 .taken) (c .before .before .before .before .if3 .taken) (d .1 (maskOf g ss) (mask-length g ss ∙ l) h) ss g cs refl, d .0)
+    let d = c .before .before .write-mask .ensures in (λ ss g cs l h. mask-drawn _ _ _ (maskOf g ss) _ (c .before .before .before .before .before .if2 .taken) (c .before .before .before .before .if3 .taken) (d .1 (maskOf g ss) (mask-length g ss ∙ l) (h (c .before .before .before .before .if3 .taken))) ss g cs refl, d .0)
 
 returns-3 : tie.Need-returns-3
 returns-3 c =

@@ -64,7 +64,7 @@ use Rattle.type1.proofs.Many.{at-one, OwnR, lend-ref, returned-ref, lend-shr, r
 use Rattle.type1.proofs.Locals.{word, machI}
 use Rattle.type1_to_type2.proofs.Locals.{machZ, machG, mineF, mineG, mineK, mineQ, mineR, tFt, typedF, tGt, typedG, typedI, tKt, typedK, tQt, typedQ, tRt, typedR, typedZ}
 use Rattle.type1_to_type2.specs.Passes.{Stored}
-use Rattle.type1_to_type2.specs.Entry.{Blank, fromRun, Answers}
+use Rattle.type1_to_type2.specs.Entry.{Lengths, fromRun, Answers}
 use Rattle.folding.proofs.Fold.new.Symbol as Fold·new-def
 use Rattle.folding.proofs.Fold.new.Symbol.{name as #folding·Fold·new}
 use Rattle.folding.proofs.Fold.new.Met as Fold·new-thm
@@ -157,7 +157,7 @@ module _ {M : Type 1} (𝓤 : URA M) (H : Heap 𝓤) (A : Atoms 𝓤) (W : Given
       (known-none-collected : Triple 𝓤 (C #type1-to-type2·none-collected) (NoneCollectedC 𝓤 H A mem run′)) (known-collect-all : Triple 𝓤 (C #type1-to-type2·collect-all) (CollectAllC 𝓤 H A mem run′))
       (known-make-plan : Triple 𝓤 (C #type1-to-type2·make-plan) (MakePlanC 𝓤 H A mem run′)) (known-begin-program : Triple 𝓤 (C #type1-to-type2·begin-program) (BeginProgramC 𝓤 H A mem run′))
       (known-write-all : Triple 𝓤 (C #type1-to-type2·write-all) (WriteAllC 𝓤 H A mem run′)) (known-end-program : Triple 𝓤 (C #type1-to-type2·end-program) (EndProgramC 𝓤 H A mem run′))
-      (need : Stored (ri .entries) yscommands ysstems × Blank ysacross ysupright ysplaces) where
+      (need : Stored (ri .entries) yscommands ysstems × Lengths ysacross ysupright ysplaces) where
     pub walk : ent 𝓤 (onEntry 𝓤 H A f.signature (κstems, (κcommands, (κacross, (κupright, (κplaces, (κout, tt)))))) (qstems, (qcommands, (qacross, (qupright, (qplaces, (qout, tt)))))) a vals) (WpFn 𝓤 H C Λ code.function args Post)
     walk =
         qed W ((‵ (flft κstems qstems) ⊛ (‵ (flft κcommands qcommands) ⊛ (‵ (flft κacross qacross) ⊛ (‵ (flft κupright qupright) ⊛ (‵ (flft κplaces qplaces) ⊛ (‵ (flft κout qout) ⊛ ‵ ftrue))))))
@@ -329,7 +329,7 @@ module _ {M : Type 1} (𝓤 : URA M) (H : Heap 𝓤) (A : Atoms 𝓤) (W : Given
       (walked 𝓤 H A f.ended stayed (f.clauses 𝓤 H A mem run′) (WpFn 𝓤 H (𝓣 .C) (𝓣 .Λ) code.function)
       (λ κs. (LL.vals I.the-type I′.the-laws, (uint-vals w64, (LL.vals Z.the-type Z′.the-laws, (slice-vals, (slice-vals, (ptr-vals, (ptr-vals, (ptr-vals, (slice-vals, tt))))))))))
       (λ κs. (LL.tells I.the-type I′.the-laws, (uint-tells w64, (LL.tells Z.the-type Z′.the-laws, (mut-slice-tells (named 0) (κs .0) T.the-row, (mut-slice-tells (named 1) (κs .1 .0) u64, (mut-tells (named 2) (κs .1 .1 .0) (Array f64 192), (mut-tells (named 3) (κs .1 .1 .1 .0) (Array f64 192), (mut-tells (named 4) (κs .1 .1 .1 .1 .0) (Array u8 96), (mut-slice-tells (named 5) (κs .1 .1 .1 .1 .1 .0) u8, tt))))))))))
-      (λ κs qs bounds a g are. needs 𝓤 (Stored ((a .0) .entries) (a .1 .1 .1 .1 .0 .now) (a .1 .1 .1 .0 .now) × Blank (a .1 .1 .1 .1 .1 .0 .now) (a .1 .1 .1 .1 .1 .1 .0 .now) (a .1 .1 .1 .1 .1 .1 .1 .0 .now)) _
+      (λ κs qs bounds a g are. needs 𝓤 (Stored ((a .0) .entries) (a .1 .1 .1 .1 .0 .now) (a .1 .1 .1 .0 .now) × Lengths (a .1 .1 .1 .1 .1 .0 .now) (a .1 .1 .1 .1 .1 .1 .0 .now) (a .1 .1 .1 .1 .1 .1 .1 .0 .now)) _
       (λ need. walk 𝓤 H A W mem run′ 𝓣 (κs .0) (qs .0) ((a .1 .1 .1 .0) .ptr .0) ((a .1 .1 .1 .0) .ptr .1) ((a .1 .1 .1 .0) .name) ((a .1 .1 .1 .0) .now) (κs .1 .0) (qs .1 .0) ((a .1 .1 .1 .1 .0) .ptr .0)
       ((a .1 .1 .1 .1 .0) .ptr .1) ((a .1 .1 .1 .1 .0) .name) ((a .1 .1 .1 .1 .0) .now) (κs .1 .1 .0) (qs .1 .1 .0) ((a .1 .1 .1 .1 .1 .0) .ptr .0) ((a .1 .1 .1 .1 .1 .0) .ptr .1) ((a .1 .1 .1 .1 .1 .0) .name)
       ((a .1 .1 .1 .1 .1 .0) .now) (κs .1 .1 .1 .0) (qs .1 .1 .1 .0) ((a .1 .1 .1 .1 .1 .1 .0) .ptr .0) ((a .1 .1 .1 .1 .1 .1 .0) .ptr .1) ((a .1 .1 .1 .1 .1 .1 .0) .name) ((a .1 .1 .1 .1 .1 .1 .0) .now) (κs .1 .1 .1 .1 .0)

@@ -56,7 +56,7 @@ use Rattle.type1.proofs.Many.{lend-ref, returned-ref, asks-all}
 use Rattle.type1.proofs.Locals.{machI}
 use Rattle.type1_to_type2.proofs.Locals.{machZ, machG, mineG, tGt, typedG, typedI, typedZ}
 use Rattle.type1_to_type2.specs.Passes.{Stored}
-use Rattle.type1_to_type2.specs.Entry.{Blank, fromRun, Answers}
+use Rattle.type1_to_type2.specs.Entry.{Lengths, fromRun, Answers}
 use Rattle.type1_to_type2.proofs.entry.convert_run.Symbol as convert-run-def
 use Rattle.type1_to_type2.proofs.entry.convert_run.Symbol.{name as #type1-to-type2·convert-run}
 use Rattle.type1_to_type2.proofs.entry.convert_run.Met as convert-run-thm
@@ -81,7 +81,7 @@ nought-is : Is f64 nought (vfloat binary64 nought ∷ [])
 unfolding ofBits fits
 nought-is = (refl, refl)
 
-blank : Blank (replicate 192 nought) (replicate 192 nought) (replicate 96 0)
+blank : Lengths (replicate 192 nought) (replicate 192 nought) (replicate 96 0)
 blank = record { across-len = length-replicate 192 nought; upright-len = length-replicate 192 nought; places-len = length-replicate {A = ℕ} 96 0 }
 
 abbrev pub stayed : Stays (f.ended .signature .params) (f.ended .kept)

@@ -2,7 +2,7 @@
 use Rattle.type1_to_type2.proofs.Masking.{mask-step, mask-end}
 use Rattle.type1_to_type2.specs.Writing.{Written, put}
 use Rattle.type1_to_type2.specs.Streaming.{resumed, Still}
-use Rattle.type1_to_type2.specs.Places.{placesFrom, From}
+use Rattle.type1_to_type2.specs.Places.{placesFrom, LeftFrom}
 use Rattle.type2.specs.Instruction.{maskBytes}
 use lib.ListN.{length, take, drop}
 use Prim.Native.Nat.{ℕ, _-_}
@@ -16,7 +16,7 @@ use Rattle.type1_to_type2.proofs.writing.write_mask.Tie as tie
 
 abbrev Inv-loop : tie.InvT-loop
 Inv-loop n k places out₀ r₀ j₀ i₀ out r j i =
-    ((b : List Bool) → length b ≡ n → take k places ≡ placesFrom 0 b → From i j (take k places) b × ((f : ℕ → Written) → resumed (r .number) (r .next) out (λ left. put left (maskBytes (drop i b)) f) ≡ resumed (r₀ .number) (r₀ .next) out₀ (λ left. put left (maskBytes b) f)))
+    ((b : List Bool) → length b ≡ n → take k places ≡ placesFrom 0 b → LeftFrom i j (take k places) b × ((f : ℕ → Written) → resumed (r .number) (r .next) out (λ left. put left (maskBytes (drop i b)) f) ≡ resumed (r₀ .number) (r₀ .next) out₀ (λ left. put left (maskBytes b) f)))
     × (Still r₀ r × (length out ≡ length out₀))
 
 abbrev μ-loop : tie.MeasureT-loop

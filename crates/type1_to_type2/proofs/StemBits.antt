@@ -2,20 +2,21 @@
 use mathlib.Core.Path.{_≡_, refl, sym, ap, ap₂, _∙_, subst}
 use Prim.Native.Nat.{ℕ, zero, suc, _+_, _-_, _≤_, _<_}
 use native.Mathlib.Omega.{arith}
-use mathlib.Core.Bool.{Bool, true, false, not, _&&_, _||_, Bool·beq, or-false, and-true, and-false, true≢false}
+use mathlib.Core.Bool.{Bool, true, false, not, _&&_, _||_, Bool·beq, or-false, or-true, and-true, and-false}
 use mathlib.Core.List.{List, [], _∷_, _++_}
 use borrow.Author.Tests.{eqb-true, eqb-false, ltb-true, ltb-false, lt-ltb, ne-eqb, eq-eqb}
 use lib.Dec.{eqb, ltb}
-use lib.ListN.{length, getD, set, take, length-set, length-append, List·getD-append}
+use lib.ListN.{length, getD, set, length-set, length-append, List·getD-append}
 use lib.Seq.{ext-getD, getD-set-same, getD-set-other, getD-append-add}
 use lib.Ieee.{Float, eq}
+use Rattle.sorting.proofs.Places.{and-true as both-true}
 use Rattle.outline.specs.declared.Stem.{Stem}
 use Rattle.outline.specs.Outline.{sameStem, isIn}
 use Rattle.type1_to_type2.specs.Stems.{maskOf}
 use Rattle.type1_to_type2.specs.Table.{tableStems}
 use Rattle.type1_to_type2.specs.Collecting.{tableStem, Finds}
 use Rattle.type1_to_type2.specs.Places.{placesFrom, PlacePut}
-use Rattle.type1_to_type2.specs.Passes.{both, Places}
+use Rattle.type1_to_type2.specs.Passes.{both, Listed, ListsMore}
 use Rattle.type1_to_type2.proofs.StemOrder.{same-both}
 use Rattle.type1_to_type2.proofs.TableLaws.{table-length, table-at}
 
@@ -55,10 +56,6 @@ module _ (g l : List Stem) (s : Stem) where
       ext-getD false (maskOf (g ++ (s ∷ [])) l) (set (maskOf g l) p true) (mask-length (g ++ (s ∷ [])) l ∙ sym (length-set (maskOf g l) p true ∙ mask-length g l))
       (λ k h. let i = subst (λ (j : ℕ). k < j) (mask-length (g ++ (s ∷ [])) l) h in mask-more k i ∙ ap (λ (x : Bool). getD (maskOf g l) k false || x) (n k i) ∙ choose k (eqb k p) refl)
     where
-      or-true : (c : Bool) → (c || true) ≡ true
-      or-true true = refl
-      or-true false = refl
-
       choose : (k : ℕ) (x : Bool) → eqb k p ≡ x → (getD (maskOf g l) k false || x) ≡ getD (set (maskOf g l) p true) k false
       choose k true e = or-true (getD (maskOf g l) k false) ∙ sym (ap (λ (j : ℕ). getD (set (maskOf g l) p true) j false) (eqb-true k p e) ∙ getD-set-same (maskOf g l) p true false (subst (λ (j : ℕ). p < j) (sym (mask-length g l)) b))
       choose k false e = or-false (getD (maskOf g l) k false) ∙ sym (getD-set-other (maskOf g l) p k true false (eqb-false k p e))
@@ -86,11 +83,7 @@ other-way s t true e f = ap₂ (λ (p q : Bool). Bool·beq p q && (eq (s .pos) (
 other-way s t false e f = ap₂ (λ (p q : Bool). Bool·beq p q && (eq (s .pos) (t .pos) && eq (s .width) (t .width))) e f
 
 pub within : (r n : ℕ) (y : Bool) → (ltb r n && y) ≡ true → r < n
-within r n y e = choose (ltb r n) refl e
-  where
-    choose : (x : Bool) → ltb r n ≡ x → (x && y) ≡ true → r < n
-    choose true q f = ltb-true r n q
-    choose false q f = absurd (true≢false (sym f))
+within r n y e = ltb-true r n (both-true (ltb r n) y e .0)
 
 -- ---- the stems of both tables
 module _ (na nu : ℕ) (a u : List Float) where
@@ -150,7 +143,7 @@ module _ (na nu : ℕ) (a u : List Float) where
 
     -- ---- the same, of places
     module _ (l : List Stem) (q : l ≡ s ∷ []) (few : na + nu ≤ 96) (k : ℕ) (t : List ℕ) where
-      placed : (p m : ℕ) (t′ : List ℕ) → p < na + nu → ((g : List Stem) → maskOf (g ++ (s ∷ [])) ss ≡ set (maskOf g ss) p true) → PlacePut p k t m t′ → Places l na nu a u k t m t′
+      placed : (p m : ℕ) (t′ : List ℕ) → p < na + nu → ((g : List Stem) → maskOf (g ++ (s ∷ [])) ss ≡ set (maskOf g ss) p true) → PlacePut p k t m t′ → ListsMore l na nu a u k t m t′
       placed p m t′ h f P = (
         P .same,
         (
@@ -161,32 +154,32 @@ module _ (na nu : ℕ) (a u : List Float) where
         ),
       )
 
-      unplaced : k ≤ 96 → ((g : List Stem) → maskOf (g ++ (s ∷ [])) ss ≡ maskOf g ss) → Places l na nu a u k t k t
+      unplaced : k ≤ 96 → ((g : List Stem) → maskOf (g ++ (s ∷ [])) ss ≡ maskOf g ss) → ListsMore l na nu a u k t k t
       unplaced h f = (refl, (h, λ g e. e ∙ ap (placesFrom 0) (sym (f g) ∙ ap (λ (x : List Stem). maskOf (g ++ x) ss) (sym q))))
 
-      pub placed-across : (m : ℕ) (t′ : List ℕ) → s .horizontal ≡ true → Finds r na s a → standsAt (s .horizontal) r na a s ≡ true → PlacePut r k t m t′ → Places l na nu a u k t m t′
+      pub placed-across : (m : ℕ) (t′ : List ℕ) → s .horizontal ≡ true → Finds r na s a → standsAt (s .horizontal) r na a s ≡ true → PlacePut r k t m t′ → ListsMore l na nu a u k t m t′
       placed-across m t′ h F e P =
           let y : standsAt true r na a s ≡ true = ap (λ (x : Bool). standsAt x r na a s) (sym h) ∙ e in
           let i = within r na (sameStem (tableStem true r a) s) y in
           placed r m t′ (omega arith) (λ g. sets g r (standsAt true r na a s) (across-at h F) y (subst (λ (j : ℕ). r < j) (sym both-length) (omega arith))) P
 
-      pub unplaced-across : s .horizontal ≡ true → Finds r na s a → standsAt (s .horizontal) r na a s ≡ false → k ≤ 96 → Places l na nu a u k t k t
+      pub unplaced-across : s .horizontal ≡ true → Finds r na s a → standsAt (s .horizontal) r na a s ≡ false → k ≤ 96 → ListsMore l na nu a u k t k t
       unplaced-across h F e j = unplaced j (λ g. keeps g r (standsAt true r na a s) (across-at h F) (ap (λ (x : Bool). standsAt x r na a s) (sym h) ∙ e))
 
-      pub placed-upright : (m : ℕ) (t′ : List ℕ) → s .horizontal ≡ false → Finds r nu s u → standsAt (s .horizontal) r nu u s ≡ true → PlacePut (na + r) k t m t′ → Places l na nu a u k t m t′
+      pub placed-upright : (m : ℕ) (t′ : List ℕ) → s .horizontal ≡ false → Finds r nu s u → standsAt (s .horizontal) r nu u s ≡ true → PlacePut (na + r) k t m t′ → ListsMore l na nu a u k t m t′
       placed-upright m t′ h F e P =
           let y : standsAt false r nu u s ≡ true = ap (λ (x : Bool). standsAt x r nu u s) (sym h) ∙ e in
           let i = within r nu (sameStem (tableStem false r u) s) y in
           placed (na + r) m t′ (omega arith) (λ g. sets g (na + r) (standsAt false r nu u s) (upright-at h F) y (subst (λ (j : ℕ). na + r < j) (sym both-length) (omega arith))) P
 
-      pub unplaced-upright : s .horizontal ≡ false → Finds r nu s u → standsAt (s .horizontal) r nu u s ≡ false → k ≤ 96 → Places l na nu a u k t k t
+      pub unplaced-upright : s .horizontal ≡ false → Finds r nu s u → standsAt (s .horizontal) r nu u s ≡ false → k ≤ 96 → ListsMore l na nu a u k t k t
       unplaced-upright h F e j = unplaced j (λ g. keeps g (na + r) (standsAt false r nu u s) (upright-at h F) (ap (λ (x : Bool). standsAt x r nu u s) (sym h) ∙ e))
 
   -- ---- no stem, no place
-  none-marked : (l : List Stem) (i : ℕ) → placesFrom i (maskOf [] l) ≡ []
+  no-places : (l : List Stem) (i : ℕ) → placesFrom i (maskOf [] l) ≡ []
   unfolding maskOf isIn placesFrom
-  none-marked [] i = refl
-  none-marked (s ∷ l) i = none-marked l (suc i)
+  no-places [] i = refl
+  no-places (s ∷ l) i = no-places l (suc i)
 
-  pub listed-none : (t : List ℕ) → take 0 t ≡ placesFrom 0 (maskOf [] ss)
-  listed-none t = sym (none-marked ss 0)
+  pub listed-none : (t : List ℕ) → Listed [] na nu a u 0 t
+  listed-none t = sym (no-places ss 0)
