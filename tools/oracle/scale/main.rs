@@ -135,7 +135,7 @@ impl Worker<'_> {
 /// A part: its name and what a worker does of it.
 type Part = (&'static str, fn(&mut Worker));
 
-const PARTS: [Part; 16] = [
+const PARTS: [Part; 17] = [
     ("bytes", parts::bytes),
     ("tokens", parts::tokens),
     ("phrases", parts::phrases),
@@ -152,6 +152,7 @@ const PARTS: [Part; 16] = [
     ("widths", others::widths),
     ("decrypt", others::decrypt),
     ("box", others::glyph_box),
+    ("groups", parts::groups),
 ];
 
 fn main() {

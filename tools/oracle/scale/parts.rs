@@ -271,6 +271,47 @@ pub fn random(w: &mut Worker) {
     }
 }
 
+/// Groups of stems of a pool of up to 110, in any order, rising or falling, each with a line: tables and masks.
+pub fn groups(w: &mut Worker) {
+    let share = w.share();
+    while w.tally.cases < share && !w.has_enough() {
+        let r = &mut w.random;
+        let size = r.between(1, 110);
+        let pool: Vec<(u8, i32, i32)> = (0..size)
+            .map(|_| {
+                let width = r.pick(&[-21, -20, -3, 0, 1, 2, 3, 20]);
+                (r.pick(&[1, 3]), r.between(-30, 30) as i32, width)
+            })
+            .collect();
+        let mut code = Vec::new();
+        for _ in 0..r.between(1, 8) {
+            let mut stems: Vec<_> = (0..r.below(50)).map(|_| r.pick(&pool)).collect();
+            match r.below(3) {
+                0 => {}
+                1 => stems.sort(),
+                _ => stems.sort_by(|a, b| b.cmp(a)),
+            }
+            number(&mut code, 0);
+            number(&mut code, 3);
+            code.extend([12, 16]);
+            for (op, pos, width) in stems {
+                number(&mut code, pos);
+                number(&mut code, width);
+                code.push(op);
+            }
+            number(&mut code, 1);
+            code.push(6);
+        }
+        let g = Glyph {
+            plain: code,
+            subrs: Vec::new(),
+            len_iv: NOT_ENCRYPTED,
+        };
+        let case = encrypted_case(&mut w.random, &g);
+        compare_around(w, case);
+    }
+}
+
 /// Copies with up to four bytes damaged, and banks with some.
 pub fn damaged(w: &mut Worker) {
     let share = w.share();
