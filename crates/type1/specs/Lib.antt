@@ -2,6 +2,7 @@ pub mod Operator
 pub mod State
 pub mod Number
 pub mod Run
+pub mod Operands
 pub mod Memory
 pub mod Deltas
 pub mod DeltaLaws
@@ -19,4 +20,5 @@ pub mod Invariants
 pub mod Examples
 pub mod Entry
 pub mod Interpret
+pub mod States
 pub mod InterpretExamples

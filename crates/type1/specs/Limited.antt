@@ -271,7 +271,7 @@ module _ (lim : Limits) (L : Limiting lim) where
   unfolding runBody
   runBody-limited f zero l s = inr refl
   runBody-limited f (suc n) l s =
-      runBytes-limited (execute lim f (runBody lim f n)) (execute unlimited f (runBody unlimited f n)) (execute-limited f (runBody lim f n) (runBody unlimited f n) (runBody-limited f n)) (plain (f .reading .«len_iv») l) 0 s
+      runBytes-limited (execute lim f (runBody lim f n)) (execute unlimited f (runBody unlimited f n)) (execute-limited f (runBody lim f n) (runBody unlimited f n) (runBody-limited f n)) (plain (f .lenIV) l) 0 s
 
   pub run-limited : (f : Font) (l : List ℕ) (s : State) → LimitOr (run lim f l s) (run unlimited f l s)
   unfolding run

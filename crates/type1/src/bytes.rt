@@ -10,6 +10,7 @@ ghost use Rattle.type1.specs.Reading.{placed, tokOf, Numbered, Operated,
 ghost use Rattle.type1.specs.Small as Small;
 use crate::Drawn;
 use crate::Num;
+use crate::Reading;
 use crate::St;
 use crate::Tok;
 use crate::entries::add_curve;
@@ -25,6 +26,9 @@ use crate::opcodes::RRCURVETO;
 use crate::opcodes::VHCURVETO;
 use crate::opcodes::VLINETO;
 use crate::operands::curve_deltas;
+use crate::operands::first_refusal;
+use crate::operands::full;
+use crate::operands::number_if;
 use crate::operands::point_delta;
 
 fn wide(b: u8) -> u16
@@ -221,9 +225,10 @@ pub(crate) fn token(
     st: St,
     ops: &mut [f64; 256],
     cmds: &mut [u64],
+    reading: Reading,
 ) -> Tok
     requires { ⌜ (from < length (now code)) × ((st .operands ≤ 256) × (entryWords * st .entries ≤ length (now cmds))) ⌝ }
-    ensures { λ r. ⌜ Reads (now (code .entry)) from start encrypted st (now (ops .entry)) (now (cmds .entry)) r (now (ops .exit)) (now (cmds .exit)) ⌝ }
+    ensures { λ r. ⌜ Reads reading (now (code .entry)) from start encrypted st (now (ops .entry)) (now (cmds .entry)) r (now (ops .exit)) (now (cmds .exit)) ⌝ }
 {
     let mut i = from;
     let mut key = start;
@@ -274,11 +279,9 @@ pub(crate) fn token(
         } else {
             let k = charstring::next_key(c, key);
             let w = number_at(code, i + 1, k, encrypted, v);
-            if w.cut {
-                return found(place(st, n, x, y, entries, opened), i + 1, k, 5, 0);
-            }
-            if n == 256 {
-                return found(place(st, n, x, y, entries, opened), i + 1, k, 15, 0);
+            let f = first_refusal(number_if(w.cut, 5), full(n, reading));
+            if f != 0 {
+                return found(place(st, n, x, y, entries, opened), i + 1, k, f, 0);
             }
             ops[n] = w.x;
             n += 1;
