@@ -31,7 +31,11 @@ fn overflow(reading: Reading) -> u8
 pub(crate) fn full(n: usize, reading: Reading) -> u8
     ensures { λ r. ⌜ r ≡ operandRefusal reading (n + 1) ⌝ }
 {
-    if n < depth(reading) { 0 } else { overflow(reading) }
+    if n < depth(reading) {
+        0
+    } else {
+        overflow(reading)
+    }
 }
 
 // A number, or 0.
