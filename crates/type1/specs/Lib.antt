@@ -21,4 +21,5 @@ pub mod Examples
 pub mod Entry
 pub mod Interpret
 pub mod States
+pub mod Strict
 pub mod InterpretExamples

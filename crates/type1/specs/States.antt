@@ -63,6 +63,34 @@ isCall op.pop = false
 isCall op.setcurrentpoint = false
 isCall op.unknown = false
 
+abbrev pub isPop : Operator → Bool
+isPop op.hstem = false
+isPop op.vstem = false
+isPop op.vmoveto = false
+isPop op.rlineto = false
+isPop op.hlineto = false
+isPop op.vlineto = false
+isPop op.rrcurveto = false
+isPop op.closepath = false
+isPop op.callsubr = false
+isPop op.return = false
+isPop op.hsbw = false
+isPop op.endchar = false
+isPop op.rmoveto = false
+isPop op.hmoveto = false
+isPop op.vhcurveto = false
+isPop op.hvcurveto = false
+isPop op.dotsection = false
+isPop op.vstem3 = false
+isPop op.hstem3 = false
+isPop op.seac = false
+isPop op.sbw = false
+isPop op.div = false
+isPop op.callothersubr = false
+isPop op.pop = true
+isPop op.setcurrentpoint = false
+isPop op.unknown = false
+
 -- those of the body that an operator runs: callsubr's alone
 unfoldable pub inCall : Font → (List ℕ → State → List State) → Operator → State → List State
 inCall f deep o s = pick (isCall o) (pick (leb 1 (length (s .operands))) (inBody deep (named f (top 1 s)) (without 1 s)) []) []
