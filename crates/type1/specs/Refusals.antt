@@ -1,6 +1,7 @@
 -- Laws: what is so of every number that steps and limits refuse with is so of a run's refusal; and what is so of how many operands are held, of fewer too and of one more that fits, is so of what the run leaves. Document 01, "Numbers the board logs".
 use Prim.Native.Nat.{ℕ, zero, suc, _+_, _-_, _≤_}
 use native.Mathlib.Omega.{arith}
+use mathlib.Core.Path.{_≡_, refl, ap, _∙_, subst}
 use mathlib.Core.Bool.{Bool, true, false, not, _&&_}
 use mathlib.Core.List.{List, [], _∷_, _++_}
 use mathlib.Core.Option.{Option, none, some}
@@ -267,3 +268,14 @@ module _ (P R : ℕ → Type 0) where
         pub run-keeps : (f : Font) (l : List ℕ) (s : State) → Few s → Keeps P R (run lim f l s)
         unfolding run
         run-keeps f l s q = charged-keeps (runBody lim f _) l (runBody-keeps f _ l) s q
+
+-- a number that no step and no limit has
+pub run-never :
+    (k : ℕ) → isStep k ≡ false → (lim : Limits) → Answering (λ n. n ≡ k → ⊥) lim → ((n : ℕ) → lim .operands n ≡ k → ⊥) →
+    (f : Font) (l : List ℕ) (s : State) → run lim f l s ≡ refused k → ⊥
+unfolding push
+run-never k h lim L o f l s e =
+    let R : ℕ → Type 0 = λ n. n ≡ k → ⊥ in
+    let P : ℕ → Type 0 = λ n. Unit {0} in
+    subst (Keeps P R) e
+    (run-keeps P R (λ m n a b. tt) (λ n t d. subst T (ap isStep d ∙ h) t) lim L (λ v t q. allowed-keeps P R (lim .operands (length (t .operands) + 1)) _ (o (length (t .operands) + 1)) tt) f l s tt) refl
