@@ -15,6 +15,7 @@ pub mod KeptLaws
 pub mod StableLaws
 pub mod SoundLaws
 pub mod Limited
+pub mod Refusals
 pub mod WeightLaws
 pub mod Invariants
 pub mod Examples

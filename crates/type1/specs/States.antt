@@ -126,3 +126,7 @@ anyDeep (s ∷ l) = isDeep s || anyDeep l
 -- the present reading's run of a source, in stores of so many records and words, comes to hold one
 unfoldable pub holds25 : Source → ℕ → ℕ → ℕ → Bool
 holds25 x lenIV records words = anyDeep (states (within records words) (record { bank = x .bank; lenIV = lenIV }) (x .charstring) start)
+
+-- ---- limits with room for any number on the PostScript stack
+abbrev pub anyPostscript : Limits → Limits
+anyPostscript lim = record { operands = lim .operands; postscript = λ n. 0; hints = lim .hints; groups = lim .groups; stems = lim .stems; commands = lim .commands }
