@@ -36,8 +36,9 @@ use Rattle.type1.specs.SoundLaws.{zero-good, sound-stable}
 use Rattle.type1.specs.StableLaws.{token-small}
 use Rattle.type1.specs.Reading.{cursorOf, placed, tokOf, left, isRead, isQuick, drawnTo, Draws, ReadsAs, readMem, goesOn, Numbered, Operated, Reads}
 use Rattle.type1.specs.States.{isPop}
-use Rattle.type1.specs.Operands.{operandRefusal, numberIf, firstRefusal}
-use Rattle.type1.proofs.Depth.{operate-limits, limit-is, allowed-none, allowed-not, operands-fit, refusal-above, first-is, second-is, none-refused}
+use Rattle.operand_stack.specs.Stack.{operandRefusal, numberIf, firstRefusal}
+use Rattle.operand_stack.specs.Laws.{operands-fit, refusal-above, first-is, second-is, none-refused}
+use Rattle.type1.proofs.Depth.{operate-limits, limit-is, allowed-none, allowed-not}
 use Rattle.type1.proofs.Stacks.{operands-are, holds-itself}
 
 -- ---- one byte more; where the bytes are not encrypted, the key does not count
@@ -406,21 +407,21 @@ module _ (reading : Reading) (code : List ℕ) (from start : ℕ) (e : Bool) (st
       taken w = length-take n ops ∙ (let b = G .few in let z : min n (length ops) ≡ n = omega arith in z)
 
       -- a number is pushed, or does not fit
-      push-is : (m : Mem) (s : State) → Holds here (readMem ops cmds m) s → (z : ℤ) → r .x ≡ double z → push (limits m) (double z) s ≡ allowed (operandRefusal reading (n + 1)) (going (withOperands (take n ops ++ (r .x ∷ [])) s))
+      push-is : (m : Mem) (s : State) → Holds here (readMem ops cmds m) s → (z : ℤ) → r .x ≡ double z → push (limits m) (double z) s ≡ allowed (operandRefusal (reading .strict) (n + 1)) (going (withOperands (take n ops ++ (r .x ∷ [])) s))
       unfolding push
       push-is m s H z eq =
           ap (λ (l : List Float). allowed (limits m .operands (length l + 1)) (going (withOperands (l ++ (double z ∷ [])) s))) (operands-are here (readMem ops cmds m) s H)
           ∙ ap (λ (a : ℕ). allowed (limits m .operands (a + 1)) (going (withOperands (take n ops ++ (double z ∷ [])) s))) (taken (H .fit .ops))
           ∙ ap (λ (a : ℕ). allowed a (going (withOperands (take n ops ++ (double z ∷ [])) s))) (limit-is reading (length (m .stems)) (length cmds₀) (n + 1))
-          ∙ ap (λ (a : Float). allowed (operandRefusal reading (n + 1)) (going (withOperands (take n ops ++ (a ∷ [])) s))) (sym eq)
+          ∙ ap (λ (a : Float). allowed (operandRefusal (reading .strict) (n + 1)) (going (withOperands (take n ops ++ (a ∷ [])) s))) (sym eq)
 
       pushing : (m : Mem) (f : Operator → State → Outcome) (s : State) → Holds here (readMem ops cmds m) s → (j : ℕ) (z : ℤ) → r .x ≡ double z
-          → consume (limits m) f (number j z) s (runBytes (limits m) f after-it) ≡ andThen (allowed (operandRefusal reading (n + 1)) (going (withOperands (take n ops ++ (r .x ∷ [])) s))) (runBytes (limits m) f after-it j)
+          → consume (limits m) f (number j z) s (runBytes (limits m) f after-it) ≡ andThen (allowed (operandRefusal (reading .strict) (n + 1)) (going (withOperands (take n ops ++ (r .x ∷ [])) s))) (runBytes (limits m) f after-it j)
       pushing m f s H j z eq = ap (λ (a : Outcome). andThen a (runBytes (limits m) f after-it j)) (push-is m s H z eq)
 
       -- what a number is refused with
       abbrev number-refusal : ℕ
-      number-refusal = firstRefusal (numberIf (r .cut) 5) (operandRefusal reading (n + 1))
+      number-refusal = firstRefusal (numberIf (r .cut) 5) (operandRefusal (reading .strict) (n + 1))
 
       abbrev Refuses : Type 0
       Refuses = (3 ≤ number-refusal) × ((m : Mem) (f : Operator → State → Outcome) (s : State) → Holds here (readMem ops cmds m) s → consume (limits m) f (token v after-it) s (runBytes (limits m) f after-it) ≡ refused number-refusal)
@@ -429,18 +430,18 @@ module _ (reading : Reading) (code : List ℕ) (from start : ℕ) (e : Bool) (st
       refuses h = go (r .cut) refl
         where
           go : (c : Bool) → r .cut ≡ c → Refuses
-          go true z = let five = first-is (r .cut) 5 (operandRefusal reading (n + 1)) z (λ q. let w : ⊥ = omega (arith, q) in w) in (
+          go true z = let five = first-is (r .cut) 5 (operandRefusal (reading .strict) (n + 1)) z (λ q. let w : ⊥ = omega (arith, q) in w) in (
             subst (λ (a : ℕ). 3 ≤ a) (sym five) (lit≤ tt),
             λ m f s H. ap (λ (a : Token). consume (limits m) f a s (runBytes (limits m) f after-it)) (N .cut z) ∙ ap refused (sym five),
           )
           go false z =
               let (j, w, tk, is, dr) = N .number z in
-              let full = second-is (r .cut) 5 (operandRefusal reading (n + 1)) z in
-              let over : operandRefusal reading (n + 1) ≡ 0 → ⊥ = λ q. h (full ∙ q) in (
-                subst (λ (a : ℕ). 3 ≤ a) (sym full) (refusal-above reading (n + 1) over),
+              let full = second-is (r .cut) 5 (operandRefusal (reading .strict) (n + 1)) z in
+              let over : operandRefusal (reading .strict) (n + 1) ≡ 0 → ⊥ = λ q. h (full ∙ q) in (
+                subst (λ (a : ℕ). 3 ≤ a) (sym full) (refusal-above (reading .strict) (n + 1) over),
                 λ m f s H.
                     ap (λ (a : Token). consume (limits m) f a s (runBytes (limits m) f after-it)) tk ∙ pushing m f s H j w is
-                    ∙ ap (λ (a : Outcome). andThen a (runBytes (limits m) f after-it j)) (allowed-not (operandRefusal reading (n + 1)) _ over) ∙ ap refused (sym full),
+                    ∙ ap (λ (a : Outcome). andThen a (runBytes (limits m) f after-it j)) (allowed-not (operandRefusal (reading .strict) (n + 1)) _ over) ∙ ap refused (sym full),
               )
 
       -- a number that is cut, or does not fit
@@ -491,7 +492,7 @@ module _ (reading : Reading) (code : List ℕ) (from start : ℕ) (e : Bool) (st
             sound = λ m F b s.
                 let K = holds-itself here (readMem ops cmds m) (G .fit m F) in
                 held-sound (placed (n + 1) x y k (withOpened o st)) (readMem (set ops n (r .x)) cmds m) (withOperands (take n ops ++ (r .x ∷ [])) (state m)) (more-held m (state m) below K)
-                (subst SoundOut (push-is m (state m) K w is ∙ allowed-none (operandRefusal reading (n + 1)) _ (none .1)) (sound-stable (limits m) .number w (subst SmallToken tk (token-small v after-it (byte-here b) (bytes-after b))) (state m) (G .sound m F b s)));
+                (subst SoundOut (push-is m (state m) K w is ∙ allowed-none (operandRefusal (reading .strict) (n + 1)) _ (none .1)) (sound-stable (limits m) .number w (subst SmallToken tk (token-small v after-it (byte-here b) (bytes-after b))) (state m) (G .sound m F b s)));
             same = λ m s H.
                 let (a, K, all) = G .same m s H in
                 let more = withOperands (take n ops ++ (r .x ∷ [])) a in (
@@ -500,7 +501,7 @@ module _ (reading : Reading) (code : List ℕ) (from start : ℕ) (e : Bool) (st
                   λ f W.
                       all f W ∙ next m f a ∙ ap (λ (q : Token). consume (limits m) f q a (runBytes (limits m) f after-it)) tk
                       ∙ pushing m f a K j w is
-                      ∙ ap (λ (q : Outcome). andThen q (runBytes (limits m) f after-it j)) (allowed-none (operandRefusal reading (n + 1)) _ (none .1))
+                      ∙ ap (λ (q : Outcome). andThen q (runBytes (limits m) f after-it j)) (allowed-none (operandRefusal (reading .strict) (n + 1)) _ (none .1))
                       ∙ skip (limits m) f after-it j more
                       ∙ ap (λ (q : List ℕ). runBytes (limits m) f q 0 more) dr,
                 );
@@ -512,11 +513,11 @@ module _ (reading : Reading) (code : List ℕ) (from start : ℕ) (e : Bool) (st
             whole = G .whole;
           }
         where
-          none : (r .cut ≡ false) × (operandRefusal reading (n + 1) ≡ 0)
-          none = none-refused (r .cut) 5 (operandRefusal reading (n + 1)) (λ q. let w : ⊥ = omega (arith, q) in w) (sym ef ∙ nf)
+          none : (r .cut ≡ false) × (operandRefusal (reading .strict) (n + 1) ≡ 0)
+          none = none-refused (r .cut) 5 (operandRefusal (reading .strict) (n + 1)) (λ q. let w : ⊥ = omega (arith, q) in w) (sym ef ∙ nf)
 
           below : n + 1 ≤ 256
-          below = operands-fit reading (n + 1) (none .1)
+          below = operands-fit (reading .strict) (n + 1) (none .1)
 
   -- the end of the bytes
   pub at-end : (u : St) (t : Tok) → length code ≤ i → from < length code → u ≡ here → t ≡ tokOf u i key 1 0 → Reads reading code from start e st ops₀ cmds₀ t ops cmds

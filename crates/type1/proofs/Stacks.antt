@@ -26,8 +26,9 @@ use Rattle.type1.specs.Outcomes.{limit-check}
 use Rattle.type1.specs.Run.{Limits, within, limitsOf, Outcome, going, refused, check, allowed, top, cleared, without, needs, push, popD, divD, backwards, handBack, collected, otherSubr2, pointAt}
 use Rattle.type1.specs.Memory.{Mem, pointsAt, atMostSeven, flexIn, flexHeld, heldOf, abs, Bounds, Fit, Holds, Meets, withOps, withPs, withCells}
 use Rattle.type1.specs.Reading.{withCount}
-use Rattle.type1.specs.Operands.{operandRefusal, numberIf, firstRefusal}
-use Rattle.type1.proofs.Depth.{limit-is, allowed-none, allowed-not, operands-fit, refusal-above, first-is, second-is, none-refused}
+use Rattle.operand_stack.specs.Stack.{operandRefusal, numberIf, firstRefusal}
+use Rattle.operand_stack.specs.Laws.{operands-fit, refusal-above, first-is, second-is, none-refused}
+use Rattle.type1.proofs.Depth.{limit-is, allowed-none, allowed-not}
 use Rattle.type1.specs.Small.{ranOf, withXY}
 
 -- ---- what the stores do not hold changes: the state still fits
@@ -236,7 +237,7 @@ module _ (t : St) (m : Mem) (s : State) (H : Holds t m s) where
     pushed v l = allowed (lim .operands (length (s .operands) + 1)) (next v l)
 
     abbrev pushes : Float → List Float → Outcome
-    pushes v l = allowed (operandRefusal reading (t .operands + 1)) (next v l)
+    pushes v l = allowed (operandRefusal (reading .strict) (t .operands + 1)) (next v l)
 
     pop-none : (r : Ran) → r ≡ ranOf t 11 → t .postscript ≡ 0 → Meets r m (popD lim s)
     unfolding popD push
@@ -258,19 +259,19 @@ module _ (t : St) (m : Mem) (s : State) (H : Holds t m s) where
           ∙ ap₂ (λ (l : List Float) (n : ℕ). pushes (getD l (n - 1) nan) (take (n - 1) l)) postscript-are postscript-count
           ∙ ap₂ pushes (getD-take (t .postscript) (m .ps) (t .postscript - 1) nan (omega arith)) (take-take (t .postscript - 1) (t .postscript) (m .ps) (omega arith))
 
-      pop-full : (r : Ran) → r ≡ ranOf t (operandRefusal reading (t .operands + 1)) → (operandRefusal reading (t .operands + 1) ≡ 0 → ⊥) → Meets r m (popD lim s)
-      pop-full r e h = subst (Meets r m) (sym (pop-is ∙ allowed-not (operandRefusal reading (t .operands + 1)) _ h)) (ap (λ (q : Ran). q .flow) e, refusal-above reading (t .operands + 1) h)
+      pop-full : (r : Ran) → r ≡ ranOf t (operandRefusal (reading .strict) (t .operands + 1)) → (operandRefusal (reading .strict) (t .operands + 1) ≡ 0 → ⊥) → Meets r m (popD lim s)
+      pop-full r e h = subst (Meets r m) (sym (pop-is ∙ allowed-not (operandRefusal (reading .strict) (t .operands + 1)) _ h)) (ap (λ (q : Ran). q .flow) e, refusal-above (reading .strict) (t .operands + 1) h)
 
-      pop-more : (r : Ran) → r ≡ ranOf (popped t) 0 → operandRefusal reading (t .operands + 1) ≡ 0 → Meets r (withOps (set (m .ops) (t .operands) (getD (m .ps) (t .postscript - 1) nan)) m) (popD lim s)
+      pop-more : (r : Ran) → r ≡ ranOf (popped t) 0 → operandRefusal (reading .strict) (t .operands + 1) ≡ 0 → Meets r (withOps (set (m .ops) (t .operands) (getD (m .ps) (t .postscript - 1) nan)) m) (popD lim s)
       unfolding abs
       pop-more r e z =
           let F = H .fit in
           let lo = F .ops in
-          let lt : t .operands + 1 ≤ 256 = operands-fit reading (t .operands + 1) z in
+          let lt : t .operands + 1 ≤ 256 = operands-fit (reading .strict) (t .operands + 1) z in
           let lp = F .bounds .postscript in
           let new = set (m .ops) (t .operands) v in
           let l : take (t .operands + 1) new ≡ take (t .operands) (m .ops) ++ (v ∷ []) = ap (λ (n : ℕ). take n new) (add-one (t .operands)) ∙ take-suc-set (m .ops) (t .operands) v (omega arith) in
-          subst (Meets r (withOps new m)) (sym (pop-is ∙ allowed-none (operandRefusal reading (t .operands + 1)) _ z)) (
+          subst (Meets r (withOps new m)) (sym (pop-is ∙ allowed-none (operandRefusal (reading .strict) (t .operands + 1)) _ z)) (
             ap (λ (q : Ran). q .flow) e,
             subst (λ (q : Ran). Holds (q .st) (withOps new m) (withOperands (s .operands ++ (v ∷ [])) (withPostscript left s))) (sym e) (record {
               is = ap (λ (o : List Float). withOperands o (withPostscript left (abs t m))) l ∙ ap (λ (u : State). withOperands (u .operands ++ (v ∷ [])) (withPostscript left u)) (H .is);
@@ -280,20 +281,20 @@ module _ (t : St) (m : Mem) (s : State) (H : Holds t m s) where
 
     -- what `pop` is refused with
     abbrev pop-refusal : ℕ
-    pop-refusal = firstRefusal (numberIf (eqb (t .postscript) 0) 11) (operandRefusal reading (t .operands + 1))
+    pop-refusal = firstRefusal (numberIf (eqb (t .postscript) 0) 11) (operandRefusal (reading .strict) (t .operands + 1))
 
     pub pop-refused : (r : Ran) (f : ℕ) → f ≡ pop-refusal → (f ≡ 0 → ⊥) → r ≡ ranOf t f → Meets r m (popD lim s)
     pop-refused r f ef nf e = go (eqb (t .postscript) 0) refl
       where
         go : (c : Bool) → eqb (t .postscript) 0 ≡ c → Meets r m (popD lim s)
-        go true z = pop-none r (e ∙ ap (ranOf t) (ef ∙ first-is (eqb (t .postscript) 0) 11 (operandRefusal reading (t .operands + 1)) z (λ q. let w : ⊥ = omega (arith, q) in w))) (eqb-true (t .postscript) 0 z)
+        go true z = pop-none r (e ∙ ap (ranOf t) (ef ∙ first-is (eqb (t .postscript) 0) 11 (operandRefusal (reading .strict) (t .operands + 1)) z (λ q. let w : ⊥ = omega (arith, q) in w))) (eqb-true (t .postscript) 0 z)
         go false z =
-            let full = ef ∙ second-is (eqb (t .postscript) 0) 11 (operandRefusal reading (t .operands + 1)) z in
+            let full = ef ∙ second-is (eqb (t .postscript) 0) 11 (operandRefusal (reading .strict) (t .operands + 1)) z in
             pop-full (eqb-false (t .postscript) 0 z) r (e ∙ ap (ranOf t) full) (λ q. nf (full ∙ q))
 
     pub pop-done : (r : Ran) (f : ℕ) → f ≡ pop-refusal → f ≡ 0 → r ≡ ranOf (popped t) 0 → Meets r (withOps (set (m .ops) (t .operands) (getD (m .ps) (t .postscript - 1) nan)) m) (popD lim s)
     pop-done r f ef nf e =
-        let (left, room) = none-refused (eqb (t .postscript) 0) 11 (operandRefusal reading (t .operands + 1)) (λ q. let w : ⊥ = omega (arith, q) in w) (sym ef ∙ nf) in
+        let (left, room) = none-refused (eqb (t .postscript) 0) 11 (operandRefusal (reading .strict) (t .operands + 1)) (λ q. let w : ⊥ = omega (arith, q) in w) (sym ef ∙ nf) in
         pop-more (eqb-false (t .postscript) 0 left) r e room
 
 pub groups-kept : (t : St) (r : Ran) (n : ℕ) → r ≡ ranOf t n → r .st .groups ≡ t .groups

@@ -6,7 +6,7 @@ use borrow.Author.Needs.{needs}
 use Prim.Native.Nat.{_-_}
 use lib.ListN.{length}
 use Rattle.type1.proofs.ByteLaws.{Going, begins, quick-is, at-operator, listed, closed, at-refused, pushed, at-end}
-use Rattle.type1.proofs.Depth.{refused-by, room-left}
+use Rattle.operand_stack.specs.Laws.{refused-by, room-left}
 use Rattle.type1.proofs.bytes.token.Statement.{statement}
 use Rattle.type1.proofs.bytes.token.Tie as tie
 
@@ -70,11 +70,11 @@ same-length-3 c =
 
 returns-3 : tie.Need-returns-3 Inv-loop μ-loop
 returns-3 c =
-    at-refused _ _ _ _ _ _ _ _ _ _ _ _ _ _ _ _ _ (c .before .before .before .before .before .before .before .before .before .before .before .before .loop .inv) _ _ _ (search needs) refl (c .before .before .before .before .before .before .before .before .before .byte-of .ensures) (c .before .before .before .before .before .before .before .next-key3 .ensures) _ (c .before .before .before .before .before .before .number-at .ensures) _ _ _ (refused-by _ _ _ _ _ (c .before .before .before .first-refusal .ensures) (c .before .before .before .before .before .number-if .ensures) (c .before .before .before .before .full .ensures)) (c .before .before .if5 .taken) (c .before .place3 .ensures) (c .found .ensures)
+    at-refused _ _ _ _ _ _ _ _ _ _ _ _ _ _ _ _ _ (c .before .before .before .before .before .before .before .before .before .before .before .before .loop .inv) _ _ _ (search needs) refl (c .before .before .before .before .before .before .before .before .before .byte-of .ensures) (c .before .before .before .before .before .before .before .next-key3 .ensures) _ (c .before .before .before .before .before .before .number-at .ensures) _ _ _ (refused-by _ _ _ _ _ (c .before .before .before .first .ensures) (c .before .before .before .before .before .number-if .ensures) (c .before .before .before .before .refusal .ensures)) (c .before .before .if5 .taken) (c .before .place3 .ensures) (c .found .ensures)
 
 element-write-ops : tie.Need-element-write-ops Inv-loop μ-loop
 element-write-ops c =
-    room-left (c .before .before .before .before .before .before .before .before .before .before .before .before .before .args .reading) _ 5 _ (c .before .before .before .before .number-at .result .cut) (λ z. let y : ⊥ = omega (arith, z) in y) (refused-by _ _ _ _ _ (c .before .first-refusal .ensures) (c .before .before .before .number-if .ensures) (c .before .before .full .ensures)) (c .if5 .left)
+    room-left (c .before .before .before .before .before .before .before .before .before .before .before .before .before .args .reading .strict) _ 5 _ (c .before .before .before .before .number-at .result .cut) (λ z. let y : ⊥ = omega (arith, z) in y) (refused-by _ _ _ _ _ (c .before .first .ensures) (c .before .before .before .number-if .ensures) (c .before .before .refusal .ensures)) (c .if5 .left)
 
 add-n : tie.Need-add-n Inv-loop μ-loop
 add-n c =
@@ -86,7 +86,7 @@ loop-less-3 c =
 
 loop-again-3 : tie.Need-loop-again-3 Inv-loop μ-loop
 loop-again-3 c =
-    pushed _ _ _ _ _ _ _ _ _ _ _ _ _ _ _ _ _ (c .before .before .before .before .before .before .before .before .before .before .loop .inv) _ _ _ (search needs) refl (c .before .before .before .before .before .before .before .byte-of .ensures) (c .before .before .before .before .before .next-key3 .ensures) _ (c .before .before .before .before .number-at .ensures) _ (refused-by _ _ _ _ _ (c .before .first-refusal .ensures) (c .before .before .before .number-if .ensures) (c .before .before .full .ensures)) (c .if5 .left) (omega arith)
+    pushed _ _ _ _ _ _ _ _ _ _ _ _ _ _ _ _ _ (c .before .before .before .before .before .before .before .before .before .before .loop .inv) _ _ _ (search needs) refl (c .before .before .before .before .before .before .before .byte-of .ensures) (c .before .before .before .before .before .next-key3 .ensures) _ (c .before .before .before .before .number-at .ensures) _ (refused-by _ _ _ _ _ (c .before .first .ensures) (c .before .before .before .number-if .ensures) (c .before .before .refusal .ensures)) (c .if5 .left) (omega arith)
 
 returns-4 : tie.Need-returns-4 Inv-loop μ-loop
 returns-4 c =
