@@ -1,7 +1,7 @@
-// The operand stack: what one operand more is refused with, and which of two refusals comes first.
+// The operand stack: what one operand more is refused with.
 ghost use mathlib.Core.Path.{_≡_};
 ghost use Prim.Native.Nat.{_+_, _≤_};
-ghost use Rattle.operand_stack.specs.Stack.{operandRefusal, numberIf, firstRefusal};
+ghost use Rattle.operand_stack.specs.Stack.{operandRefusal};
 
 // T1's own depth, and the present reading's.
 const STRICT_DEPTH: usize = 24;
@@ -28,18 +28,4 @@ pub fn refusal(held: usize, strict: bool) -> u8
         return 0;
     }
     beyond(held, strict)
-}
-
-// A number where something is refused, or 0.
-pub fn number_if(refused: bool, number: u8) -> u8
-    ensures { λ r. ⌜ r ≡ numberIf refused number ⌝ }
-{
-    if refused { number } else { 0 }
-}
-
-// The first of two refusals, of which each may be 0.
-pub fn first(a: u8, b: u8) -> u8
-    ensures { λ r. ⌜ r ≡ firstRefusal a b ⌝ }
-{
-    if a != 0 { a } else { b }
 }
