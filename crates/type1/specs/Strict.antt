@@ -28,7 +28,7 @@ use Rattle.type1.specs.State.{State, start, withOperands, withPostscript
 use Rattle.type1.specs.Run.{Limits, within, strictly, limitsOf, unlimited, Outcome, going, returning, ending, refused, andThen, check, allowed, top, without, push, stem, newGroup, commit, enter, list, moveBy, openSubpath, lineTo, lineBy, curveTo, curveBy, setPoint, handBack, endFlex, otherSubr0, otherSubr, callOtherSubr, popD, stems3, operate, readingOf, strictOf, Font, charge, named, returned, callBody, callSubr, execute, consume, runBytes, runBody, run}
 use Rattle.type1.specs.Interpret.{Source, runOf, outcome}
 use Rattle.type1.specs.States.{reached, counted, inBody, isCall, isPop, inCall, atToken, inBytes, inLevels, states, isDeep, anyDeep, holds25, anyPostscript}
-use Rattle.type1.specs.Sound.{isStep, Keeps, Answering}
+use Rattle.type1.specs.Sound.{Keeps, Answering}
 use Rattle.type1.specs.Refusals.{execute-keeps, runBody-keeps, run-never}
 
 -- ---- operators
