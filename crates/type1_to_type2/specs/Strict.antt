@@ -49,6 +49,7 @@ module _ (x : Source) (lenIV : ℕ) (m : Matrix) (r : Rooms) where
   abbrev present : Conversion
   present = convert x (readingOf lenIV) m r
 
+  -- 22, or the present reading's conversion
   pub convert-strict : (strict ≡ refused 22) ⊎ (strict ≡ present)
   unfolding convert
   convert-strict = go (finiteMatrix m) _ _ (strict-answer x lenIV (r .records) (r .words))
@@ -58,6 +59,7 @@ module _ (x : Source) (lenIV : ℕ) (m : Matrix) (r : Rooms) where
       go true o p (inr e) = inr (ap (ended m (r .bytes)) e)
       go false o p h = inr refl
 
+  -- the same glyph
   pub converts-same : (g : Glyph) → strict ≡ converted g → present ≡ converted g
   converts-same g h = go convert-strict
     where
@@ -65,6 +67,7 @@ module _ (x : Source) (lenIV : ℕ) (m : Matrix) (r : Rooms) where
       go (inl e) = absurd (eqb-false 22 0 refl (ap number (sym e ∙ h)))
       go (inr e) = sym e ∙ h
 
+  -- the same answer, output and stores, if the number is not 22
   pub same-left : (g : Type2Glyph) (stems : List Stem) (commands out : List ℕ) → (g .number ≡ 22 → ⊥) → Converts strict r g stems commands out → Converts present r g stems commands out
   same-left g stems commands out h c = go convert-strict
     where
@@ -72,14 +75,17 @@ module _ (x : Source) (lenIV : ℕ) (m : Matrix) (r : Rooms) where
       go (inl e) = absurd (h (ap (λ (y : Type2Glyph). y .number) (c .glyph) ∙ ap number e))
       go (inr e) = subst (λ (y : Conversion). Converts y r g stems commands out) e c
 
+  -- 22 where neither 1 nor 2 comes first and the present run holds a 25th operand
   pub convert-22 : finiteMatrix m ≡ true → valid (x .bank) ≡ true → holds25 x lenIV (r .records) (r .words) ≡ true → strict ≡ refused 22
   unfolding convert
   convert-22 f v d = ap (λ (b : Bool). pick b (ended m (r .bytes) (outcome x (strictOf lenIV) (r .records) (r .words))) (refused 1)) f ∙ ap (ended m (r .bytes)) (refused-22 x lenIV (r .records) (r .words) v d)
 
+  -- and nowhere else
   pub convert-only-22 : strict ≡ refused 22 → (finiteMatrix m ≡ true) × ((valid (x .bank) ≡ true) × (holds25 x lenIV (r .records) (r .words) ≡ true))
   unfolding convert
   convert-only-22 e = let (f, o) = not-1 m (r .bytes) (finiteMatrix m) (outcome x (strictOf lenIV) (r .records) (r .words)) e in (f, only-22 x lenIV (r .records) (r .words) o)
 
+  -- the present reading has no 22
   pub convert-not-22 : present ≡ refused 22 → ⊥
   unfolding convert
   convert-not-22 e = present-not-22 x lenIV (r .records) (r .words) (not-1 m (r .bytes) (finiteMatrix m) (outcome x (readingOf lenIV) (r .records) (r .words)) e .1)
