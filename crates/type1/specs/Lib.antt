@@ -2,7 +2,6 @@ pub mod Operator
 pub mod State
 pub mod Number
 pub mod Run
-pub mod Operands
 pub mod Memory
 pub mod Deltas
 pub mod DeltaLaws

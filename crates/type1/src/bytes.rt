@@ -26,9 +26,6 @@ use crate::opcodes::RRCURVETO;
 use crate::opcodes::VHCURVETO;
 use crate::opcodes::VLINETO;
 use crate::operands::curve_deltas;
-use crate::operands::first_refusal;
-use crate::operands::full;
-use crate::operands::number_if;
 use crate::operands::point_delta;
 
 fn wide(b: u8) -> u16
@@ -279,7 +276,9 @@ pub(crate) fn token(
         } else {
             let k = charstring::next_key(c, key);
             let w = number_at(code, i + 1, k, encrypted, v);
-            let f = first_refusal(number_if(w.cut, 5), full(n, reading));
+            let cut = operand_stack::number_if(w.cut, 5);
+            let over = operand_stack::refusal(n, reading.strict);
+            let f = operand_stack::first(cut, over);
             if f != 0 {
                 return found(place(st, n, x, y, entries, opened), i + 1, k, f, 0);
             }

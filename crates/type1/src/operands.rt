@@ -1,52 +1,14 @@
-// The operand stack, and the operands of moves, lines and curves (T1 6.4).
+// The operands of moves, lines and curves (T1 6.4).
 ghost use mathlib.Core.Path.{_≡_};
-ghost use Prim.Native.Nat.{_+_};
-ghost use Rattle.type1.specs.Operands.{depthOf, overflowOf, operandRefusal, numberIf, firstRefusal};
 ghost use Rattle.type1.specs.Deltas.{axesOf, tangentsOf, noDelta, noDeltas, pointDelta, curveDeltas};
 use crate::Delta;
 use crate::Deltas;
-use crate::Reading;
 use crate::opcodes::HLINETO;
 use crate::opcodes::HMOVETO;
 use crate::opcodes::HVCURVETO;
 use crate::opcodes::VHCURVETO;
 use crate::opcodes::VLINETO;
 use crate::opcodes::VMOVETO;
-
-// How many operands fit.
-fn depth(reading: Reading) -> usize
-    ensures { λ r. ⌜ r ≡ depthOf reading ⌝ }
-{
-    if reading.strict { 24 } else { 256 }
-}
-
-// What the next operand is refused with where it does not fit.
-fn overflow(reading: Reading) -> u8
-    ensures { λ r. ⌜ r ≡ overflowOf reading ⌝ }
-{
-    if reading.strict { 22 } else { 15 }
-}
-
-// What one operand more is refused with, n being held, or 0.
-pub(crate) fn full(n: usize, reading: Reading) -> u8
-    ensures { λ r. ⌜ r ≡ operandRefusal reading (n + 1) ⌝ }
-{
-    if n < depth(reading) { 0 } else { overflow(reading) }
-}
-
-// A number, or 0.
-pub(crate) fn number_if(refused: bool, number: u8) -> u8
-    ensures { λ r. ⌜ r ≡ numberIf refused number ⌝ }
-{
-    if refused { number } else { 0 }
-}
-
-// The first of two refusals, of which each may be 0.
-pub(crate) fn first_refusal(a: u8, b: u8) -> u8
-    ensures { λ r. ⌜ r ≡ firstRefusal a b ⌝ }
-{
-    if a != 0 { a } else { b }
-}
 
 fn no_delta() -> Delta
     ensures { λ r. ⌜ r ≡ noDelta ⌝ }

@@ -43,9 +43,6 @@ use crate::opcodes::VMOVETO;
 use crate::opcodes::VSTEM;
 use crate::opcodes::VSTEM3;
 use crate::operands::curve_deltas;
-use crate::operands::first_refusal;
-use crate::operands::full;
-use crate::operands::number_if;
 use crate::operands::point_delta;
 use crate::paths::curve_by;
 use crate::paths::line_by;
@@ -309,7 +306,9 @@ fn pop(st: St, ops: &mut [f64; 256], ps: &[f64; 256], reading: Reading) -> Ran
 {
     let p = st.postscript;
     let n = st.operands;
-    let f = first_refusal(number_if(p == 0, 11), full(n, reading));
+    let none = operand_stack::number_if(p == 0, 11);
+    let over = operand_stack::refusal(n, reading.strict);
+    let f = operand_stack::first(none, over);
     if f != 0 {
         return made(st, f);
     }

@@ -112,7 +112,17 @@ fn op(
     let n = room(stems);
     let same = is_last(st, edges, across, stems);
     let r = plain(
-        op, same, n, st, ops, ps, cells, edges, across, cmds, reading,
+        op,
+        same,
+        n,
+        st,
+        ops,
+        ps,
+        cells,
+        edges,
+        across,
+        cmds,
+        reading,
     );
     let s = r.st;
     let g = s.groups;
