@@ -284,9 +284,9 @@ operate lim call op.unknown s = refused 6
 
 -- ---- bodies and bytes
 
--- read with this lenIV (document 01, "Cipher")
+-- the present reading, with this lenIV (document 01, "Cipher")
 abbrev pub readingOf : ℕ → Reading
-readingOf lenIV = record { «len_iv» = lenIV }
+readingOf lenIV = record { «len_iv» = lenIV; strict = false }
 
 -- what the run is fed beside the charstring: the bank, and how both are read
 pub record Font : Type 0 where

@@ -29,14 +29,19 @@ use stems::clear;
 pub struct Reading {
     // plain bytes dropped at the start of each; `charstring::NOT_ENCRYPTED`: they are not encrypted
     pub len_iv: usize,
+    // whether T1's own operand stack is enforced: 24 operands fit
+    pub strict: bool,
 }
 
 impl Reading {
-    // With this lenIV.
+    // With this lenIV, and not strict.
     pub fn new(len_iv: usize) -> Reading
         ensures { λ r. ⌜ r ≡ readingOf «len_iv» ⌝ }
     {
-        Reading { len_iv }
+        Reading {
+            len_iv,
+            strict: false,
+        }
     }
 }
 
