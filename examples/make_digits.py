@@ -1,13 +1,15 @@
 #!/usr/bin/env python3
-"""Writes the example font `digits.pfb`, and the damaged copies that the program `cribstork` is tried on.
+"""Writes the example fonts `digits.pfb` and `operands.pfb`, and the damaged copies that the program `cribstork` is tried on.
 
-    python3 examples/make_digits.py            writes examples/digits.pfb and crates/cribstork/data/
+    python3 examples/make_digits.py            writes the fonts of examples/ and crates/cribstork/data/
     python3 examples/make_digits.py --check    compares them with what would be written
 
 The digits are drawn here, of strokes of one weight. Between them the glyphs have what a Type 1 font has: hsbw and sbw,
 the move, line and curve operators, stems, dotsection, hint replacement by OtherSubr 3, a flex, a div, subroutines that
 call subroutines. Three glyphs are not converted: one is an accent made by seac, one divides by 0, one has an
 operator that is unknown.
+
+`operands.pfb` is for the strict reading, in which 24 operands fit: glyphs that bring the 24th and the 25th.
 """
 import os
 import struct
@@ -42,7 +44,7 @@ OPERATORS = {
     "hstem": 1, "vstem": 3, "vmoveto": 4, "rlineto": 5, "hlineto": 6, "vlineto": 7, "rrcurveto": 8, "closepath": 9, "callsubr": 10,
     "return": 11, "hsbw": 13, "endchar": 14, "rmoveto": 21, "hmoveto": 22, "vhcurveto": 30, "hvcurveto": 31,
     "dotsection": (12, 0), "vstem3": (12, 1), "hstem3": (12, 2), "seac": (12, 6), "sbw": (12, 7), "div": (12, 12),
-    "callothersubr": (12, 16), "pop": (12, 17), "setcurrentpoint": (12, 33), "unknown": 2,
+    "callothersubr": (12, 16), "pop": (12, 17), "setcurrentpoint": (12, 33), "unknown": 2, "cut": 247,
 }
 
 
@@ -177,6 +179,33 @@ DRAWINGS = [
 GLYPHS = [(name, drawn(text)) for name, text in DRAWINGS]
 
 
+def zeros(n):
+    return "0 " * n
+
+
+# A box, after the operator that takes the operands.
+BOX = "dotsection M 0 0 L 400 0 L 400 700 L 0 700 Z endchar"
+# OtherSubr 13 is unknown to document 01: its arguments are left for pop. Subroutine 0 gives it 22, with 24 operands in all.
+OPERAND_SUBROUTINES = [zeros(22) + "22 13 callothersubr return"]
+OPERAND_DRAWINGS = [
+    (".notdef", "40 480 hsbw endchar"),
+    # The 24th and the 25th by a number, by a pop, and by the number of an OtherSubr.
+    ("number24", "40 480 hsbw " + zeros(24) + BOX),
+    ("number25", "40 480 hsbw " + zeros(25) + BOX),
+    ("pop24", "40 480 hsbw 7 1 13 callothersubr " + zeros(23) + "pop " + BOX),
+    ("pop25", "40 480 hsbw 7 1 13 callothersubr " + zeros(24) + "pop " + BOX),
+    ("othersubr24", "40 480 hsbw 0 callsubr " + BOX),
+    ("othersubr25", "40 480 hsbw 0 0 callsubr " + BOX),
+    # The 25th is a number that is cut (5), or a pop with nothing left for it (11).
+    ("cut25", "40 480 hsbw " + zeros(24) + "cut"),
+    ("nothing25", "40 480 hsbw " + zeros(24) + "pop " + BOX),
+    # 257 operands, and 264 values left for pop (15).
+    ("number257", "40 480 hsbw " + zeros(257) + BOX),
+    ("left264", "40 480 hsbw " + "0 callsubr " * 12 + BOX),
+]
+OPERAND_GLYPHS = [(name, drawn(text)) for name, text in OPERAND_DRAWINGS]
+
+
 def clear_text(matrix):
     return (
         "%!PS-AdobeFont-1.0: Digits 001.000\n"
@@ -244,7 +273,9 @@ def files():
     text = private_text(GLYPHS, SUBROUTINES)
     font = pfb(clear, eexec(text))
     hexadecimal = pfa(clear, eexec(text))
-    made = {"examples/digits.pfb": font, "examples/digits.pfa": hexadecimal, "examples/digits.t1": clear + eexec(text) + TRAILER}
+    operands = pfb(clear.replace(b"Digits", b"Operands"), eexec(private_text(OPERAND_GLYPHS, OPERAND_SUBROUTINES)))
+    made = {"examples/digits.pfb": font, "examples/digits.pfa": hexadecimal, "examples/digits.t1": clear + eexec(text) + TRAILER,
+            "examples/operands.pfb": operands}
     damaged = {
         # The file ends within its second segment.
         "cut.pfb": font[:1500],

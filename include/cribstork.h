@@ -26,6 +26,7 @@
  *       19  a listed width is not finite
  *       20  the width scratch is shorter than the list
  *       21  bytes on which the Type 2 machine faults, or a glyph that draws no point
+ *       22  the 25th operand in the strict reading
  *
  * An answer's first word is the number again; on a refusal its other words are 0.
  * Bytes run: the charstring's, and each subroutine's at every call of it. Stems in force: the hints that hold for what is

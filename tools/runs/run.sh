@@ -1,5 +1,5 @@
 #!/usr/bin/env bash
-# Runs cribstork over the example font, banks, names, damaged copies, files that are no fonts and wrong arguments, and compares
+# Runs cribstork over the example fonts, banks, names, damaged copies, files that are no fonts and wrong arguments, and compares
 # what it writes to standard output and standard error, and the exit status of tools/cribstork.sh, with transcript.txt.
 #
 #     tools/runs/run.sh             # exit 1 where something differs
@@ -42,6 +42,11 @@ tsv three-bounds 'name\tstems\tcommands\toutput\tx0\ty0\tx1\ty1\none\t16\t64\t51
 tsv no-bound 'name\tstems\tcommands\toutput\tx0\ty0\tx1\ty1\none\t16\t64\t512\t0\t0\t480\thigh\n'
 tsv beyond 'name\tstems\tcommands\toutput\tx0\ty0\tx1\ty1\none\t16\t64\t512\t0\t0\t480\t700\ntwo\t16\t64\t512\t0\t-1e15\t480\t700\n'
 tsv windows 'y1\tx1\ty0\tx0\tname\tcommands\tstems\toutput\n7.1e2\t439.5\t-10\t+40.5\tedges\t64\t16\t512\n710\t439.49999\t-10\t40.5\tnarrow\t64\t16\t512\n710\t40\t-10\t440\tempty\t64\t16\t512\n-\t-\t-\t-\tnone\t64\t16\t512\n700\t480\t0\t0\tshort\t64\t16\t64\n'
+tsv strict 'name\tstems\tcommands\toutput\tstrict\nstrict\t16\t64\t512\tyes\nlenient\t16\t64\t512\tno\nempty\t16\t64\t512\t\ndash\t16\t64\t512\t-\nsmall\t16\t64\t20\tyes\n'
+tsv strict-order 'strict\tty\ttx\td\tc\tb\ta\ty1\tx1\ty0\tx0\tname\tcommands\tstems\toutput\nyes\t-\t-\t-\t-\t-\t-\t-\t-\t-\t-\tstrict\t64\t16\t512\n no \t0\t0\t1\t0\t0\t1\t700\t480\t0\t0\tlenient\t64\t16\t512\n\t0\t0\t1\t0\t0\t1\t600\t480\t0\t0\tempty\t64\t16\t512\n'
+tsv no-answer 'name\tstems\tcommands\toutput\tstrict\none\t16\t64\t512\tno\ntwo\t16\t64\t512\tYes\n'
+tsv no-answer-2 'strict\tname\tstems\tcommands\toutput\n1\tone\t16\t64\t512\n'
+printf 'number24 number25\n' >operands.txt
 printf '' >none.txt
 printf ' \n' >blank.txt
 printf 'zero\teight  Euro\nzero Euro seven\n' >some.txt
@@ -119,6 +124,20 @@ transcript() {
     run --window 0 0 480 nan examples/digits.pfb
     run --window 0 0 480 -- examples/digits.pfb
     run --window 0 0 1 1 --window 0 0 1 1 examples/digits.pfb
+    run --strict
+    run examples/operands.pfb
+    run --strict examples/operands.pfb
+    run --strict --hex --strict --glyph number24,number25,pop24,pop25 examples/operands.pfb
+    run --strict examples/digits.pfb examples/operands.pfb damaged/cut.pfb
+    run --table --strict --window 0 0 480 700 --stems 1 --commands 4 --output 40 --matrix 0.5 0 0 0.5 0 0 examples/digits.pfb examples/operands.pfb
+    run --banks strict.tsv examples/operands.pfb examples/digits.pfb
+    run --banks strict.tsv --strict examples/operands.pfb examples/digits.pfb
+    run --strict --banks strict.tsv --need operands.txt examples/operands.pfb
+    run --banks strict-order.tsv examples/operands.pfb
+    run --strict --banks strict-order.tsv --need operands.txt examples/operands.pfb
+    for f in no-answer no-answer-2; do run --strict --banks "$f.tsv" examples/operands.pfb; done
+    run --strict=yes examples/operands.pfb
+    run examples/operands.pfb --strict yes
     run --need some.txt examples/digits.pfb
     for o in --hex --table '--glyph one' '--stems 4' '--window 0 0 480 700'; do run --banks order.tsv $o examples/digits.pfb; done
 }

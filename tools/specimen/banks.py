@@ -131,7 +131,7 @@ def message_for(path, messages):
 
 
 def read_banks(text):
-    """What is said of each bank: its stores, its matrix where that is not the identity, and its window."""
+    """What is said of each bank: its stores, its matrix where that is not the identity, its window, and whether its reading is strict."""
     lines = [line.split("#", 1)[0].rstrip() for line in text.split("\n")]
     cells = [[c.strip() for c in line.split("\t")] for line in lines if line]
     said = {}
@@ -140,11 +140,14 @@ def read_banks(text):
         name = of.pop("name", "")
         matrix = [of.pop(c, "") for c in MATRIX]
         window = [of.pop(c, "") for c in WINDOW]
+        strict = of.pop("strict", "")
         out = ["%s %s" % (c, v) for c, v in of.items() if v not in ("", "-")]
         if all(matrix) and matrix not in (["-"] * 6, ["1", "0", "0", "1", "0", "0"]):
             out.append("matrix " + " ".join(matrix))
         if all(window) and window != ["-"] * 4:
             out.append("window " + " ".join(window))
+        if strict not in ("", "-"):
+            out.append("strict " + strict)
         if name in said:
             raise BadTable("two banks are named %s" % name)
         said[name] = out

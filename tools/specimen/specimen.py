@@ -4,6 +4,7 @@
     specimen.py [--cribstork target/bin/cribstork] FONT > page.html
     specimen.py [--cribstork target/bin/cribstork] --font-matrix FONT > page.html
     specimen.py [--cribstork target/bin/cribstork] --matrix A B C D TX TY FONT > page.html
+    specimen.py [--cribstork target/bin/cribstork] --strict FONT > page.html
 
 The font is read and run here, and the finished bytes that `cribstork --hex` prints are run here on a Type 2 machine of
 document 01, which counts in whole 1/65536. The two drawn lists are compared entry by entry. A line on standard error
@@ -29,7 +30,7 @@ MEANINGS = {
     13: "number not −32768 to below 32768 once rounded", 14: "quotient, point, stem edge or folded value not finite",
     15: "257th operand, or PostScript stack over 256", 16: "257th stem in force or group, or stem store full",
     17: "command store full", 18: "output short", 19: "a width not finite", 20: "width scratch short",
-    21: "the machine faults, or no point is drawn",
+    21: "the machine faults, or no point is drawn", 22: "25th operand in the strict reading",
 }
 
 MOVE, LINE, CURVE, FLEX = "move", "line", "curve", "flex"
@@ -180,12 +181,13 @@ def is_finite(v):
 
 
 class Type1Run:
-    """Document 01's Type 1 run. Numbers are doubles, as in the product, or with `number=Fraction` exact."""
+    """Document 01's Type 1 run. Numbers are doubles, as in the product, or with `number=Fraction` exact. In the strict reading 24
+    operands fit."""
 
-    def __init__(self, font, number=float):
+    def __init__(self, font, number=float, strict=False):
         self.subrs, self.len_iv, self.number = font.subrs, font.len_iv, number
         zero = number(0)
-        self.stack, self.ps_stack = [], []
+        self.stack, self.ps_stack, self.strict = [], [], strict
         self.x = self.y = self.sbx = self.sby = self.width = zero
         self.open = False
         self.flex = None
@@ -215,6 +217,8 @@ class Type1Run:
             raise Refused(3)
 
     def push(self, v):
+        if self.strict and len(self.stack) == 24:
+            raise Refused(22)
         if len(self.stack) == 256:
             raise Refused(15)
         self.stack.append(v)
@@ -674,11 +678,11 @@ def compare(listed, drawn):
 class Outline:
     """What a glyph's Type 1 run draws under a matrix."""
 
-    def __init__(self, font, name, charstring, matrix):
+    def __init__(self, font, name, charstring, matrix, strict=False):
         self.name = name
         self.machine = None
         fold = Fold(matrix)
-        self.run = Type1Run(font).glyph(charstring)
+        self.run = Type1Run(font, strict=strict).glyph(charstring)
         self.listed = fold.entries(self.run.listed)
         self.groups = fold.groups(self.run.groups)
         self.width = fold.width(self.run.width)
@@ -694,8 +698,8 @@ class Outline:
 class Glyph(Outline):
     """A glyph's two runs, and what differs between them."""
 
-    def __init__(self, font, name, charstring, row, widths, matrix):
-        super().__init__(font, name, charstring, matrix)
+    def __init__(self, font, name, charstring, row, widths, matrix, strict=False):
+        super().__init__(font, name, charstring, matrix, strict)
         self.row = row
         self.differs = []
         self.wrong, self.deviation, self.exact = [], None, None
@@ -1061,7 +1065,8 @@ def asked_matrix(options, font):
 
 
 def asked_options(options):
-    return ["--matrix"] + options.matrix if options.matrix else ["--font-matrix"] if options.font_matrix else []
+    matrix = ["--matrix"] + options.matrix if options.matrix else ["--font-matrix"] if options.font_matrix else []
+    return matrix + ["--strict"] * options.strict
 
 
 def stop(text):
@@ -1074,6 +1079,7 @@ def main():
     p.add_argument("--cribstork", default="target/bin/cribstork", metavar="PROGRAM", help="the program (default: %(default)s)")
     p.add_argument("--font-matrix", action="store_true", help="apply the font's matrix, in thousandths")
     p.add_argument("--matrix", nargs=6, metavar=("A", "B", "C", "D", "TX", "TY"), help="apply this matrix")
+    p.add_argument("--strict", action="store_true", help="the strict reading: 24 operands fit")
     p.add_argument("font", metavar="FONT")
     options = p.parse_args()
     try:
@@ -1089,7 +1095,7 @@ def main():
     if [r.name for r in rows] != [printed(name) for name, _ in font.glyphs]:
         stop("cribstork printed other glyphs than the font has: %d for %d" % (len(rows), len(font.glyphs)))
     matrix = asked_matrix(options, font)
-    glyphs = [Glyph(font, name, code, row, widths, matrix) for (name, code), row in zip(font.glyphs, rows)]
+    glyphs = [Glyph(font, name, code, row, widths, matrix, options.strict) for (name, code), row in zip(font.glyphs, rows)]
     out, sums = page(font, options.font, matrix, widths, glyphs)
     sys.stdout.buffer.write(out.encode("utf-8"))
     sys.stderr.write("%s: %s\n" % (os.path.basename(options.font), sums.line()))

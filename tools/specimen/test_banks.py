@@ -68,9 +68,9 @@ def write_sample(folder):
         f.write(os.fsencode(paths[2]) + b": no eexec up to the end, at byte 7 & more\n")
         f.write(b"cribstork: fonts 4, banks 2, yes 2, no 4, unreadable 2\n")
     with open(files[2], "w") as f:
-        f.write("# banks\nname\tstems\tcommands\toutput\ta\tb\tc\td\ttx\tty\tx0\ty0\tx1\ty1\n\n"
-                "small\t7\t20\t128\t0.5\t0\t0\t0.5\t0\t0\t-0.5\t-5\t240\t350 # half\n"
-                "large & <wide>\t64\t256\t1024\t1\t0\t0\t1\t0\t0\t-\t-\t-\t-\n")
+        f.write("# banks\nname\tstems\tcommands\toutput\ta\tb\tc\td\ttx\tty\tx0\ty0\tx1\ty1\tstrict\n\n"
+                "small\t7\t20\t128\t0.5\t0\t0\t0.5\t0\t0\t-0.5\t-5\t240\t350\tyes # half\n"
+                "large & <wide>\t64\t256\t1024\t1\t0\t0\t1\t0\t0\t-\t-\t-\t-\t-\n")
     with open(files[3], "w") as f:
         f.write("space one\n eight\taccent aring <script> one\n")
     return files, rows
@@ -164,7 +164,7 @@ class Page(unittest.TestCase):
     def test_totals_and_heads(self):
         self.assertEqual(self.tree.with_id("totals")["text"], "4 fonts, 2 banks: 2 yes, 4 no, 2 unreadable.")
         heads = [e["text"] for e in self.tree.all if e.get("scope") == "col"]
-        self.assertEqual(heads[1:], ["smallprints 0 of 4stems 7commands 20output 128matrix 0.5 0 0 0.5 0 0window -0.5 -5 240 350",
+        self.assertEqual(heads[1:], ["smallprints 0 of 4stems 7commands 20output 128matrix 0.5 0 0 0.5 0 0window -0.5 -5 240 350strict yes",
                                      "large & <wide>prints 2 of 4stems 64commands 256output 1024"])
         self.assertIn("The label needs 6 glyphs.", self.text)
 
@@ -249,6 +249,10 @@ class Table(unittest.TestCase):
                      self.HEAD + "s\tno\t2\ta 12\tx\n", self.HEAD + "s\tno\t1\ta\tx\n", self.HEAD + "s\tno\t1\ta within\tx\n", self.HEAD + "s\tno\tmany\ta 12\tx\n"):
             with self.assertRaises(b.BadTable, msg=text):
                 b.read_rows(text)
+
+    def test_what_a_bank_says_of_the_strict_reading(self):
+        said = b.read_banks("strict\tname\tstems\nno\ts\t1\n\tt\t2\nyes\tu\t3\n")
+        self.assertEqual(said, {"s": ["stems 1", "strict no"], "t": ["stems 2"], "u": ["stems 3", "strict yes"]})
 
     def test_two_banks_of_one_name(self):
         with self.assertRaises(b.BadTable):

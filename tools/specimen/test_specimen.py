@@ -15,8 +15,8 @@ class Bare:
         self.subrs, self.len_iv = [bytes.fromhex(b) for b in subrs], None
 
 
-def type1(code, *subrs, number=float):
-    return s.Type1Run(Bare(*subrs), number).glyph(code if isinstance(code, bytes) else bytes.fromhex(code))
+def type1(code, *subrs, number=float, strict=False):
+    return s.Type1Run(Bare(*subrs), number, strict).glyph(code if isinstance(code, bytes) else bytes.fromhex(code))
 
 
 def type2(code):
@@ -41,6 +41,14 @@ class Type1(unittest.TestCase):
         self.refused(14, bytes.fromhex("8C" + "8C FF 7F FF FF FF 0C 0C 0C 0C" * 40))
         self.refused(15, b"\x8b" * 257)
         self.refused(16, b"".join(b"\xff" + i.to_bytes(4, "big") + b"\x8c\x01" for i in range(257)))
+
+    def test_strict_reading(self):
+        left = "8C 8C 98 0C 10 "  # OtherSubr 13 leaves a value for pop
+        for here, strictly, code in (
+                (0, 0, "8B" * 24), (0, 22, "8B" * 25), (5, 5, "8B" * 24 + "F7"), (11, 11, "8B" * 24 + "0C 11"), (0, 22, left + "8B" * 24 + "0C 11"),
+                (0, 0, left + "8B" * 23 + "0C 11"), (0, 0, "8B" * 22 + "A1 98 0C 10"), (0, 22, "8B" * 23 + "A2 98 0C 10"), (15, 22, "8B" * 257),
+                (15, 15, ("8B" * 22 + "A1 98 0C 10") * 12), (0, 0, "8B" * 24 + "09" + "8B" * 24)):
+            self.assertEqual((type1(code).number_given, type1(code, strict=True).number_given), (here, strictly), code)
 
     def test_limits_that_pass(self):
         self.refused(0, b"\x09" * 1048576)

@@ -53,11 +53,12 @@ pub enum Refusal {
     WidthNotFinite = 19,
     ScratchShort = 20,
     NoBox = 21,
+    StrictStackFull = 22,
 }
 
 use Refusal::*;
 
-const REFUSALS: [(Refusal, &str); 21] = [
+const REFUSALS: [(Refusal, &str); 22] = [
     (MatrixNotFinite, "a matrix entry is not finite"),
     (BankLayout, "the bank breaks its layout"),
     (BytesRun, "bytes run over 1,048,576"),
@@ -82,6 +83,7 @@ const REFUSALS: [(Refusal, &str); 21] = [
         NoBox,
         "bytes on which the Type 2 machine faults, or a glyph that draws no point",
     ),
+    (StrictStackFull, "the 25th operand in the strict reading"),
 ];
 
 impl Refusal {
@@ -90,7 +92,7 @@ impl Refusal {
         self as u64
     }
 
-    /// The refusal with this number; none for 0 and for numbers beyond 21.
+    /// The refusal with this number; none for 0 and for numbers beyond 22.
     pub fn from_number(number: u64) -> Option<Self> {
         let at = usize::try_from(number).ok()?.checked_sub(1)?;
         REFUSALS.get(at).map(|&(refusal, _)| refusal)
@@ -105,7 +107,7 @@ impl fmt::Display for Refusal {
 
 impl core::error::Error for Refusal {}
 
-/// A number as a result. The archive gives no number beyond 21.
+/// A number as a result. The archive gives no number beyond 22.
 fn accepted(number: u64) -> Result<(), Refusal> {
     match number {
         0 => Ok(()),

@@ -250,9 +250,9 @@ fn refusals() {
 #[test]
 fn numbers_of_refusals() {
     assert_eq!(Refusal::from_number(0), None);
-    assert_eq!(Refusal::from_number(22), None);
+    assert_eq!(Refusal::from_number(23), None);
     assert_eq!(Refusal::from_number(u64::MAX), None);
-    for number in 1..=21 {
+    for number in 1..=22 {
         assert_eq!(Refusal::from_number(number).unwrap().number(), number);
     }
     assert_eq!(Refusal::DivByZero.to_string(), "10: div by 0");

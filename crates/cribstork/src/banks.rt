@@ -35,6 +35,8 @@ const SAME_NAME: usize = 8;
 
 const BEYOND: usize = 9;
 
+const NO_ANSWER: usize = 10;
+
 // The columns, in the order of `columns`.
 const NAME: usize = 0;
 
@@ -48,14 +50,16 @@ const MATRIX: usize = 4;
 
 const WINDOW: usize = 10;
 
-const COLUMNS: usize = 14;
+const STRICT: usize = 14;
+
+const COLUMNS: usize = 15;
 
 // The word is the name of column c.
 fn is_column(w: &[u8], c: usize) -> bool {
     same(
         w,
         line(
-            b"name\nstems\ncommands\noutput\na\nb\nc\nd\ntx\nty\nx0\ny0\nx1\ny1",
+            b"name\nstems\ncommands\noutput\na\nb\nc\nd\ntx\nty\nx0\ny0\nx1\ny1\nstrict",
             c,
         ),
     )
@@ -65,7 +69,7 @@ fn say_column(page: &mut [u8], c: usize) {
     page::text(
         page,
         line(
-            b"name\nstems\ncommands\noutput\na\nb\nc\nd\ntx\nty\nx0\ny0\nx1\ny1",
+            b"name\nstems\ncommands\noutput\na\nb\nc\nd\ntx\nty\nx0\ny0\nx1\ny1\nstrict",
             c,
         ),
     );
@@ -304,7 +308,15 @@ fn has_matrix(header: &[u8], row: &[u8]) -> bool {
 }
 
 fn has_window(header: &[u8], row: &[u8]) -> bool {
-    has_some(header, row, WINDOW, COLUMNS)
+    has_some(header, row, WINDOW, STRICT)
+}
+
+// What is wrong with the cell that says whether the reading is strict: it is yes, no, or empty.
+fn check_strict(w: &[u8], line: usize) -> Fault {
+    if w.len() == 0 || same(w, b"yes") || same(w, b"no") {
+        return no_fault();
+    }
+    at_fault(NO_ANSWER, line, STRICT)
 }
 
 fn check_name(w: &[u8], line: usize) -> Fault {
@@ -326,7 +338,10 @@ fn check_cell(header: &[u8], row: &[u8], line: usize, c: usize) -> Fault {
     if c < WINDOW {
         return check_entry(w, line, c, has_matrix(header, row));
     }
-    check_bound(w, line, c, has_window(header, row))
+    if c < STRICT {
+        return check_bound(w, line, c, has_window(header, row));
+    }
+    check_strict(w, line)
 }
 
 // What is wrong with a bank's line.
@@ -430,7 +445,7 @@ pub(crate) fn check(v: &[u8]) -> Fault {
     check_lines(v, header, n)
 }
 
-// A bank: its stores, and its matrix and its window if it has them.
+// A bank: its stores, its matrix and its window if it has them, and whether its reading is strict if it says so.
 pub(crate) struct Bank {
     pub stems: usize,
     pub commands: usize,
@@ -439,6 +454,8 @@ pub(crate) struct Bank {
     pub matrix: Matrix,
     pub has_window: bool,
     pub window: Bounds,
+    pub says_strict: bool,
+    pub strict: bool,
 }
 
 fn store(header: &[u8], row: &[u8], c: usize) -> usize {
@@ -483,6 +500,8 @@ fn bank_of(header: &[u8], row: &[u8]) -> Bank {
         matrix: matrix(header, row),
         has_window: has_window(header, row),
         window: window_of(header, row),
+        says_strict: field(header, row, STRICT).len() > 0,
+        strict: same(field(header, row, STRICT), b"yes"),
     }
 }
 
@@ -501,7 +520,7 @@ fn reason(page: &mut [u8], what: usize) {
     page::text(
         page,
         line(
-            b"\nno bank\nno column \nno value for \n is no whole number for \n is more than the program lends for \n is no finite number for \nmore cells than the header has\na bank before has the same name, \n is not -140737488355328 to below 140737488355328 once rounded, for ",
+            b"\nno bank\nno column \nno value for \n is no whole number for \n is more than the program lends for \n is no finite number for \nmore cells than the header has\na bank before has the same name, \n is not -140737488355328 to below 140737488355328 once rounded, for \n is neither yes nor no for ",
             what,
         ),
     );
@@ -542,7 +561,7 @@ fn say_cell(page: &mut [u8], v: &[u8], f: Fault) {
 
 // What is wrong with a cell's text.
 fn is_of_cell(what: usize) -> bool {
-    what == NO_COUNT || what == TOO_MANY || what == NO_NUMBER || what == BEYOND
+    what == NO_COUNT || what == TOO_MANY || what == NO_NUMBER || what == BEYOND || what == NO_ANSWER
 }
 
 // What stands after the words.

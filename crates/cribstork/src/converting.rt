@@ -34,8 +34,8 @@ fn width_scratch() -> [f64; GLYPHS]
     [0.0; GLYPHS]
 }
 
-// What converting goes by: the bytes a charstring drops, the matrix, and the sizes of the stores; and the window
-// that the finished glyphs are held to, if there is one.
+// What converting goes by: the bytes a charstring drops, the matrix, and the sizes of the stores; the window
+// that the finished glyphs are held to, if there is one; and whether the reading is strict.
 pub(crate) struct Setup {
     pub len_iv: usize,
     pub matrix: Matrix,
@@ -44,6 +44,7 @@ pub(crate) struct Setup {
     pub output: usize,
     pub has_window: bool,
     pub window: Bounds,
+    pub strict: bool,
 }
 
 // The same, with all of the program's stores.
@@ -60,6 +61,14 @@ fn has_all_stores(s: Setup) -> bool {
     s.stems >= STEMS && s.commands >= ENTRIES && s.output >= OUTPUT
 }
 
+// How the charstring and the bank are read.
+fn reading(s: Setup) -> Reading {
+    Reading {
+        len_iv: s.len_iv,
+        strict: s.strict,
+    }
+}
+
 // Converts a charstring with stores of the setup's sizes.
 fn convert_lent(
     charstring: &[u8],
@@ -74,7 +83,7 @@ fn convert_lent(
     crate::convert(
         charstring,
         bank,
-        Reading::new(s.len_iv),
+        reading(s),
         s.matrix,
         records,
         &mut words[..w],
@@ -259,7 +268,7 @@ fn measure_most(
     program: &mut [u8],
     out: &mut [u8],
 ) -> Measured {
-    let i = crate::run(charstring, bank, Reading::new(s.len_iv), STEMS, words);
+    let i = crate::run(charstring, bank, reading(s), STEMS, words);
     let a = with_all_stores(s);
     let g = convert_finished(charstring, bank, a, most, words, program, out);
     measured_of(g, i)

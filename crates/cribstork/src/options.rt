@@ -33,6 +33,7 @@ pub(crate) struct Options {
     pub help: bool,
     pub version: bool,
     pub first: usize,
+    pub strict: bool,
 }
 
 fn none() -> Options {
@@ -54,6 +55,7 @@ fn none() -> Options {
         help: false,
         version: false,
         first: 0,
+        strict: false,
     }
 }
 
@@ -109,13 +111,15 @@ const MATRIX: usize = 12;
 
 const WINDOW: usize = 13;
 
-const UNKNOWN: usize = 14;
+const STRICT: usize = 14;
 
-const FONT: usize = 15;
+const UNKNOWN: usize = 15;
+
+const FONT: usize = 16;
 
 fn kind_of_word(w: &[u8]) -> usize {
     let n = line_number(
-        b"--hex\n--table\n--font-matrix\n--help\n-h\n--version\n--glyph\n--stems\n--commands\n--output\n--banks\n--need\n--matrix\n--window",
+        b"--hex\n--table\n--font-matrix\n--help\n-h\n--version\n--glyph\n--stems\n--commands\n--output\n--banks\n--need\n--matrix\n--window\n--strict",
         UNKNOWN,
         w,
     );
@@ -356,6 +360,9 @@ fn with_flag(i: usize, kind: usize, o: Options) -> Options {
         }
         VERSION => {
             p.version = true;
+        }
+        STRICT => {
+            p.strict = true;
         }
         FONT => {
             p.fonts = place(o.fonts, 1);

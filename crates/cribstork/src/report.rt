@@ -111,6 +111,7 @@ fn setup_asked(v: &[u8], f: Font, o: Options) -> Setup {
         output: o.output,
         has_window: o.window != 0,
         window: window_asked(o),
+        strict: o.strict,
     }
 }
 
@@ -210,6 +211,7 @@ fn print_rows(
         need,
         bank,
         m,
+        o.strict,
         banks,
         &mut words,
         &mut numbers,

@@ -320,8 +320,8 @@ fn yes_or_no(page: &mut [u8], fails: usize) {
     page::tab(page);
 }
 
-// The setup of a bank; `m` holds where it has no matrix of its own.
-fn setup(b: Bank, len_iv: usize, m: geometry::Matrix) -> Setup {
+// The setup of a bank; `m` holds where it has no matrix of its own, and `strict` where it does not say how it reads.
+fn setup(b: Bank, len_iv: usize, m: geometry::Matrix, strict: bool) -> Setup {
     let own = b.matrix;
     let window = b.window;
     Setup {
@@ -332,6 +332,7 @@ fn setup(b: Bank, len_iv: usize, m: geometry::Matrix) -> Setup {
         output: b.output,
         has_window: b.has_window,
         window,
+        strict: if b.says_strict { b.strict } else { strict },
     }
 }
 
@@ -403,6 +404,7 @@ fn bank_row(
     need: &[u8],
     bank: &[u8],
     m: geometry::Matrix,
+    strict: bool,
     banks: &[u8],
     k: usize,
     words: &mut [u64],
@@ -419,7 +421,7 @@ fn bank_row(
         marks,
         need,
         bank,
-        setup(banks::bank_at(banks, k), f.len_iv, m),
+        setup(banks::bank_at(banks, k), f.len_iv, m, strict),
         words,
         numbers,
     )
@@ -438,6 +440,7 @@ pub(crate) fn rows(
     need: &[u8],
     bank: &[u8],
     m: geometry::Matrix,
+    strict: bool,
     banks: &[u8],
     words: &mut [u64],
     numbers: &mut [u64],
@@ -458,6 +461,7 @@ pub(crate) fn rows(
             need,
             bank,
             m,
+            strict,
             banks,
             k,
             words,

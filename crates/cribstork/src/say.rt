@@ -11,7 +11,7 @@ pub(crate) fn refusal(page: &mut [u8], number: usize) {
     text(
         page,
         line(
-            b"\nmatrix entry not finite\nbank breaks its layout\nmore than 1048576 bytes run\nsubroutine calls over 10 deep\nnumber or escape cut\nunknown operator\noperands missing\nno such subroutine\nflex not started, or not seven points\ndiv by 0\npop, nothing left for it\nseac\nnumber not -32768 to below 32768 once rounded\nquotient, point, stem edge or folded value not finite\n257th operand, or PostScript stack over 256\n257th stem in force or group, or stem store full\ncommand store full\noutput short\na width not finite\nwidth scratch short\nthe machine faults, or no point is drawn",
+            b"\nmatrix entry not finite\nbank breaks its layout\nmore than 1048576 bytes run\nsubroutine calls over 10 deep\nnumber or escape cut\nunknown operator\noperands missing\nno such subroutine\nflex not started, or not seven points\ndiv by 0\npop, nothing left for it\nseac\nnumber not -32768 to below 32768 once rounded\nquotient, point, stem edge or folded value not finite\n257th operand, or PostScript stack over 256\n257th stem in force or group, or stem store full\ncommand store full\noutput short\na width not finite\nwidth scratch short\nthe machine faults, or no point is drawn\n25th operand in the strict reading",
             number,
         ),
     );
@@ -93,7 +93,7 @@ cribstork --banks BANKS [--need NAMES] FONT..
                                     which fonts each bank may print: a row for each font and bank
   --banks BANKS    a file with a line for each bank, its cells separated by tabs; the first line names the
                    columns: name, stems, commands (entries), output (bytes), and a b c d tx ty, a matrix,
-                   and x0 y0 x1 y1, a window; '#' begins a comment
+                   and x0 y0 x1 y1, a window, and strict, yes or no; '#' begins a comment
   --need NAMES     a file of the glyph names that are needed; without it every glyph is
   --table          the whole table for each of several fonts
   --hex            with the finished charstrings
@@ -101,6 +101,7 @@ cribstork --banks BANKS [--need NAMES] FONT..
   --matrix A B C D TX TY
                    a matrix in place of the identity
   --font-matrix    1000 times the font's own matrix
+  --strict         Type 1's own stack of 24 operands: a glyph with a 25th is refused with 22
   --window X0 Y0 X1 Y1
                    each glyph's box, and whether it is within this window, crosses it or is outside
   --stems N --commands N --output N

@@ -8,7 +8,7 @@ abbrev Inv-loop : tie.InvT-loop
 Inv-loop header row line c₀ c = Unit {0}
 
 abbrev μ-loop : tie.MeasureT-loop
-μ-loop header row line c₀ c = 14 - c
+μ-loop header row line c₀ c = 15 - c
 
 pub check-row-spec : {M : Type 1} → statement M
 check-row-spec =
