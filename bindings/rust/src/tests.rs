@@ -53,7 +53,7 @@ fn plain<'a>(charstring: &'a [u8], bank: &'a [u8]) -> Input<'a> {
     Input {
         charstring,
         bank,
-        len_iv: NOT_ENCRYPTED,
+        settings: Settings::default(),
         matrix: IDENTITY,
     }
 }
