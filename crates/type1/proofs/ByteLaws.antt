@@ -16,25 +16,29 @@ use lib.Ieee.{Float}
 use Rattle.charstring.specs.Cipher.{Bytes, step, byteOf}
 use Rattle.charstring.specs.Cursor.{after, byteAt, rest}
 use Rattle.charstring.specs.Laws.{step-key, rest-more, rest-none, rest-length, rest-bytes}
+use Rattle.type1.specs.declared.Reading.{Reading}
 use Rattle.type1.specs.declared.St.{St}
 use Rattle.type1.specs.declared.Tok.{Tok}
 use Rattle.type1.specs.declared.Num.{Num}
 use Rattle.type1.specs.declared.Ran.{Ran}
 use Rattle.type1.specs.declared.Drawn.{Drawn}
+use Rattle.type1.specs.Operator as op
 use Rattle.type1.specs.Operator.{Operator, closepath, ofByte, ofEscape}
 use Rattle.type1.specs.Number.{Token, cut, number, operator, token, tokenTwo, tokenFive, tokenEscape, oneByte, twoBytes, twoBytesBelow, fourBytes, double}
 use Rattle.geometry.specs.declared.Point.{Point}
 use Rattle.outline.specs.Outline.{pick, origin}
 use Rattle.type1.specs.State.{State, withOperands, withOpen}
-use Rattle.type1.specs.Outcomes.{limit-check}
-use Rattle.hints.specs.Hints.{atMost}
-use Rattle.type1.specs.Run.{Limits, within, Outcome, going, returning, ending, refused, andThen, check, push, consume, operate, runBytes}
+use Rattle.type1.specs.Run.{Limits, within, limitsOf, Outcome, allowed, going, returning, ending, refused, andThen, check, push, consume, operate, runBytes}
 use Rattle.type1.specs.Memory.{Mem, flexHeld, abs, Fit, Holds, Good, Meets, operatorOf}
 use Rattle.type1.specs.Small.{ranOf, withOpened}
 use Rattle.type1.specs.Sound.{All, OfFlex, GoodPoint, Sound, SoundOut, SmallToken}
 use Rattle.type1.specs.SoundLaws.{zero-good, sound-stable}
 use Rattle.type1.specs.StableLaws.{token-small}
 use Rattle.type1.specs.Reading.{cursorOf, placed, tokOf, left, isRead, isQuick, drawnTo, Draws, ReadsAs, readMem, goesOn, Numbered, Operated, Reads}
+use Rattle.type1.specs.States.{isPop}
+use Rattle.operand_stack.specs.Stack.{operandRefusal, numberIf, firstRefusal}
+use Rattle.operand_stack.specs.Laws.{operands-fit, refusal-above, first-is, second-is, none-refused}
+use Rattle.type1.proofs.Depth.{operate-limits, limit-is, allowed-none, allowed-not}
 use Rattle.type1.proofs.Stacks.{operands-are, holds-itself}
 
 -- ---- one byte more; where the bytes are not encrypted, the key does not count
@@ -204,15 +208,48 @@ pub quick-is : (c o b : Bool) → b ≡ isQuick c o → b ≡ true → (o ≡ tr
 quick-is true o b e z = absurd (true≢false (sym (sym e ∙ z)))
 quick-is false o b e z = (sym e ∙ z, refl)
 
+-- what a flow above those of a step says
+refusal-flow : (f : ℕ) (a b c : Outcome) → 3 ≤ f → pick (eqb f 0) a (pick (eqb f 1) b c) ≡ c
+refusal-flow f a b c h = simp (ne-eqb f 0 (λ z. let y : ⊥ = omega (arith, h, z) in y), ne-eqb f 1 (λ z. let y : ⊥ = omega (arith, h, z) in y))
+
 nine-is : ofByte 9 ≡ closepath
 unfolding ofByte
 nine-is = refl
 
+-- pop is no operator that is done as it is read
+read-no-pop : (o : Operator) → T (isRead o) → isPop o ≡ false
+read-no-pop op.hstem h = refl
+read-no-pop op.vstem h = refl
+read-no-pop op.vmoveto h = refl
+read-no-pop op.rlineto h = refl
+read-no-pop op.hlineto h = refl
+read-no-pop op.vlineto h = refl
+read-no-pop op.rrcurveto h = refl
+read-no-pop op.closepath h = refl
+read-no-pop op.callsubr h = refl
+read-no-pop op.return h = refl
+read-no-pop op.hsbw h = refl
+read-no-pop op.endchar h = refl
+read-no-pop op.rmoveto h = refl
+read-no-pop op.hmoveto h = refl
+read-no-pop op.vhcurveto h = refl
+read-no-pop op.hvcurveto h = refl
+read-no-pop op.dotsection h = refl
+read-no-pop op.vstem3 h = refl
+read-no-pop op.hstem3 h = refl
+read-no-pop op.seac h = refl
+read-no-pop op.sbw h = refl
+read-no-pop op.div h = refl
+read-no-pop op.callothersubr h = refl
+read-no-pop op.pop h = absurd h
+read-no-pop op.setcurrentpoint h = refl
+read-no-pop op.unknown h = refl
+
 -- what was read so far: what is left does what the whole does
-pub record Going (code : List ℕ) (from start : ℕ) (e : Bool) (st : St) (ops₀ : List Float) (cmds₀ : List ℕ) (ops : List Float) (cmds : List ℕ) (i key n : ℕ) (x y : Float) (k : ℕ) (o : Bool) : Type 0 where
+pub record Going (reading : Reading) (code : List ℕ) (from start : ℕ) (e : Bool) (st : St) (ops₀ : List Float) (cmds₀ : List ℕ) (ops : List Float) (cmds : List ℕ) (i key n : ℕ) (x y : Float) (k : ℕ) (o : Bool) : Type 0 where
   pub fit : (m : Mem) → Fit st (readMem ops₀ cmds₀ m) → Fit (placed n x y k (withOpened o st)) (readMem ops cmds m)
-  pub same : (m : Mem) (s : State) → Holds st (readMem ops₀ cmds₀ m) s → (u : State) × Holds (placed n x y k (withOpened o st)) (readMem ops cmds m) u × ((f : Operator → State → Outcome) → ReadsAs (within (length (m .stems)) (length cmds₀)) f
-      → runBytes (within (length (m .stems)) (length cmds₀)) f (left code from start e) 0 s ≡ runBytes (within (length (m .stems)) (length cmds₀)) f (left code i key e) 0 u)
+  pub same : (m : Mem) (s : State) → Holds st (readMem ops₀ cmds₀ m) s → (u : State) × Holds (placed n x y k (withOpened o st)) (readMem ops cmds m) u × ((f : Operator → State → Outcome) → ReadsAs (limitsOf reading (within (length (m .stems)) (length cmds₀))) f
+      → runBytes (limitsOf reading (within (length (m .stems)) (length cmds₀))) f (left code from start e) 0 s ≡ runBytes (limitsOf reading (within (length (m .stems)) (length cmds₀))) f (left code i key e) 0 u)
   pub sound : (m : Mem) → Fit st (readMem ops₀ cmds₀ m) → Bytes code → Sound (abs st (readMem ops₀ cmds₀ m)) → Sound (abs (placed n x y k (withOpened o st)) (readMem ops cmds m))
   pub short : key < 65536
   pub few : n ≤ 256
@@ -221,7 +258,7 @@ pub record Going (code : List ℕ) (from start : ℕ) (e : Bool) (st : St) (ops�
   pub on : from ≤ i
   pub whole : length cmds ≡ length cmds₀
 
-module _ (code : List ℕ) (from start : ℕ) (e : Bool) (st : St) (ops₀ : List Float) (cmds₀ : List ℕ) (ops : List Float) (cmds : List ℕ) (i key n : ℕ) (x y : Float) (k : ℕ) (o : Bool) (G : Going code from start e st ops₀ cmds₀ ops cmds i key n x y k o) where
+module _ (reading : Reading) (code : List ℕ) (from start : ℕ) (e : Bool) (st : St) (ops₀ : List Float) (cmds₀ : List ℕ) (ops : List Float) (cmds : List ℕ) (i key n : ℕ) (x y : Float) (k : ℕ) (o : Bool) (G : Going reading code from start e st ops₀ cmds₀ ops cmds i key n x y k o) where
   abbrev here : St
   here = placed n x y k (withOpened o st)
 
@@ -229,7 +266,7 @@ module _ (code : List ℕ) (from start : ℕ) (e : Bool) (st : St) (ops₀ : Lis
   state m = abs here (readMem ops cmds m)
 
   abbrev limits : Mem → Limits
-  limits m = within (length (m .stems)) (length cmds₀)
+  limits m = limitsOf reading (within (length (m .stems)) (length cmds₀))
 
   -- one token
   module _ (lim : Limits) (f : Operator → State → Outcome) (s : State) (b : ℕ) (l : List ℕ) (is : left code i key e ≡ b ∷ l) where
@@ -255,8 +292,8 @@ module _ (code : List ℕ) (from start : ℕ) (e : Bool) (st : St) (ops₀ : Lis
     bytes-after : Bytes code → Bytes after-it
     bytes-after b = rest-bytes (cursorOf (i + 1) k′ e) code short-after b
 
-    pub at-operator : (u : St) (t : Tok) (d : List ℕ) → d ≡ cmds → u ≡ here → Operated code (i + 1) k′ e v u t → Reads code from start e st ops₀ cmds₀ t ops d
-    at-operator u t d ed eu O = subst (λ (z : List ℕ). Reads code from start e st ops₀ cmds₀ t ops z) (sym ed) (record {
+    pub at-operator : (u : St) (t : Tok) (d : List ℕ) → d ≡ cmds → u ≡ here → Operated code (i + 1) k′ e v u t → Reads reading code from start e st ops₀ cmds₀ t ops d
+    at-operator u t d ed eu O = subst (λ (z : List ℕ). Reads reading code from start e st ops₀ cmds₀ t ops z) (sym ed) (record {
       fit = λ m F. subst (λ (z : St). Fit z (readMem ops cmds m)) (sym is-here) (G .fit m F);
       sound = λ m F b q. subst (λ (z : St). Sound (abs z (readMem ops cmds m))) (sym is-here) (G .sound m F b q);
       same = λ m s H. let (u, K, is) = G .same m s H in (u, subst (λ (z : St). Holds z (readMem ops cmds m) u) (sym is-here) K, λ f w. is f w ∙ next m f u ∙ go (eqb (t .flow) 0) refl m f u);
@@ -288,7 +325,9 @@ module _ (code : List ℕ) (from start : ℕ) (e : Bool) (st : St) (ops₀ : Lis
       to = ranOf (drawnTo r k (withOpened o st)) 0
 
       did : (m : Mem) (s : State) → Holds here (readMem ops cmds m) s → Meets to (readMem ops d m) (operate (limits m) (refused 6) (operatorOf v) s)
-      did m s H = subst (λ (j : ℕ). Meets to (readMem ops d m) (operate (within (length (m .stems)) j) (refused 6) (operatorOf v) s)) (G .whole) (D .done z (withOpened o st) m s op ch H)
+      did m s H =
+          subst (Meets to (readMem ops d m)) (ap (λ (j : ℕ). operate (within (length (m .stems)) j) (refused 6) (operatorOf v) s) (G .whole) ∙ sym (operate-limits reading (within (length (m .stems)) (length cmds₀)) (refused 6) (operatorOf v) s (read-no-pop (operatorOf v) (D .drawn z .0))))
+          (D .done z (withOpened o st) m s op ch H)
 
       after-did : (m : Mem) (s : State) → Holds here (readMem ops cmds m) s → (u : State) × Holds (to .st) (readMem ops d m) u × (operate (limits m) (refused 6) (operatorOf v) s ≡ going u)
       after-did m s H = goes (operate (limits m) (refused 6) (operatorOf v) s) to (readMem ops d m) (did m s H) refl
@@ -296,7 +335,7 @@ module _ (code : List ℕ) (from start : ℕ) (e : Bool) (st : St) (ops₀ : Lis
       itself : (m : Mem) → Fit st (readMem ops₀ cmds₀ m) → Holds here (readMem ops cmds m) (state m)
       itself m F = holds-itself here (readMem ops cmds m) (G .fit m F)
 
-      pub listed : Going code from start e st ops₀ cmds₀ ops d (i + 1) k′ 0 (r .x) (r .y) (k + 1) o
+      pub listed : Going reading code from start e st ops₀ cmds₀ ops d (i + 1) k′ 0 (r .x) (r .y) (k + 1) o
       listed = record {
         fit = λ m F. after-did m (state m) (itself m F) .1 .fit;
         sound = λ m F b s. let (u, K, is) = after-did m (state m) (itself m F) in held-sound (to .st) (readMem ops d m) u K (subst SoundOut is (sound-stable (limits m) .operator (refused 6) (operatorOf v) (state m) (G .sound m F b s) tt));
@@ -343,7 +382,7 @@ module _ (code : List ℕ) (from start : ℕ) (e : Bool) (st : St) (ops₀ : Lis
       unfolding abs
       closed-held m s H = record { is = ap (λ (u : State). withOpen false (withOperands [] u)) (H .is); fit = closed-fit m (H .fit) }
 
-      pub closed : Going code from start e st ops₀ cmds₀ ops cmds (i + 1) k′ 0 x y k false
+      pub closed : Going reading code from start e st ops₀ cmds₀ ops cmds (i + 1) k′ 0 x y k false
       closed = record {
         fit = λ m F. closed-fit m (G .fit m F);
         sound = λ m F b s. held-sound (placed 0 x y k (withOpened false st)) (readMem ops cmds m) _ (closed-held m (state m) (holds-itself here (readMem ops cmds m) (G .fit m F))) (subst SoundOut (closed-is m (state m)) (sound-stable (limits m) .operator (refused 6) closepath (state m) (G .sound m F b s) tt));
@@ -364,44 +403,58 @@ module _ (code : List ℕ) (from start : ℕ) (e : Bool) (st : St) (ops₀ : Lis
       }
 
     module _ (r : Num) (N : Numbered code (i + 1) k′ e v r) where
-      -- a cut number
-      pub at-cut : (u : St) (t : Tok) → r .cut ≡ true → u ≡ here → t ≡ tokOf u (i + 1) k′ 5 0 → Reads code from start e st ops₀ cmds₀ t ops cmds
-      at-cut u t z eu et = subst (λ (a : Tok). Reads code from start e st ops₀ cmds₀ a ops cmds) (sym (et ∙ ap (λ (a : St). tokOf a (i + 1) k′ 5 0) eu)) (record {
-        fit = G .fit;
-        sound = G .sound;
-        same = λ m s H. let (u, K, is) = G .same m s H in (u, K, λ f w. is f w ∙ next m f u ∙ ap (λ (a : Token). consume (limits m) f a u (runBytes (limits m) f after-it)) (N .cut z));
-        on = (let b = G .on in omega arith);
-        whole = G .whole;
-        number = λ a b. lit≤ tt;
-      })
-
       taken : length ops ≡ 256 → length (take n ops) ≡ n
       taken w = length-take n ops ∙ (let b = G .few in let z : min n (length ops) ≡ n = omega arith in z)
 
-      -- a number is pushed, or finds the stack full
-      push-is : (m : Mem) (s : State) → Holds here (readMem ops cmds m) s → (z : ℤ) (b : Bool) → leb (n + 1) 256 ≡ b → r .x ≡ double z → push (limits m) (double z) s ≡ check b 15 (going (withOperands (take n ops ++ (r .x ∷ [])) s))
+      -- a number is pushed, or does not fit
+      push-is : (m : Mem) (s : State) → Holds here (readMem ops cmds m) s → (z : ℤ) → r .x ≡ double z → push (limits m) (double z) s ≡ allowed (operandRefusal (reading .strict) (n + 1)) (going (withOperands (take n ops ++ (r .x ∷ [])) s))
       unfolding push
-      push-is m s H z b is eq =
-          ap (λ (l : List Float). check (eqb (atMost 256 15 (length l + 1)) 0) (atMost 256 15 (length l + 1)) (going (withOperands (l ++ (double z ∷ [])) s))) (operands-are here (readMem ops cmds m) s H)
-          ∙ limit-check (leb (length (take n ops) + 1) 256) 15 _ refl ∙ ap (λ (a : Bool). check a 15 (going (withOperands (take n ops ++ (double z ∷ [])) s))) (ap (λ (a : ℕ). leb (a + 1) 256) (taken (H .fit .ops)) ∙ is)
-          ∙ ap (λ (a : Float). check b 15 (going (withOperands (take n ops ++ (a ∷ [])) s))) (sym eq)
+      push-is m s H z eq =
+          ap (λ (l : List Float). allowed (limits m .operands (length l + 1)) (going (withOperands (l ++ (double z ∷ [])) s))) (operands-are here (readMem ops cmds m) s H)
+          ∙ ap (λ (a : ℕ). allowed (limits m .operands (a + 1)) (going (withOperands (take n ops ++ (double z ∷ [])) s))) (taken (H .fit .ops))
+          ∙ ap (λ (a : ℕ). allowed a (going (withOperands (take n ops ++ (double z ∷ [])) s))) (limit-is reading (length (m .stems)) (length cmds₀) (n + 1))
+          ∙ ap (λ (a : Float). allowed (operandRefusal (reading .strict) (n + 1)) (going (withOperands (take n ops ++ (a ∷ [])) s))) (sym eq)
 
-      pushing : (m : Mem) (f : Operator → State → Outcome) (s : State) → Holds here (readMem ops cmds m) s → (j : ℕ) (z : ℤ) (b : Bool) → leb (n + 1) 256 ≡ b → r .x ≡ double z
-          → consume (limits m) f (number j z) s (runBytes (limits m) f after-it) ≡ andThen (check b 15 (going (withOperands (take n ops ++ (r .x ∷ [])) s))) (runBytes (limits m) f after-it j)
-      pushing m f s H j z b is eq = ap (λ (a : Outcome). andThen a (runBytes (limits m) f after-it j)) (push-is m s H z b is eq)
+      pushing : (m : Mem) (f : Operator → State → Outcome) (s : State) → Holds here (readMem ops cmds m) s → (j : ℕ) (z : ℤ) → r .x ≡ double z
+          → consume (limits m) f (number j z) s (runBytes (limits m) f after-it) ≡ andThen (allowed (operandRefusal (reading .strict) (n + 1)) (going (withOperands (take n ops ++ (r .x ∷ [])) s))) (runBytes (limits m) f after-it j)
+      pushing m f s H j z eq = ap (λ (a : Outcome). andThen a (runBytes (limits m) f after-it j)) (push-is m s H z eq)
 
-      pub at-full : (u : St) (t : Tok) → r .cut ≡ false → n ≡ 256 → u ≡ here → t ≡ tokOf u (i + 1) k′ 15 0 → Reads code from start e st ops₀ cmds₀ t ops cmds
-      at-full u t z full eu et =
-          let (j, w, tk, is, dr) = N .number z in
-          subst (λ (a : Tok). Reads code from start e st ops₀ cmds₀ a ops cmds) (sym (et ∙ ap (λ (a : St). tokOf a (i + 1) k′ 15 0) eu)) (record {
+      -- what a number is refused with
+      abbrev number-refusal : ℕ
+      number-refusal = firstRefusal (numberIf (r .cut) 5) (operandRefusal (reading .strict) (n + 1))
+
+      abbrev Refuses : Type 0
+      Refuses = (3 ≤ number-refusal) × ((m : Mem) (f : Operator → State → Outcome) (s : State) → Holds here (readMem ops cmds m) s → consume (limits m) f (token v after-it) s (runBytes (limits m) f after-it) ≡ refused number-refusal)
+
+      refuses : (number-refusal ≡ 0 → ⊥) → Refuses
+      refuses h = go (r .cut) refl
+        where
+          go : (c : Bool) → r .cut ≡ c → Refuses
+          go true z = let five = first-is (r .cut) 5 (operandRefusal (reading .strict) (n + 1)) z (λ q. let w : ⊥ = omega (arith, q) in w) in (
+            subst (λ (a : ℕ). 3 ≤ a) (sym five) (lit≤ tt),
+            λ m f s H. ap (λ (a : Token). consume (limits m) f a s (runBytes (limits m) f after-it)) (N .cut z) ∙ ap refused (sym five),
+          )
+          go false z =
+              let (j, w, tk, is, dr) = N .number z in
+              let full = second-is (r .cut) 5 (operandRefusal (reading .strict) (n + 1)) z in
+              let over : operandRefusal (reading .strict) (n + 1) ≡ 0 → ⊥ = λ q. h (full ∙ q) in (
+                subst (λ (a : ℕ). 3 ≤ a) (sym full) (refusal-above (reading .strict) (n + 1) over),
+                λ m f s H.
+                    ap (λ (a : Token). consume (limits m) f a s (runBytes (limits m) f after-it)) tk ∙ pushing m f s H j w is
+                    ∙ ap (λ (a : Outcome). andThen a (runBytes (limits m) f after-it j)) (allowed-not (operandRefusal (reading .strict) (n + 1)) _ over) ∙ ap refused (sym full),
+              )
+
+      -- a number that is cut, or does not fit
+      pub at-refused : (u : St) (t : Tok) (f : ℕ) → f ≡ number-refusal → (f ≡ 0 → ⊥) → u ≡ here → t ≡ tokOf u (i + 1) k′ f 0 → Reads reading code from start e st ops₀ cmds₀ t ops cmds
+      at-refused u t f ef nf eu et =
+          let (above, is) = refuses (λ q. nf (ef ∙ q)) in
+          subst (λ (a : Tok). Reads reading code from start e st ops₀ cmds₀ a ops cmds) (sym (et ∙ ap (λ (a : St). tokOf a (i + 1) k′ f 0) eu ∙ ap (λ (a : ℕ). tokOf here (i + 1) k′ a 0) ef)) (record {
             fit = G .fit;
             sound = G .sound;
-            same = λ m s H.
-                let (v, K, all) = G .same m s H in
-                (v, K, λ f W. all f W ∙ next m f v ∙ ap (λ (a : Token). consume (limits m) f a v (runBytes (limits m) f after-it)) tk ∙ pushing m f v K j w false (lt-leb (n + 1) 256 (omega arith)) is);
+            same = λ m s H. let (u, K, all) = G .same m s H in (u, K, λ g w. all g w ∙ next m g u ∙ is m g u K ∙ sym (refusal-flow number-refusal _ (going u) (refused number-refusal) above));
             on = (let b = G .on in omega arith);
             whole = G .whole;
-            number = λ a b. lit≤ tt;
+            number = λ a b. above;
           })
 
       more-fit : (m : Mem) → n + 1 ≤ 256 → Fit here (readMem ops cmds m) → Fit (placed (n + 1) x y k (withOpened o st)) (readMem (set ops n (r .x)) cmds m)
@@ -431,15 +484,15 @@ module _ (code : List ℕ) (from start : ℕ) (e : Bool) (st : St) (ops₀ : Lis
             fit = more-fit m few F;
           }
 
-      pub pushed : r .cut ≡ false → (n ≡ 256 → ⊥) → r .key < 65536 → Going code from start e st ops₀ cmds₀ (set ops n (r .x)) cmds (r .next) (r .key) (n + 1) x y k o
-      pushed z full small =
-          let (j, w, tk, is, dr) = N .number z in
+      pub pushed : (f : ℕ) → f ≡ number-refusal → f ≡ 0 → r .key < 65536 → Going reading code from start e st ops₀ cmds₀ (set ops n (r .x)) cmds (r .next) (r .key) (n + 1) x y k o
+      pushed f ef nf small =
+          let (j, w, tk, is, dr) = N .number (none .0) in
           record {
             fit = λ m F. more-fit m below (G .fit m F);
             sound = λ m F b s.
                 let K = holds-itself here (readMem ops cmds m) (G .fit m F) in
                 held-sound (placed (n + 1) x y k (withOpened o st)) (readMem (set ops n (r .x)) cmds m) (withOperands (take n ops ++ (r .x ∷ [])) (state m)) (more-held m (state m) below K)
-                (subst SoundOut (push-is m (state m) K w true (le-leb (n + 1) 256 below) is) (sound-stable (limits m) .number w (subst SmallToken tk (token-small v after-it (byte-here b) (bytes-after b))) (state m) (G .sound m F b s)));
+                (subst SoundOut (push-is m (state m) K w is ∙ allowed-none (operandRefusal (reading .strict) (n + 1)) _ (none .1)) (sound-stable (limits m) .number w (subst SmallToken tk (token-small v after-it (byte-here b) (bytes-after b))) (state m) (G .sound m F b s)));
             same = λ m s H.
                 let (a, K, all) = G .same m s H in
                 let more = withOperands (take n ops ++ (r .x ∷ [])) a in (
@@ -447,7 +500,8 @@ module _ (code : List ℕ) (from start : ℕ) (e : Bool) (st : St) (ops₀ : Lis
                   more-held m a below K,
                   λ f W.
                       all f W ∙ next m f a ∙ ap (λ (q : Token). consume (limits m) f q a (runBytes (limits m) f after-it)) tk
-                      ∙ pushing m f a K j w true (le-leb (n + 1) 256 below) is
+                      ∙ pushing m f a K j w is
+                      ∙ ap (λ (q : Outcome). andThen q (runBytes (limits m) f after-it j)) (allowed-none (operandRefusal (reading .strict) (n + 1)) _ (none .1))
                       ∙ skip (limits m) f after-it j more
                       ∙ ap (λ (q : List ℕ). runBytes (limits m) f q 0 more) dr,
                 );
@@ -459,13 +513,16 @@ module _ (code : List ℕ) (from start : ℕ) (e : Bool) (st : St) (ops₀ : Lis
             whole = G .whole;
           }
         where
+          none : (r .cut ≡ false) × (operandRefusal (reading .strict) (n + 1) ≡ 0)
+          none = none-refused (r .cut) 5 (operandRefusal (reading .strict) (n + 1)) (λ q. let w : ⊥ = omega (arith, q) in w) (sym ef ∙ nf)
+
           below : n + 1 ≤ 256
-          below = let g = G .few in let y = lt-of-le-ne g full in omega arith
+          below = operands-fit (reading .strict) (n + 1) (none .1)
 
   -- the end of the bytes
-  pub at-end : (u : St) (t : Tok) → length code ≤ i → from < length code → u ≡ here → t ≡ tokOf u i key 1 0 → Reads code from start e st ops₀ cmds₀ t ops cmds
+  pub at-end : (u : St) (t : Tok) → length code ≤ i → from < length code → u ≡ here → t ≡ tokOf u i key 1 0 → Reads reading code from start e st ops₀ cmds₀ t ops cmds
   unfolding runBytes
-  at-end u t h h' eu et = subst (λ (a : Tok). Reads code from start e st ops₀ cmds₀ a ops cmds) (sym (et ∙ ap (λ (a : St). tokOf a i key 1 0) eu)) (record {
+  at-end u t h h' eu et = subst (λ (a : Tok). Reads reading code from start e st ops₀ cmds₀ a ops cmds) (sym (et ∙ ap (λ (a : St). tokOf a i key 1 0) eu)) (record {
     fit = G .fit;
     sound = G .sound;
     same = λ m s H. let (u, K, is) = G .same m s H in (u, K, λ f w. is f w ∙ ap (λ (a : List ℕ). runBytes (limits m) f a 0 u) (left-none code i key e h));
@@ -474,5 +531,5 @@ module _ (code : List ℕ) (from start : ℕ) (e : Bool) (st : St) (ops₀ : Lis
     number = λ a b. absurd (b refl);
   })
 
-pub begins : (code : List ℕ) (from start : ℕ) (e : Bool) (st : St) (ops : List Float) (cmds : List ℕ) → start < 65536 → from < length code → st .operands ≤ 256 → 14 * st .entries ≤ length cmds → Going code from start e st ops cmds ops cmds from start (st .operands) (st .x) (st .y) (st .entries) (st .opened)
-begins code from start e st ops cmds q h n k = record { fit = λ m F. F; sound = λ m F b s. s; same = λ m s H. (s, H, λ f w. refl); short = q; few = n; space = k; inside = omega arith; on = omega arith; whole = refl }
+pub begins : (reading : Reading) (code : List ℕ) (from start : ℕ) (e : Bool) (st : St) (ops : List Float) (cmds : List ℕ) → start < 65536 → from < length code → st .operands ≤ 256 → 14 * st .entries ≤ length cmds → Going reading code from start e st ops cmds ops cmds from start (st .operands) (st .x) (st .y) (st .entries) (st .opened)
+begins reading code from start e st ops cmds q h n k = record { fit = λ m F. F; sound = λ m F b s. s; same = λ m s H. (s, H, λ f w. refl); short = q; few = n; space = k; inside = omega arith; on = omega arith; whole = refl }

@@ -22,7 +22,7 @@ use Rattle.type1.specs.declared.St.{St}
 use Rattle.type1.specs.declared.Reading.{Reading}
 use Rattle.outline.specs.Outline.{plusZero, pick}
 use Rattle.type1.specs.State.{State, withRan}
-use Rattle.type1.specs.Run.{Outcome, going, refused, check, andThen, returned, top, without, Font, charge, named, callBody, callSubr}
+use Rattle.type1.specs.Run.{Outcome, going, refused, check, andThen, returned, top, without, Font, fontOf, charge, named, callBody, callSubr}
 use Rattle.type1.specs.Memory.{Mem, abs, Holds}
 use Rattle.type1.specs.Reading.{Calls, withCount}
 use Rattle.type1.proofs.Stacks.{small, small-fit, operand-count, top-is, without-holds}
@@ -40,7 +40,7 @@ calling n t = ranTo (t .ran + n) t
 
 module _ (bank : List ℕ) (reading : Reading) (t : St) (m : Mem) (s : State) (H : Holds t m s) where
   abbrev font : Font
-  font = record { bank = bank; reading = reading }
+  font = fontOf bank reading
 
   stops : (n : ℕ) → 3 ≤ n → ((deep : Deep) → callSubr font deep s ≡ refused n) → Calls bank reading m s (record { st = t; flow = n; index = 0 })
   stops n h e = record { called = λ z. absurd (let y : ⊥ = omega arith in y); stopped = λ z. (h, e) }

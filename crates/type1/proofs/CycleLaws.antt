@@ -26,12 +26,13 @@ use Rattle.type1.specs.Operator as op
 use Rattle.type1.specs.Operator.{Operator, look, oneByte, twoBytes, ofByte, ofEscape}
 use Rattle.outline.specs.Outline.{pick}
 use Rattle.type1.specs.State.{State}
-use Rattle.type1.specs.Run.{Limits, within, Outcome, going, returning, ending, refused, andThen, returned, Font, operate, callSubr, execute, runBytes, runBody}
+use Rattle.type1.specs.Run.{Limits, within, limitsOf, fontOf, Outcome, going, returning, ending, refused, andThen, returned, Font, operate, callSubr, execute, runBytes, runBody}
 use Rattle.type1.specs.Memory.{Mem, pointsAt, stemsAt, flexIn, abs, Fit, Holds, Good, Meets, operatorOf, kept}
 use Rattle.type1.specs.Small.{ranOf, Finite}
 use Rattle.type1.specs.Reading.{cursorOf, isRead, ReadsAs, readMem, goesOn, Reads, Calls}
 use Rattle.type1.specs.Sound.{All, OfFlex, GoodPoint, SoundOut}
-use Rattle.type1.specs.Cycle.{Ready, limitsOf, fontOf, From, MeetsFrom, opD, runD}
+use Rattle.type1.specs.States.{isCall}
+use Rattle.type1.specs.Cycle.{Ready, limitsIn, From, MeetsFrom, opD, runD}
 use Rattle.type1.specs.Outcomes.{all-getD}
 use Rattle.type1.specs.SoundLaws.{callSubr-sound, execute-sound, runBody-sound}
 use Rattle.type1.proofs.Stacks.{holds-itself, few-held}
@@ -120,35 +121,7 @@ unfolding operatorOf ofByte
 call-op = refl
 
 -- only callsubr has to do with what a call does
-abbrev one-of : Operator → Bool
-one-of op.hstem = false
-one-of op.vstem = false
-one-of op.vmoveto = false
-one-of op.rlineto = false
-one-of op.hlineto = false
-one-of op.vlineto = false
-one-of op.rrcurveto = false
-one-of op.closepath = false
-one-of op.callsubr = true
-one-of op.return = false
-one-of op.hsbw = false
-one-of op.endchar = false
-one-of op.rmoveto = false
-one-of op.hmoveto = false
-one-of op.vhcurveto = false
-one-of op.hvcurveto = false
-one-of op.dotsection = false
-one-of op.vstem3 = false
-one-of op.hstem3 = false
-one-of op.seac = false
-one-of op.sbw = false
-one-of op.div = false
-one-of op.callothersubr = false
-one-of op.pop = false
-one-of op.setcurrentpoint = false
-one-of op.unknown = false
-
-other-call : (lim : Limits) (c d : Outcome) (o : Operator) (s : State) → one-of o ≡ false → operate lim c o s ≡ operate lim d o s
+other-call : (lim : Limits) (c d : Outcome) (o : Operator) (s : State) → isCall o ≡ false → operate lim c o s ≡ operate lim d o s
 unfolding operate
 other-call lim c d op.hstem s h = refl
 other-call lim c d op.vstem s h = refl
@@ -177,7 +150,7 @@ other-call lim c d op.pop s h = refl
 other-call lim c d op.setcurrentpoint s h = refl
 other-call lim c d op.unknown s h = refl
 
-no-call : (o : Operator) → T (isRead o) → one-of o ≡ false
+no-call : (o : Operator) → T (isRead o) → isCall o ≡ false
 no-call op.hstem h = refl
 no-call op.vstem h = refl
 no-call op.vmoveto h = refl
@@ -213,29 +186,29 @@ step-read lim f deep o s h = other-call lim (callSubr f deep s) (refused 6) o s 
 -- a table has callsubr nowhere, or not at b
 abbrev Without : List (ℕ × Operator) → ℕ → Type 0
 Without [] b = Unit {0}
-Without (e ∷ l) b = ((T (one-of (e .1)) → b ≡ e .0 → ⊥) × Without l b)
+Without (e ∷ l) b = ((T (isCall (e .1)) → b ≡ e .0 → ⊥) × Without l b)
 
-chosen : (c d : Bool) (x y : Operator) → one-of x ≡ d → (T c → T d → ⊥) → one-of y ≡ false → one-of (pick c x y) ≡ false
+chosen : (c d : Bool) (x y : Operator) → isCall x ≡ d → (T c → T d → ⊥) → isCall y ≡ false → isCall (pick c x y) ≡ false
 chosen false d x y ed f h = h
 chosen true false x y ed f h = ed
 chosen true true x y ed f h = absurd (f tt tt)
 
-looked : (l : List (ℕ × Operator)) (b : ℕ) → Without l b → one-of (look l b) ≡ false
+looked : (l : List (ℕ × Operator)) (b : ℕ) → Without l b → isCall (look l b) ≡ false
 looked [] b a = refl
-looked (e ∷ l) b a = chosen (eqb b (e .0)) (one-of (e .1)) (e .1) (look l b) refl (λ t u. a .0 u (eqb→eq b (e .0) t)) (looked l b (a .1))
+looked (e ∷ l) b a = chosen (eqb b (e .0)) (isCall (e .1)) (e .1) (look l b) refl (λ t u. a .0 u (eqb→eq b (e .0) t)) (looked l b (a .1))
 
 none-at : (b k : ℕ) → T false → b ≡ k → ⊥
 none-at b k t e = absurd t
 
-byte-op : (n : ℕ) → T (not (eqb n 10)) → one-of (ofByte n) ≡ false
+byte-op : (n : ℕ) → T (not (eqb n 10)) → isCall (ofByte n) ≡ false
 unfolding ofByte
 byte-op n h = looked oneByte n (none-at n 1, (none-at n 3, (none-at n 4, (none-at n 5, (none-at n 6, (none-at n 7, (none-at n 8, (none-at n 9, ((λ t. not-eq n 10 h), (none-at n 11, (none-at n 13, (none-at n 14, (none-at n 21, (none-at n 22, (none-at n 30, (none-at n 31, tt))))))))))))))))
 
-escape-op : (k : ℕ) → one-of (ofEscape k) ≡ false
+escape-op : (k : ℕ) → isCall (ofEscape k) ≡ false
 unfolding ofEscape
 escape-op k = looked twoBytes k (none-at k 0, (none-at k 1, (none-at k 2, (none-at k 6, (none-at k 7, (none-at k 12, (none-at k 16, (none-at k 17, (none-at k 33, tt)))))))))
 
-either-op : (n : ℕ) → T (not (eqb n 10)) → (c : Bool) → ltb n 256 ≡ c → one-of (operatorOf n) ≡ false
+either-op : (n : ℕ) → T (not (eqb n 10)) → (c : Bool) → ltb n 256 ≡ c → isCall (operatorOf n) ≡ false
 unfolding operatorOf
 either-op n h true is = rw is (byte-op n h)
 either-op n h false is = rw is (escape-op (n - 256))
@@ -286,21 +259,21 @@ module _ (bank : List ℕ) (reading : Reading) (levels : ℕ) where
     abbrev All′ : From
     All′ = opD bank reading levels o t m
 
-    opD-call : T (eqb o 10) → (s : State) → All′ .does s ≡ callSubr font (deepOf (limitsOf m)) s
+    opD-call : T (eqb o 10) → (s : State) → All′ .does s ≡ callSubr font (deepOf (limitsIn reading m)) s
     unfolding execute operate
-    opD-call h s = ap (λ (n : ℕ). stepOf (limitsOf m) (operatorOf n) s) (eqb→eq o 10 h) ∙ ap (λ (n : Operator). stepOf (limitsOf m) n s) call-op
+    opD-call h s = ap (λ (n : ℕ). stepOf (limitsIn reading m) (operatorOf n) s) (eqb→eq o 10 h) ∙ ap (λ (n : Operator). stepOf (limitsIn reading m) n s) call-op
 
     -- what `plain` did
-    pub plained : T (not (eqb o 10)) → (room : ℕ) → room ≡ length (m .stems) → (r : Ran) (m′ : Mem) → ((s : State) → Holds t m s → Meets r m′ (operate (within room (length (m .cmds))) (refused 6) (operatorOf o) s)) → MeetsFrom r m′ All′
+    pub plained : T (not (eqb o 10)) → (room : ℕ) → room ≡ length (m .stems) → (r : Ran) (m′ : Mem) → ((s : State) → Holds t m s → Meets r m′ (operate (limitsOf reading (within room (length (m .cmds)))) (refused 6) (operatorOf o) s)) → MeetsFrom r m′ All′
     unfolding execute
     plained h room er r m′ e s K =
-        subst (Meets r m′) (ap (λ (n : ℕ). operate (within n (length (m .cmds))) (refused 6) (operatorOf o) s) er ∙ other-call (limitsOf m) (refused 6) (callSubr font (deepOf (limitsOf m)) s) (operatorOf o) s (either-op o h (ltb o 256) refl)) (e s K)
+        subst (Meets r m′) (ap (λ (n : ℕ). operate (limitsOf reading (within n (length (m .cmds)))) (refused 6) (operatorOf o) s) er ∙ other-call (limitsIn reading m) (refused 6) (callSubr font (deepOf (limitsIn reading m)) s) (operatorOf o) s (either-op o h (ltb o 256) refl)) (e s K)
 
     module _ (c : Called) (calls : (s : State) → Holds t m s → Calls bank reading m s c) (h : T (eqb o 10)) where
       -- a call that is refused
       pub call-refused : (r : Ran) → r ≡ ranOf (c .st) (c .flow) → T (not (eqb (c .flow) 0)) → MeetsFrom r m All′
       call-refused r e n s K = let off : (3 ≤ c .flow) × ((deep : List ℕ → State → Outcome) → callSubr font deep s ≡ refused (c .flow)) = calls s K .stopped (not-eq (c .flow) 0 n) in
-          subst (Meets r m) (sym (opD-call h s ∙ off .1 (deepOf (limitsOf m)))) (ap (λ (q : Ran). q .flow) e, off .0)
+          subst (Meets r m) (sym (opD-call h s ∙ off .1 (deepOf (limitsIn reading m)))) (ap (λ (q : Ran). q .flow) e, off .0)
 
       module _ (n : T (not (not (eqb (c .flow) 0)))) where
         abbrev Made : State → Type 0
@@ -313,7 +286,7 @@ module _ (bank : List ℕ) (reading : Reading) (levels : ℕ) where
         pub too-deep : (r : Ran) → r ≡ ranOf (c .st) 4 → T (eqb levels 0) → MeetsFrom r m All′
         too-deep r e l s K =
             let (u, J, is) = made s K in
-            subst (Meets r m) (sym (opD-call h s ∙ is (deepOf (limitsOf m)) ∙ ap (λ (k : ℕ). returned (runBody (limitsOf m) font k (bytesAt (found (c .index) bank) bank) u)) (eqb→eq levels 0 l) ∙ ap returned (no-level (limitsOf m) font (bytesAt (found (c .index) bank) bank) u))) (ap (λ (q : Ran). q .flow) e, lit≤ tt)
+            subst (Meets r m) (sym (opD-call h s ∙ is (deepOf (limitsIn reading m)) ∙ ap (λ (k : ℕ). returned (runBody (limitsIn reading m) font k (bytesAt (found (c .index) bank) bank) u)) (eqb→eq levels 0 l) ∙ ap returned (no-level (limitsIn reading m) font (bytesAt (found (c .index) bank) bank) u))) (ap (λ (q : Ran). q .flow) e, lit≤ tt)
 
         -- the state in which the body starts
         pub ready-call : Bytes bank → Ready t m → Ready (c .st) m
@@ -321,19 +294,19 @@ module _ (bank : List ℕ) (reading : Reading) (levels : ℕ) where
             let (u, J, is) = made (abs t m) (holds-itself t m (r .fit)) in
             record {
               fit = J .fit;
-              sound = held-sound (c .st) m u J (subst SoundOut (is (λ l u. ending u)) (callSubr-sound (limitsOf m) font (λ l u. ending u) b (λ l u k q. q) (abs t m) (r .sound)));
+              sound = held-sound (c .st) m u J (subst SoundOut (is (λ l u. ending u)) (callSubr-sound (limitsIn reading m) font (λ l u. ending u) b (λ l u k q. q) (abs t m) (r .sound)));
             }
 
         -- what the body did
         pub called : (body : List ℕ) → body ≡ bytesAt (found (c .index) bank) bank → T (not (eqb levels 0)) → (r : Ran) (m′ : Mem) → MeetsFrom r m′ (runD bank reading (levels - 1) body (c .st) m) → MeetsFrom r m′ All′
         called body eb l r m′ e s K =
             let (u, J, is) = made s K in
-            subst (Meets r m′) (ap (λ (k : ℕ). returned (runBody (limitsOf m) font k body u)) (one-more levels l) ∙ ap (λ (b : List ℕ). returned (deepOf (limitsOf m) b u)) eb ∙ sym (opD-call h s ∙ is (deepOf (limitsOf m)))) (e u J)
+            subst (Meets r m′) (ap (λ (k : ℕ). returned (runBody (limitsIn reading m) font k body u)) (one-more levels l) ∙ ap (λ (b : List ℕ). returned (deepOf (limitsIn reading m) b u)) eb ∙ sym (opD-call h s ∙ is (deepOf (limitsIn reading m)))) (e u J)
 
   -- ---- the bytes
   module _ (code : List ℕ) (enc : Bool) (t₀ : St) (m₀ : Mem) where
     abbrev lim : Limits
-    lim = limitsOf m₀
+    lim = limitsIn reading m₀
 
     abbrev whole : State → Outcome
     whole = runBytes lim (stepOf lim) (plain (reading .«len_iv») code) 0
@@ -365,12 +338,12 @@ module _ (bank : List ℕ) (reading : Reading) (levels : ℕ) where
           subst (λ (q : Ran). Meets q m (fin .does s)) (sym e)
           (subst (Meets (ranOf h 0) m) (sym (fin-is s ∙ ap returned (sym is ∙ ap (λ (l : List ℕ). runBytes lim (stepOf lim) l 0 u) (rest-none (cursorOf i key enc) code (nltb→le i (length code) (subst (λ (b : Bool). T (not b)) (sym over) tt)))))) (refl, J))
 
-      module _ (ls : length (m .stems) ≡ length (m₀ .stems)) (lc : length (m .cmds) ≡ length (m₀ .cmds)) (t : Tok) (os : List Float) (cs : List ℕ) (reads : Reads code i key enc h (m .ops) (m .cmds) t os cs) where
+      module _ (ls : length (m .stems) ≡ length (m₀ .stems)) (lc : length (m .cmds) ≡ length (m₀ .cmds)) (t : Tok) (os : List Float) (cs : List ℕ) (reads : Reads reading code i key enc h (m .ops) (m .cmds) t os cs) where
         abbrev m₁ : Mem
         m₁ = readMem os cs m
 
-        limits-are : limitsOf m ≡ lim
-        limits-are = λ j. within (ls j) (lc j)
+        limits-are : limitsIn reading m ≡ lim
+        limits-are = λ j. limitsOf reading (within (ls j) (lc j))
 
         fit-token : Fit (t .st) m₁
         fit-token = reads .fit m (on .ready .fit)
@@ -406,7 +379,7 @@ module _ (bank : List ℕ) (reading : Reading) (levels : ℕ) where
           then = runBytes lim (stepOf lim) (rest (cursorOf (t .next) (t .key) enc) code) 0
 
           did-is : (u : State) → did .does u ≡ stepOf lim (operatorOf (t .op)) u
-          did-is u = λ j. stepOf (within (ls j) ((reads .whole ∙ lc) j)) (operatorOf (t .op)) u
+          did-is u = λ j. stepOf (limitsOf reading (within (ls j) ((reads .whole ∙ lc) j))) (operatorOf (t .op)) u
 
           whole-is : (s : State) → Holds t₀ m₀ s → (v : State) × Holds (t .st) m₁ v × (whole s ≡ andThen (did .does v) then)
           whole-is s K =

@@ -20,13 +20,13 @@ use Rattle.type1.specs.declared.Interpreted.{Interpreted}
 use Rattle.outline.specs.Outline.{plusZero, stemCount, pick, zeroStem}
 use Rattle.outline.specs.Store.{drawnIn, groupsIn}
 use Rattle.type1.specs.State.{State, start, withRan}
-use Rattle.type1.specs.Run.{within, Outcome, going, returning, ending, refused, check, andThen, returned, charge, runBody, run}
+use Rattle.type1.specs.Run.{within, limitsOf, fontOf, Outcome, going, returning, ending, refused, check, andThen, returned, charge, runBody, run}
 use Rattle.type1.specs.Memory.{Mem, stemsAt, abs, Fit, Holds, Meets}
 use Rattle.type1.specs.Small.{ranOf}
 use Rattle.type1.specs.Sound.{Ends, Outermost, Sound}
 use Rattle.type1.specs.SoundLaws.{start-sound, sound-stable}
 use Rattle.type1.specs.Invariants.{run-outermost, run-finite}
-use Rattle.type1.specs.Cycle.{memOf, Ready, limitsOf, fontOf, MeetsFrom, runD}
+use Rattle.type1.specs.Cycle.{memOf, Ready, limitsIn, MeetsFrom, runD}
 use Rattle.type1.specs.Entry.{zeroSt, startFlow, numberOf, answerOf, Cleared}
 use Rattle.type1.specs.Interpret.{sourceOf, outcome, Left, refusedWith, Leaves}
 
@@ -60,9 +60,9 @@ module _ (charstring bank : List ℕ) where
     unfolding outcome run charge
     stays-out true true records words e f h = absurd (h refl)
     stays-out true false records words e f h =
-        ap (λ (b : Bool). check b 2 (run (within records words) (fontOf bank reading) charstring start)) e
-        ∙ ap (λ (b : Bool). andThen (check b 3 (going (withRan (0 + length charstring) start))) (λ t. returned (runBody (within records words) (fontOf bank reading) 11 charstring t))) (ap (λ (n : ℕ). leb n maxCharstringBytes) (zero-add (length charstring)) ∙ f)
-    stays-out false c records words e f h = ap (λ (b : Bool). check b 2 (run (within records words) (fontOf bank reading) charstring start)) e
+        ap (λ (b : Bool). check b 2 (run (limitsOf reading (within records words)) (fontOf bank reading) charstring start)) e
+        ∙ ap (λ (b : Bool). andThen (check b 3 (going (withRan (0 + length charstring) start))) (λ t. returned (runBody (limitsOf reading (within records words)) (fontOf bank reading) 11 charstring t))) (ap (λ (n : ℕ). leb n maxCharstringBytes) (zero-add (length charstring)) ∙ f)
+    stays-out false c records words e f h = ap (λ (b : Bool). check b 2 (run (limitsOf reading (within records words)) (fontOf bank reading) charstring start)) e
 
     -- a run that does not begin is refused
     pub not-begun : (b : Ran) (records words : ℕ) → b ≡ ranOf (zeroSt (length charstring)) (startFlow charstring bank) → T (not (eqb (b .flow) 0)) → outcome (sourceOf charstring bank) reading records words ≡ refused (b .flow)
@@ -75,25 +75,25 @@ module _ (charstring bank : List ℕ) where
     pub begun : (m : Mem) → startFlow charstring bank ≡ 0 → outcome (sourceOf charstring bank) reading (length (m .stems)) (length (m .cmds)) ≡ runD bank reading 10 charstring (zeroSt (length charstring)) m .does (withRan (length charstring) start)
     unfolding outcome run charge
     begun m e =
-        ap (λ (b : Bool). check b 2 (run (limitsOf m) (fontOf bank reading) charstring start)) (begins e .0)
-        ∙ ap (λ (b : Bool). andThen (check b 3 (going (withRan (0 + length charstring) start))) (λ t. returned (runBody (limitsOf m) (fontOf bank reading) 11 charstring t))) (ap (λ (n : ℕ). leb n maxCharstringBytes) (zero-add (length charstring)) ∙ begins e .1)
-        ∙ ap (λ (n : ℕ). returned (runBody (limitsOf m) (fontOf bank reading) 11 charstring (withRan n start))) (zero-add (length charstring))
+        ap (λ (b : Bool). check b 2 (run (limitsIn reading m) (fontOf bank reading) charstring start)) (begins e .0)
+        ∙ ap (λ (b : Bool). andThen (check b 3 (going (withRan (0 + length charstring) start))) (λ t. returned (runBody (limitsIn reading m) (fontOf bank reading) 11 charstring t))) (ap (λ (n : ℕ). leb n maxCharstringBytes) (zero-add (length charstring)) ∙ begins e .1)
+        ∙ ap (λ (n : ℕ). returned (runBody (limitsIn reading m) (fontOf bank reading) 11 charstring (withRan n start))) (zero-add (length charstring))
 
     -- what is so of every outcome
     outermost : (records words : ℕ) → Outermost (outcome (sourceOf charstring bank) reading records words)
     unfolding outcome
     outermost records words = go (valid bank)
       where
-        go : (b : Bool) → Outermost (check b 2 (run (within records words) (fontOf bank reading) charstring start))
-        go true = run-outermost (within records words) (fontOf bank reading) charstring start
+        go : (b : Bool) → Outermost (check b 2 (run (limitsOf reading (within records words)) (fontOf bank reading) charstring start))
+        go true = run-outermost (limitsOf reading (within records words)) (fontOf bank reading) charstring start
         go false = tt
 
     finite-ends : Bytes charstring → Bytes bank → (records words : ℕ) → Ends Sound (outcome (sourceOf charstring bank) reading records words)
     unfolding outcome
     finite-ends h k records words = go (valid bank)
       where
-        go : (b : Bool) → Ends Sound (check b 2 (run (within records words) (fontOf bank reading) charstring start))
-        go true = run-finite (within records words) (fontOf bank reading) charstring k h
+        go : (b : Bool) → Ends Sound (check b 2 (run (limitsOf reading (within records words)) (fontOf bank reading) charstring start))
+        go true = run-finite (limitsOf reading (within records words)) (fontOf bank reading) charstring k h
         go false = tt
 
 -- ---- after the run

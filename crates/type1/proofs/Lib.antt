@@ -4,6 +4,7 @@ pub mod Calls
 pub mod CountedLoop
 pub mod CycleLaws
 pub mod DeltasMade
+pub mod Depth
 pub mod Dispatch
 pub mod Drawing
 pub mod EntryCallees

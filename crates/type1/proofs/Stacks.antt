@@ -7,9 +7,8 @@ use native.Mathlib.Omega.{arith}
 use mathlib.Core.Bool.{Bool, true, false, not, cond}
 use mathlib.Core.List.{List, [], _∷_, _++_, reverse, reverse-cons}
 use mathlib.Core.Option.{Option, none, some}
-use borrow.Author.Tests.{le-leb, lt-leb, leb-true, leb-false, lt-ltb, le-ltb, ltb-true, ltb-false}
-use lib.Dec.{T, leb, ltb, lit≤}
-use lib.Arith.{lt-of-le-ne}
+use borrow.Author.Tests.{le-leb, lt-leb, leb-true, leb-false, lt-ltb, le-ltb, ltb-true, ltb-false, eqb-true, eqb-false}
+use lib.Dec.{T, leb, ltb, eqb, lit≤}
 use lib.ListN.{length, getD, take, drop, set, replicate, length-set, length-append, length-drop, length-reverse, length-replicate}
 use lib.Seq.{getD-set-same, getD-set-other, getD-take, length-take-le, take-take, take-suc-set, take-all, paste, length-paste, take-paste}
 use lib.Ieee.{Float, nan, binary64, eq, div}
@@ -18,15 +17,18 @@ use Rattle.charstring.specs.Cipher.{maxCharstringBytes}
 use Rattle.geometry.specs.declared.Point.{Point}
 use Rattle.othersubrs.specs.OtherSubrs.{handNumber, handedBack}
 use Rattle.othersubrs.specs.Laws.{handed-all}
+use Rattle.type1.specs.declared.Reading.{Reading}
 use Rattle.type1.specs.declared.St.{St}
 use Rattle.type1.specs.declared.Ran.{Ran}
 use Rattle.outline.specs.Outline.{plusZero, pick, origin}
 use Rattle.type1.specs.State.{State, withOperands, withPostscript, withPoint, withBearing, withDivided, withFlex}
 use Rattle.type1.specs.Outcomes.{limit-check}
-use Rattle.hints.specs.Hints.{atMost}
-use Rattle.type1.specs.Run.{within, Outcome, going, refused, check, allowed, top, cleared, without, needs, push, popD, divD, backwards, handBack, collected, otherSubr2, pointAt}
+use Rattle.type1.specs.Run.{Limits, within, limitsOf, Outcome, going, refused, check, allowed, top, cleared, without, needs, push, popD, divD, backwards, handBack, collected, otherSubr2, pointAt}
 use Rattle.type1.specs.Memory.{Mem, pointsAt, atMostSeven, flexIn, flexHeld, heldOf, abs, Bounds, Fit, Holds, Meets, withOps, withPs, withCells}
 use Rattle.type1.specs.Reading.{withCount}
+use Rattle.operand_stack.specs.Stack.{operandRefusal, numberIf, firstRefusal}
+use Rattle.operand_stack.specs.Laws.{operands-fit, refusal-above, first-is, second-is, none-refused}
+use Rattle.type1.proofs.Depth.{limit-is, allowed-none, allowed-not}
 use Rattle.type1.specs.Small.{ranOf, withXY}
 
 -- ---- what the stores do not hold changes: the state still fits
@@ -224,17 +226,20 @@ module _ (t : St) (m : Mem) (s : State) (H : Holds t m s) where
   pub postscript-count : length (s .postscript) ≡ t .postscript
   postscript-count = ap length postscript-are ∙ length-take-le (t .postscript) (m .ps) (let a = H .fit .ps in let b = H .fit .bounds .postscript in omega arith)
 
-  module _ (room words : ℕ) where
+  module _ (reading : Reading) (room words : ℕ) where
+    abbrev lim : Limits
+    lim = limitsOf reading (within room words)
+
     abbrev next : Float → List Float → Outcome
     next v l = going (withOperands (s .operands ++ (v ∷ [])) (withPostscript l s))
 
     abbrev pushed : Float → List Float → Outcome
-    pushed v l = allowed (atMost 256 15 (length (s .operands) + 1)) (next v l)
+    pushed v l = allowed (lim .operands (length (s .operands) + 1)) (next v l)
 
     abbrev pushes : Float → List Float → Outcome
-    pushes v l = check (leb (length (s .operands) + 1) 256) 15 (next v l)
+    pushes v l = allowed (operandRefusal (reading .strict) (t .operands + 1)) (next v l)
 
-    pub pop-none : (r : Ran) → r ≡ ranOf t 11 → t .postscript ≡ 0 → Meets r m (popD (within room words) s)
+    pop-none : (r : Ran) → r ≡ ranOf t 11 → t .postscript ≡ 0 → Meets r m (popD lim s)
     unfolding popD push
     pop-none r e z = subst (λ (k : Bool). Meets r m (check k 11 (pushed (getD (s .postscript) (length (s .postscript) - 1) nan) (take (length (s .postscript) - 1) (s .postscript))))) (sym (le-ltb 0 (length (s .postscript)) (let n = postscript-count in omega arith))) (ap (λ (q : Ran). q .flow) e, lit≤ tt)
 
@@ -245,34 +250,52 @@ module _ (t : St) (m : Mem) (s : State) (H : Holds t m s) where
       abbrev left : List Float
       left = take (t .postscript - 1) (m .ps)
 
-      pop-is : popD (within room words) s ≡ pushes v left
+      pop-is : popD lim s ≡ pushes v left
       unfolding popD push
       pop-is =
           let h = pos-of-ne-zero ne in
           ap (λ (k : Bool). check k 11 (pushed (getD (s .postscript) (length (s .postscript) - 1) nan) (take (length (s .postscript) - 1) (s .postscript)))) (lt-ltb 0 (length (s .postscript)) (let n = postscript-count in omega arith))
-          ∙ limit-check (leb (length (s .operands) + 1) 256) 15 _ refl
+          ∙ ap (λ (n : ℕ). allowed n (next (getD (s .postscript) (length (s .postscript) - 1) nan) (take (length (s .postscript) - 1) (s .postscript)))) (ap (λ (n : ℕ). lim .operands (n + 1)) (operand-count t m s H) ∙ limit-is reading room words (t .operands + 1))
           ∙ ap₂ (λ (l : List Float) (n : ℕ). pushes (getD l (n - 1) nan) (take (n - 1) l)) postscript-are postscript-count
           ∙ ap₂ pushes (getD-take (t .postscript) (m .ps) (t .postscript - 1) nan (omega arith)) (take-take (t .postscript - 1) (t .postscript) (m .ps) (omega arith))
 
-      pub pop-full : (r : Ran) → r ≡ ranOf t 15 → t .operands ≡ 256 → Meets r m (popD (within room words) s)
-      pop-full r e z = subst (Meets r m) (sym (pop-is ∙ ap (λ (k : Bool). check k 15 (going (withOperands (s .operands ++ (v ∷ [])) (withPostscript left s)))) (lt-leb (length (s .operands) + 1) 256 (let n = operand-count t m s H in omega arith)))) (ap (λ (q : Ran). q .flow) e, lit≤ tt)
+      pop-full : (r : Ran) → r ≡ ranOf t (operandRefusal (reading .strict) (t .operands + 1)) → (operandRefusal (reading .strict) (t .operands + 1) ≡ 0 → ⊥) → Meets r m (popD lim s)
+      pop-full r e h = subst (Meets r m) (sym (pop-is ∙ allowed-not (operandRefusal (reading .strict) (t .operands + 1)) _ h)) (ap (λ (q : Ran). q .flow) e, refusal-above (reading .strict) (t .operands + 1) h)
 
-      pub pop-done : (r : Ran) → r ≡ ranOf (popped t) 0 → (t .operands ≡ 256 → ⊥) → Meets r (withOps (set (m .ops) (t .operands) (getD (m .ps) (t .postscript - 1) nan)) m) (popD (within room words) s)
+      pop-more : (r : Ran) → r ≡ ranOf (popped t) 0 → operandRefusal (reading .strict) (t .operands + 1) ≡ 0 → Meets r (withOps (set (m .ops) (t .operands) (getD (m .ps) (t .postscript - 1) nan)) m) (popD lim s)
       unfolding abs
-      pop-done r e nf =
+      pop-more r e z =
           let F = H .fit in
           let lo = F .ops in
-          let lt : t .operands < 256 = lt-of-le-ne (F .bounds .operands) nf in
+          let lt : t .operands + 1 ≤ 256 = operands-fit (reading .strict) (t .operands + 1) z in
           let lp = F .bounds .postscript in
           let new = set (m .ops) (t .operands) v in
           let l : take (t .operands + 1) new ≡ take (t .operands) (m .ops) ++ (v ∷ []) = ap (λ (n : ℕ). take n new) (add-one (t .operands)) ∙ take-suc-set (m .ops) (t .operands) v (omega arith) in
-          subst (Meets r (withOps new m)) (sym (pop-is ∙ ap (λ (k : Bool). check k 15 (going (withOperands (s .operands ++ (v ∷ [])) (withPostscript left s)))) (le-leb (length (s .operands) + 1) 256 (let n = operand-count t m s H in omega arith)))) (
+          subst (Meets r (withOps new m)) (sym (pop-is ∙ allowed-none (operandRefusal (reading .strict) (t .operands + 1)) _ z)) (
             ap (λ (q : Ran). q .flow) e,
             subst (λ (q : Ran). Holds (q .st) (withOps new m) (withOperands (s .operands ++ (v ∷ [])) (withPostscript left s))) (sym e) (record {
               is = ap (λ (o : List Float). withOperands o (withPostscript left (abs t m))) l ∙ ap (λ (u : State). withOperands (u .operands ++ (v ∷ [])) (withPostscript left u)) (H .is);
               fit = small-fit t m F _ _ _ _ _ _ _ _ _ _ _ _ _ _ (omega arith) (omega arith) (F .bounds .points) (F .bounds .hints) (F .bounds .ran) (length-set (m .ops) (t .operands) v ∙ F .ops) (F .ps) (F .cells);
             }),
           )
+
+    -- what `pop` is refused with
+    abbrev pop-refusal : ℕ
+    pop-refusal = firstRefusal (numberIf (eqb (t .postscript) 0) 11) (operandRefusal (reading .strict) (t .operands + 1))
+
+    pub pop-refused : (r : Ran) (f : ℕ) → f ≡ pop-refusal → (f ≡ 0 → ⊥) → r ≡ ranOf t f → Meets r m (popD lim s)
+    pop-refused r f ef nf e = go (eqb (t .postscript) 0) refl
+      where
+        go : (c : Bool) → eqb (t .postscript) 0 ≡ c → Meets r m (popD lim s)
+        go true z = pop-none r (e ∙ ap (ranOf t) (ef ∙ first-is (eqb (t .postscript) 0) 11 (operandRefusal (reading .strict) (t .operands + 1)) z (λ q. let w : ⊥ = omega (arith, q) in w))) (eqb-true (t .postscript) 0 z)
+        go false z =
+            let full = ef ∙ second-is (eqb (t .postscript) 0) 11 (operandRefusal (reading .strict) (t .operands + 1)) z in
+            pop-full (eqb-false (t .postscript) 0 z) r (e ∙ ap (ranOf t) full) (λ q. nf (full ∙ q))
+
+    pub pop-done : (r : Ran) (f : ℕ) → f ≡ pop-refusal → f ≡ 0 → r ≡ ranOf (popped t) 0 → Meets r (withOps (set (m .ops) (t .operands) (getD (m .ps) (t .postscript - 1) nan)) m) (popD lim s)
+    pop-done r f ef nf e =
+        let (left, room) = none-refused (eqb (t .postscript) 0) 11 (operandRefusal (reading .strict) (t .operands + 1)) (λ q. let w : ⊥ = omega (arith, q) in w) (sym ef ∙ nf) in
+        pop-more (eqb-false (t .postscript) 0 left) r e room
 
 pub groups-kept : (t : St) (r : Ran) (n : ℕ) → r ≡ ranOf t n → r .st .groups ≡ t .groups
 groups-kept t r n e = ap (λ (q : Ran). q .st .groups) e

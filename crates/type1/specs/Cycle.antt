@@ -9,7 +9,7 @@ use Rattle.type1.specs.declared.St.{St}
 use Rattle.type1.specs.declared.Ran.{Ran}
 use Rattle.type1.specs.declared.Reading.{Reading}
 use Rattle.type1.specs.State.{State}
-use Rattle.type1.specs.Run.{Limits, within, Outcome, Font, returned, execute, runBody}
+use Rattle.type1.specs.Run.{Limits, within, limitsOf, fontOf, Outcome, returned, execute, runBody}
 use Rattle.type1.specs.Memory.{Mem, abs, Fit, Holds, Meets, operatorOf}
 use Rattle.type1.specs.Sound.{Sound}
 
@@ -21,12 +21,9 @@ pub record Ready (t : St) (m : Mem) : Type 0 where
   pub fit : Fit t m
   pub sound : Sound (abs t m)
 
--- the lent stores' limits: document 01, numbers 16 and 17
-abbrev pub limitsOf : Mem → Limits
-limitsOf m = within (length (m .stems)) (length (m .cmds))
-
-abbrev pub fontOf : List ℕ → Reading → Font
-fontOf bank reading = record { bank = bank; reading = reading }
+-- the limits of a reading in the lent stores: document 01, numbers 15 to 17; document 02, c
+abbrev pub limitsIn : Reading → Mem → Limits
+limitsIn reading m = limitsOf reading (within (length (m .stems)) (length (m .cmds)))
 
 -- what the run does, from each state that is held so
 pub record From : Type 0 where
@@ -39,8 +36,8 @@ MeetsFrom r m x = (s : State) → Holds (x .state) (x .mem) s → Meets r m (x .
 
 -- one operator, with so many levels left for bodies
 abbrev pub opD : List ℕ → Reading → ℕ → ℕ → St → Mem → From
-opD bank reading levels op t m = record { state = t; mem = m; does = execute (limitsOf m) (fontOf bank reading) (runBody (limitsOf m) (fontOf bank reading) levels) (operatorOf op) }
+opD bank reading levels op t m = record { state = t; mem = m; does = execute (limitsIn reading m) (fontOf bank reading) (runBody (limitsIn reading m) (fontOf bank reading) levels) (operatorOf op) }
 
 -- a body's bytes, with so many levels left below it; one that returns goes on after the call
 abbrev pub runD : List ℕ → Reading → ℕ → List ℕ → St → Mem → From
-runD bank reading levels code t m = record { state = t; mem = m; does = λ s. returned (runBody (limitsOf m) (fontOf bank reading) (suc levels) code s) }
+runD bank reading levels code t m = record { state = t; mem = m; does = λ s. returned (runBody (limitsIn reading m) (fontOf bank reading) (suc levels) code s) }

@@ -15,7 +15,7 @@ use Rattle.type1.specs.Operator.{ofByte, ofEscape}
 use Rattle.type1.specs.Number.{oneByte, twoBytes, twoBytesBelow, fourBytes, token, double}
 use Rattle.outline.specs.Outline.{Command, move, line, curve, flex, Group, isIn, sameStems, lastIs, stemCount, stemOf}
 use Rattle.type1.specs.State.{start}
-use Rattle.type1.specs.Run.{readingOf, Limits, within, unlimited, Outcome, going, returning, ending, refused, pointAt, push, stem, newGroup, commit, enter, list, moveBy, openSubpath, lineTo, lineBy, curveTo, curveBy, setPoint, backwards, handBack, endFlex, otherSubr0, otherSubr2, otherSubr, callOtherSubr, popD, divD, stems3, operate, charge, named, callBody, callSubr, execute, runBytes, runBody, run}
+use Rattle.type1.specs.Run.{readingOf, fontOf, Limits, within, unlimited, Outcome, going, returning, ending, refused, pointAt, push, stem, newGroup, commit, enter, list, moveBy, openSubpath, lineTo, lineBy, curveTo, curveBy, setPoint, backwards, handBack, endFlex, otherSubr0, otherSubr2, otherSubr, callOtherSubr, popD, divD, stems3, operate, charge, named, callBody, callSubr, execute, runBytes, runBody, run}
 
 -- ---- numbers: Adobe Type 1 Font Format, section 6.2
 least-one : oneByte 32 ≡ negsuc 106
@@ -48,7 +48,7 @@ least-five = refl
 -- ---- a run, not encrypted, with a bank
 result : Limits → List ℕ → List ℕ → Outcome
 unfolding run charge runBody plain runBytes token ofByte ofEscape execute operate push stem newGroup commit enter list moveBy openSubpath lineTo lineBy curveTo curveBy setPoint backwards handBack endFlex otherSubr0 otherSubr2 otherSubr callOtherSubr popD divD stems3 callSubr callBody named body be16 be32 isIn sameStems lastIs stemCount ofInt add sum div eq lt le toUnsigned toSigned round units odd size climb span trailingZeros
-result lim bank l = run lim (record { bank = bank; reading = readingOf notEncrypted }) l start
+result lim bank l = run lim (fontOf bank (readingOf notEncrypted)) l start
 
 -- `00 00 00 00 00 00`: no subroutines
 abbrev noBodies : List ℕ

@@ -11,7 +11,7 @@ use Rattle.type1.specs.declared.Interpreted.{Interpreted}
 use Rattle.outline.specs.Outline.{plusZero, stemCount, zeroStem}
 use Rattle.outline.specs.Store.{entryWords, word, drawnIn, groupsIn}
 use Rattle.type1.specs.State.{State, start}
-use Rattle.type1.specs.Run.{Limits, Outcome, going, returning, ending, refused, check, within, run}
+use Rattle.type1.specs.Run.{Limits, Outcome, going, returning, ending, refused, check, within, limitsOf, fontOf, run}
 use Rattle.type1.specs.Sound.{Sound}
 
 -- what is read: a charstring, and the bank of its subroutines
@@ -24,11 +24,11 @@ sourceOf charstring bank = record { charstring = charstring; bank = bank }
 
 -- the run of a source, from the first byte
 abbrev pub runOf : Limits → Source → Reading → Outcome
-runOf lim x reading = run lim (record { bank = x .bank; reading = reading }) (x .charstring) start
+runOf lim x reading = run lim (fontOf (x .bank) reading) (x .charstring) start
 
 -- in stores of so many records and words: 2 where the bank breaks its layout (document 01, "Numbers the board logs"), else as the run ends
 unfoldable pub outcome : Source → Reading → ℕ → ℕ → Outcome
-outcome x reading records words = check (valid (x .bank)) 2 (runOf (within records words) x reading)
+outcome x reading records words = check (valid (x .bank)) 2 (runOf (limitsOf reading (within records words)) x reading)
 
 -- a run that is not refused: number 0, the width, the bytes run ("Bytes run": encrypted bytes, each body at each call), and the drawn list and the groups, which stand in the stores
 pub record Left (r : Interpreted) (commands : List ℕ) (stems : List Stem) (s : State) : Type 0 where

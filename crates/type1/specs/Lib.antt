@@ -14,9 +14,12 @@ pub mod KeptLaws
 pub mod StableLaws
 pub mod SoundLaws
 pub mod Limited
+pub mod Refusals
 pub mod WeightLaws
 pub mod Invariants
 pub mod Examples
 pub mod Entry
 pub mod Interpret
+pub mod States
+pub mod Strict
 pub mod InterpretExamples

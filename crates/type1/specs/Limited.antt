@@ -1,4 +1,4 @@
--- Laws: a run with limits is refused by a limit, with 15, 16 or 17, or is the unlimited run. Document 01, numbers 15 to 17.
+-- Laws: a run with limits is refused by a limit, with 15, 16, 17 or 22, or is the unlimited run. Document 01, numbers 15 to 17; document 02, c, number 22.
 use Prim.Native.Nat.{ℕ, zero, suc, _+_, _-_, _*_}
 use mathlib.Core.Path.{_≡_, refl, sym, ap, _∙_, subst}
 use mathlib.Core.Logic.{inl, inr}
@@ -13,12 +13,13 @@ use lib.Ieee.Scale.{finite}
 use Rattle.charstring.specs.Cipher.{plain}
 use Rattle.geometry.specs.declared.Point.{Point}
 use Rattle.outline.specs.Store.{entryWords}
+use Rattle.type1.specs.declared.Reading.{Reading}
 use Rattle.type1.specs.Operator as op
 use Rattle.type1.specs.Operator.{Operator}
 use Rattle.type1.specs.Number.{Token, cut, number, operator, token, double}
 use Rattle.outline.specs.Outline.{Command, move, line, curve, flex, plusZero, origin, isIn, lastIs, stemCount, pick, stemOf}
 use Rattle.type1.specs.State.{State, withPoint, withPostscript, withFlex, withHints, withOpen}
-use Rattle.type1.specs.Run.{Limits, within, unlimited, Outcome, going, returning, ending, refused, andThen, check, allowed, top, cleared, without, needs, push, stem, entries, groupNumber, newGroup, commit, enter, list, shifted, isFinite, noFlex, moveBy, openSubpath, lineTo, lineBy, curveTo, curveBy, samePoint, setPoint, backwards, handBack, endFlex, heightOf, otherSubr0, is, otherSubr, callOtherSubr, popD, stems3, pointAt, operate, Font, charge, named, returned, callBody, callSubr, execute, consume, runBytes, runBody, run}
+use Rattle.type1.specs.Run.{Limits, within, strictly, limitsOf, unlimited, Outcome, going, returning, ending, refused, andThen, check, allowed, top, cleared, without, needs, push, stem, entries, groupNumber, newGroup, commit, enter, list, shifted, isFinite, noFlex, moveBy, openSubpath, lineTo, lineBy, curveTo, curveBy, samePoint, setPoint, backwards, handBack, endFlex, heightOf, otherSubr0, is, otherSubr, callOtherSubr, popD, stems3, pointAt, operate, Font, charge, named, returned, callBody, callSubr, execute, consume, runBytes, runBody, run}
 use Rattle.hints.specs.Hints.{groupRefusal}
 use Rattle.type1.specs.Sound.{isLimit, Limiting, LimitOr}
 
@@ -83,6 +84,17 @@ within-limiting records words = record {
   stems = λ n. at-most (leb n records) 16 tt;
   commands = λ n. at-most (leb (entryWords * n) words) 17 tt;
 }
+
+strictly-limiting : (lim : Limits) → Limiting lim → Limiting (strictly lim)
+strictly-limiting lim L = record { operands = λ n. at-most (leb n 24) 22 tt; postscript = L .postscript; hints = L .hints; groups = L .groups; stems = L .stems; commands = L .commands }
+
+-- of every reading
+pub reading-limiting : (reading : Reading) (records words : ℕ) → Limiting (limitsOf reading (within records words))
+reading-limiting reading records words = go (reading .strict)
+  where
+    go : (b : Bool) → Limiting (pick b (strictly (within records words)) (within records words))
+    go true = strictly-limiting (within records words) (within-limiting records words)
+    go false = within-limiting records words
 
 -- ---- steps
 module _ (lim : Limits) (L : Limiting lim) where
@@ -271,7 +283,7 @@ module _ (lim : Limits) (L : Limiting lim) where
   unfolding runBody
   runBody-limited f zero l s = inr refl
   runBody-limited f (suc n) l s =
-      runBytes-limited (execute lim f (runBody lim f n)) (execute unlimited f (runBody unlimited f n)) (execute-limited f (runBody lim f n) (runBody unlimited f n) (runBody-limited f n)) (plain (f .reading .«len_iv») l) 0 s
+      runBytes-limited (execute lim f (runBody lim f n)) (execute unlimited f (runBody unlimited f n)) (execute-limited f (runBody lim f n) (runBody unlimited f n) (runBody-limited f n)) (plain (f .lenIV) l) 0 s
 
   pub run-limited : (f : Font) (l : List ℕ) (s : State) → LimitOr (run lim f l s) (run unlimited f l s)
   unfolding run

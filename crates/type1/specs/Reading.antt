@@ -23,7 +23,7 @@ use Rattle.type1.specs.Operator.{Operator}
 use Rattle.type1.specs.Number.{cut, number, operator, token, double}
 use Rattle.outline.specs.Outline.{Command, pick}
 use Rattle.type1.specs.State.{State}
-use Rattle.type1.specs.Run.{Limits, within, Outcome, going, refused, andThen, returned, enter, operate, callSubr, runBytes}
+use Rattle.type1.specs.Run.{Limits, within, limitsOf, Outcome, going, refused, andThen, returned, enter, operate, fontOf, callSubr, runBytes}
 use Rattle.type1.specs.Memory.{Mem, abs, Fit, Holds, Meets, withOps, withCmds, after, operatorOf}
 use Rattle.type1.specs.Small.{ranOf}
 use Rattle.type1.specs.Sound.{Sound}
@@ -136,10 +136,10 @@ abbrev pub readMem : List Float → List ℕ → Mem → Mem
 readMem o c m = withOps o (withCmds c m)
 
 -- the bytes from a place on were read up to the token t
-pub record Reads (code : List ℕ) (from key : ℕ) (encrypted : Bool) (st : St) (ops : List Float) (cmds : List ℕ) (t : Tok) (exit : List Float) (cexit : List ℕ) : Type 0 where
+pub record Reads (reading : Reading) (code : List ℕ) (from key : ℕ) (encrypted : Bool) (st : St) (ops : List Float) (cmds : List ℕ) (t : Tok) (exit : List Float) (cexit : List ℕ) : Type 0 where
   pub fit : (m : Mem) → Fit st (readMem ops cmds m) → Fit (t .st) (readMem exit cexit m)
-  pub same : (m : Mem) (s : State) → Holds st (readMem ops cmds m) s → (u : State) × Holds (t .st) (readMem exit cexit m) u × ((f : Operator → State → Outcome) → ReadsAs (within (length (m .stems)) (length cmds)) f
-      → runBytes (within (length (m .stems)) (length cmds)) f (rest (cursorOf from key encrypted) code) 0 s ≡ goesOn t code encrypted (within (length (m .stems)) (length cmds)) f u)
+  pub same : (m : Mem) (s : State) → Holds st (readMem ops cmds m) s → (u : State) × Holds (t .st) (readMem exit cexit m) u × ((f : Operator → State → Outcome) → ReadsAs (limitsOf reading (within (length (m .stems)) (length cmds))) f
+      → runBytes (limitsOf reading (within (length (m .stems)) (length cmds))) f (rest (cursorOf from key encrypted) code) 0 s ≡ goesOn t code encrypted (limitsOf reading (within (length (m .stems)) (length cmds))) f u)
   pub sound : (m : Mem) → Fit st (readMem ops cmds m) → Bytes code → Sound (abs st (readMem ops cmds m)) → Sound (abs (t .st) (readMem exit cexit m))
   pub on : from < t .next
   pub whole : length cexit ≡ length cmds
@@ -147,5 +147,5 @@ pub record Reads (code : List ℕ) (from key : ℕ) (encrypted : Bool) (st : St)
 
 -- a call is about to be made, or is refused
 pub record Calls (bank : List ℕ) (reading : Reading) (m : Mem) (s : State) (r : Called) : Type 0 where
-  pub called : r .flow ≡ 0 → (u : State) × Holds (r .st) m u × ((deep : List ℕ → State → Outcome) → callSubr (record { bank = bank; reading = reading }) deep s ≡ returned (deep (bytesAt (found (r .index) bank) bank) u))
-  pub stopped : (r .flow ≡ 0 → ⊥) → (3 ≤ r .flow) × ((deep : List ℕ → State → Outcome) → callSubr (record { bank = bank; reading = reading }) deep s ≡ refused (r .flow))
+  pub called : r .flow ≡ 0 → (u : State) × Holds (r .st) m u × ((deep : List ℕ → State → Outcome) → callSubr (fontOf bank reading) deep s ≡ returned (deep (bytesAt (found (r .index) bank) bank) u))
+  pub stopped : (r .flow ≡ 0 → ⊥) → (3 ≤ r .flow) × ((deep : List ℕ → State → Outcome) → callSubr (fontOf bank reading) deep s ≡ refused (r .flow))

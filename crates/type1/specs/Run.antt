@@ -35,6 +35,14 @@ pub record Limits : Type 0 where
 abbrev pub within : ℕ → ℕ → Limits
 within records words = record { operands = atMost 256 15; postscript = atMost 256 15; hints = atMost 256 16; groups = atMost 256 16; stems = atMost records 16; commands = λ n. atMost words 17 (entryWords * n) }
 
+-- T1's own operand stack (chapter 6; document 02, c): 24 operands fit, and a 25th is refused with 22
+abbrev pub strictly : Limits → Limits
+strictly lim = record { operands = atMost 24 22; postscript = lim .postscript; hints = lim .hints; groups = lim .groups; stems = lim .stems; commands = lim .commands }
+
+-- the limits of a reading
+abbrev pub limitsOf : Reading → Limits → Limits
+limitsOf reading lim = pick (reading .strict) (strictly lim) lim
+
 -- the run that is fed nothing of the converter's stores
 abbrev pub unlimited : Limits
 unlimited = record { operands = λ n. 0; postscript = λ n. 0; hints = λ n. 0; groups = λ n. 0; stems = λ n. 0; commands = λ n. 0 }
@@ -288,10 +296,18 @@ operate lim call op.unknown s = refused 6
 abbrev pub readingOf : ℕ → Reading
 readingOf lenIV = record { «len_iv» = lenIV; strict = false }
 
--- what the run is fed beside the charstring: the bank, and how both are read
+-- the strict reading (document 02, c)
+abbrev pub strictOf : ℕ → Reading
+strictOf lenIV = record { «len_iv» = lenIV; strict = true }
+
+-- what the run is fed beside the charstring: the bank and lenIV
 pub record Font : Type 0 where
   pub bank : List ℕ
-  pub reading : Reading
+  pub lenIV : ℕ
+
+-- of a reading; whether it is strict belongs to the limits
+abbrev pub fontOf : List ℕ → Reading → Font
+fontOf bank reading = record { bank = bank; lenIV = reading .«len_iv» }
 
 -- a body's encrypted bytes are counted before it runs: 1,048,576 pass
 unfoldable pub charge : List ℕ → State → Outcome
@@ -335,7 +351,7 @@ runBytes lim f (b ∷ l) zero s = consume lim f (token b l) s (runBytes lim f l)
 -- a body, with so many levels left; at none it is refused
 unfoldable pub runBody : Limits → Font → ℕ → List ℕ → State → Outcome
 runBody lim f zero l s = refused 4
-runBody lim f (suc n) l s = runBytes lim (execute lim f (runBody lim f n)) (plain (f .reading .«len_iv») l) 0 s
+runBody lim f (suc n) l s = runBytes lim (execute lim f (runBody lim f n)) (plain (f .lenIV) l) 0 s
 
 -- the whole: the charstring at depth 0, its subroutines at depth 1 to 10
 unfoldable pub run : Limits → Font → List ℕ → State → Outcome

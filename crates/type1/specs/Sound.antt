@@ -130,9 +130,9 @@ abbrev pub ByteBody : Option (List ℕ) → Type 0
 ByteBody none = Unit {0}
 ByteBody (some l) = Bytes l
 
--- ---- what limits refuse with: document 01, numbers 15 to 17
+-- ---- what limits refuse with: document 01, numbers 15 to 17; document 02, c, number 22
 abbrev pub isLimit : ℕ → Bool
-isLimit n = leb 15 n && leb n 17
+isLimit n = (leb 15 n && leb n 17) || eqb n 22
 
 -- each limit answers 0 or one of these
 abbrev pub Refusing : (ℕ → ℕ) → Type 0
@@ -149,6 +149,25 @@ pub record Limiting (lim : Limits) : Type 0 where
 -- ---- an outcome is a limit's refusal, or is another
 abbrev pub LimitOr : Outcome → Outcome → Type 0
 LimitOr o p = ((n : ℕ) × (o ≡ refused n) × T (isLimit n)) ⊎ (o ≡ p)
+
+-- ---- what steps refuse with: document 01, numbers 3 to 12 and 14
+abbrev pub isStep : ℕ → Bool
+isStep n = leb 3 n && leb n 14
+
+-- P of how many operands an outcome leaves, or R of the number that it is refused with
+abbrev pub Keeps : (ℕ → Type 0) → (ℕ → Type 0) → Outcome → Type 0
+Keeps P R (going s) = P (length (s .operands))
+Keeps P R (returning s) = P (length (s .operands))
+Keeps P R (ending s) = P (length (s .operands))
+Keeps P R (refused n) = R n
+
+-- R of what each limit answers, but that of operands
+pub record Answering (R : ℕ → Type 0) (lim : Limits) : Type 0 where
+  pub postscript : (n : ℕ) → R (lim .postscript n)
+  pub hints : (n : ℕ) → R (lim .hints n)
+  pub groups : (n : ℕ) → R (lim .groups n)
+  pub stems : (n : ℕ) → R (lim .stems n)
+  pub commands : (n : ℕ) → R (lim .commands n)
 
 -- ---- points drawn, and what may become points: operands, the PostScript stack, the points of a flex
 abbrev pub points : Command → ℕ

@@ -128,7 +128,7 @@ module _ (lim : Limits) (Q : State → Type 0) (S : Stable lim Q) where
   pub runBody-ends : (f : Font) → Bytes (f .bank) → (n : ℕ) (l : List ℕ) (s : State) → Bytes l → Q s → Ends Q (runBody lim f n l s)
   unfolding runBody
   runBody-ends f all zero l s b q = tt
-  runBody-ends f all (suc n) l s b q = runBytes-ends (execute lim f (runBody lim f n)) (execute-ends f (runBody lim f n) all (runBody-ends f all n)) (plain (f .reading .«len_iv») l) 0 s (plain-bytes (f .reading .«len_iv») l b) q
+  runBody-ends f all (suc n) l s b q = runBytes-ends (execute lim f (runBody lim f n)) (execute-ends f (runBody lim f n) all (runBody-ends f all n)) (plain (f .lenIV) l) 0 s (plain-bytes (f .lenIV) l b) q
 
   pub run-ends : (f : Font) → Bytes (f .bank) → (l : List ℕ) (s : State) → Bytes l → Q s → Ends Q (run lim f l s)
   unfolding run

@@ -366,8 +366,8 @@ module _ (lim : Limits) where
   unfolding runBody
   runBody-weighs f zero n l s w = tt
   runBody-weighs f (suc k) n l s w =
-      let b = plain (f .reading .«len_iv») l in
-      let e = plain-length (f .reading .«len_iv») l in
+      let b = plain (f .lenIV) l in
+      let e = plain-length (f .lenIV) l in
       runBytes-weighs (execute lim f (runBody lim f k)) (λ m. execute-weighs lim m f (runBody lim f k) (runBody-weighs f k m)) n b 0 s (weighs-less (length l + n) (length b - 0 + n) (omega arith) s w)
 
   pub run-weighs : (f : Font) (n : ℕ) (l : List ℕ) (s : State) → Weighs n s → Ends (Weighs n) (run lim f l s)

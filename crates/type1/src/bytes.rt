@@ -10,6 +10,7 @@ ghost use Rattle.type1.specs.Reading.{placed, tokOf, Numbered, Operated,
 ghost use Rattle.type1.specs.Small as Small;
 use crate::Drawn;
 use crate::Num;
+use crate::Reading;
 use crate::St;
 use crate::Tok;
 use crate::entries::add_curve;
@@ -221,9 +222,10 @@ pub(crate) fn token(
     st: St,
     ops: &mut [f64; 256],
     cmds: &mut [u64],
+    reading: Reading,
 ) -> Tok
     requires { ⌜ (from < length (now code)) × ((st .operands ≤ 256) × (entryWords * st .entries ≤ length (now cmds))) ⌝ }
-    ensures { λ r. ⌜ Reads (now (code .entry)) from start encrypted st (now (ops .entry)) (now (cmds .entry)) r (now (ops .exit)) (now (cmds .exit)) ⌝ }
+    ensures { λ r. ⌜ Reads reading (now (code .entry)) from start encrypted st (now (ops .entry)) (now (cmds .entry)) r (now (ops .exit)) (now (cmds .exit)) ⌝ }
 {
     let mut i = from;
     let mut key = start;
@@ -274,11 +276,11 @@ pub(crate) fn token(
         } else {
             let k = charstring::next_key(c, key);
             let w = number_at(code, i + 1, k, encrypted, v);
-            if w.cut {
-                return found(place(st, n, x, y, entries, opened), i + 1, k, 5, 0);
-            }
-            if n == 256 {
-                return found(place(st, n, x, y, entries, opened), i + 1, k, 15, 0);
+            let cut = operand_stack::number_if(w.cut, 5);
+            let over = operand_stack::refusal(n, reading.strict);
+            let f = operand_stack::first(cut, over);
+            if f != 0 {
+                return found(place(st, n, x, y, entries, opened), i + 1, k, f, 0);
             }
             ops[n] = w.x;
             n += 1;

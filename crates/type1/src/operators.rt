@@ -8,13 +8,14 @@ ghost use lib.Ieee.Scale.{finite};
 ghost use Rattle.type1.specs.State as State;
 ghost use Rattle.type1.specs.Operator as Op;
 ghost use Rattle.type1.specs.Run as Run;
-ghost use Rattle.type1.specs.Run.{within, pointAt, operate};
+ghost use Rattle.type1.specs.Run.{within, limitsOf, pointAt, operate};
 ghost use Rattle.type1.specs.Memory.{Mem, Bounds, Holds, Meets, operatorOf, withOps, withPs, withCells, withHints, withPath, after, Told, Takes, Hinted};
 ghost use Rattle.type1.specs.Deltas.{axesOf, tangentsOf, byPoint, byCurve, stemFrom};
 ghost use Rattle.type1.specs.Small as Small;
 use crate::BEARING_X;
 use crate::BEARING_Y;
 use crate::Ran;
+use crate::Reading;
 use crate::St;
 use crate::WIDTH;
 use crate::opcodes::CALLOTHERSUBR;
@@ -297,19 +298,19 @@ fn div(st: St, ops: &mut [f64; 256]) -> Ran
 }
 
 // 12 17
-fn pop(st: St, ops: &mut [f64; 256], ps: &[f64; 256]) -> Ran
+fn pop(st: St, ops: &mut [f64; 256], ps: &[f64; 256], reading: Reading) -> Ran
     requires { ⌜ (st .operands ≤ 256) × (st .postscript ≤ 256) ⌝ }
     ensures { λ r. ⌜ ((m : Mem) (s : State.State) (room words : ℕ) → Holds st (withOps (now (ops .entry)) (withPs (now (ps .entry)) m)) s →
-        Meets r (withOps (now (ops .exit)) (withPs (now (ps .entry)) m)) (Run.popD (within room words) s)) ⌝ }
+        Meets r (withOps (now (ops .exit)) (withPs (now (ps .entry)) m)) (Run.popD (limitsOf reading (within room words)) s)) ⌝ }
     ensures { λ r. ⌜ r .st .groups ≡ st .groups ⌝ }
 {
     let p = st.postscript;
-    if p == 0 {
-        return made(st, 11);
-    }
     let n = st.operands;
-    if n == 256 {
-        return made(st, 15);
+    let none = operand_stack::number_if(p == 0, 11);
+    let over = operand_stack::refusal(n, reading.strict);
+    let f = operand_stack::first(none, over);
+    if f != 0 {
+        return made(st, f);
     }
     ops[n] = ps[p - 1];
     let mut s = st;
@@ -330,6 +331,7 @@ pub(crate) fn plain(
     edges: &mut [f64; 512],
     across: &mut [bool; 256],
     cmds: &mut [u64],
+    reading: Reading,
 ) -> Ran
     requires { ⌜ Bounds st (length (now cmds)) ⌝ }
     requires { ⌜ st .stems ≤ room ⌝ }
@@ -339,7 +341,7 @@ pub(crate) fn plain(
         (withCells (now (cells .entry)) (withPath (now (edges .entry)) (now (across .entry)) (now (cmds .entry)) m)))) s →
         Meets r (withOps (now (ops .exit)) (withPs (now (ps .exit))
         (withCells (now (cells .exit)) (after st r (now (cmds .exit)) (withHints (now (edges .exit)) (now (across .exit)) m)))))
-        (operate (within room (length (now (cmds .entry)))) (Run.refused 6) (operatorOf op) s)) ⌝ }
+        (operate (limitsOf reading (within room (length (now (cmds .entry))))) (Run.refused 6) (operatorOf op) s)) ⌝ }
     ensures { λ r. ⌜ Small.Space st (r .st) room ⌝ }
 {
     match op {
@@ -393,7 +395,7 @@ pub(crate) fn plain(
             return kept(callothersubr(same, room, st, ops, ps, cells, cmds));
         }
         POP => {
-            return pop(st, ops, ps);
+            return pop(st, ops, ps, reading);
         }
         SETCURRENTPOINT => {
             return kept(setcurrentpoint(same, room, st, ops, cmds));

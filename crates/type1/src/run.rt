@@ -111,7 +111,19 @@ fn op(
     }
     let n = room(stems);
     let same = is_last(st, edges, across, stems);
-    let r = plain(op, same, n, st, ops, ps, cells, edges, across, cmds);
+    let r = plain(
+        op,
+        same,
+        n,
+        st,
+        ops,
+        ps,
+        cells,
+        edges,
+        across,
+        cmds,
+        reading,
+    );
     let s = r.st;
     let g = s.groups;
     let h = st.groups;
@@ -148,7 +160,7 @@ pub(crate) fn run(
     let mut key = b.key;
     let mut s = st;
     while i < code.len() {
-        let t = token(code, i, key, e, s, ops, cmds);
+        let t = token(code, i, key, e, s, ops, cmds, reading);
         s = t.st;
         let g = t.flow;
         if g != 0 {

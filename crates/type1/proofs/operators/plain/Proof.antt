@@ -1,5 +1,5 @@
 use Prim.Native.Nat.{_≤_}
-use Rattle.type1.proofs.Dispatch.{path-arm, bearing-arm, stems-arm, div-arm, pop-arm, other-arm, state-arm, rest-arm, closes, either, of-two, lines-of}
+use Rattle.type1.proofs.Dispatch.{path-arm, bearing-arm, stems-arm, div-arm, pop-arm, other-arm, state-arm, rest-arm, closes, either, of-two, lines-of, move-no-pop, line-no-pop, curve-no-pop}
 use Rattle.type1.proofs.Stacks.{cleared-holds}
 use Rattle.geometry.specs.declared.Point.{Point}
 use Rattle.type1.specs.declared.St.{St}
@@ -23,36 +23,36 @@ use Rattle.type1.proofs.operators.plain.Tie as tie
 
 returns : tie.Need-returns
 unfolding operatorOf ofByte
-returns c = stems-arm _ _ _ _ _ _ _ _ _ _ _ _ op.hstem (c .before .before .before .before .before .match .keys1) refl (stemFrom true _) _ _ _ refl (λ s lim b. hstems lim (refused 6) s ∙ ap (λ (p : Point). stemFrom true (p .y) lim s) b) _ refl (c .one-stem .ensures)
+returns c = stems-arm (c .before .before .before .before .before .before .before .args .reading) _ _ _ _ _ _ _ _ _ _ _ _ op.hstem (c .before .before .before .before .before .match .keys1) refl refl (stemFrom true _) _ _ _ refl (λ s lim b. hstems lim (refused 6) s ∙ ap (λ (p : Point). stemFrom true (p .y) lim s) b) _ refl (c .one-stem .ensures)
 
 returns-2 : tie.Need-returns-2
 unfolding operatorOf ofByte
-returns-2 c = stems-arm _ _ _ _ _ _ _ _ _ _ _ _ op.vstem (c .before .before .before .before .before .match .keys2) refl (stemFrom false _) _ _ _ refl (λ s lim b. vstems lim (refused 6) s ∙ ap (λ (p : Point). stemFrom false (p .x) lim s) b) _ refl (c .one-stem2 .ensures)
+returns-2 c = stems-arm (c .before .before .before .before .before .before .before .args .reading) _ _ _ _ _ _ _ _ _ _ _ _ op.vstem (c .before .before .before .before .before .match .keys2) refl refl (stemFrom false _) _ _ _ refl (λ s lim b. vstems lim (refused 6) s ∙ ap (λ (p : Point). stemFrom false (p .x) lim s) b) _ refl (c .one-stem2 .ensures)
 
 returns-3 : tie.Need-returns-3
 unfolding operatorOf ofByte operate
 returns-3 c =
-    state-arm _ _ _ _ _ _ _ _ _ _ _ _ op.closepath (c .before .match .keys5) refl (λ s. going (withOpen false (cleared s))) (closedRan (c .before .before .before .args .st) .st) 0 (c .closepath .ensures) refl (λ s lim. refl) (closes (c .before .before .before .args .st))
+    state-arm (c .before .before .before .args .reading) _ _ _ _ _ _ _ _ _ _ _ _ op.closepath (c .before .match .keys5) refl (λ s. going (withOpen false (cleared s))) (closedRan (c .before .before .before .args .st) .st) 0 (c .closepath .ensures) refl (λ s lim. refl) (closes (c .before .before .before .args .st))
 
 returns-4 : tie.Need-returns-4
 unfolding operatorOf ofByte operate
 returns-4 c =
-    state-arm _ _ _ _ _ _ _ _ _ _ _ _ op.return (c .before .match .keys6) refl returning (c .before .before .before .args .st) 1 (c .made .ensures) refl (λ s lim. refl) (λ m s H. (refl, H))
+    state-arm (c .before .before .before .args .reading) _ _ _ _ _ _ _ _ _ _ _ _ op.return (c .before .match .keys6) refl returning (c .before .before .before .args .st) 1 (c .made .ensures) refl (λ s lim. refl) (λ m s H. (refl, H))
 
 returns-5 : tie.Need-returns-5
 unfolding operatorOf ofByte
 returns-5 c =
-    bearing-arm _ _ _ _ _ _ _ _ _ _ _ _ op.hsbw (c .before .before .before .match .keys7) refl _ (c .hsbw .ensures .0) (c .hsbw .ensures .1)
+    bearing-arm (c .before .before .before .before .before .args .reading) _ _ _ _ _ _ _ _ _ _ _ _ op.hsbw (c .before .before .before .match .keys7) refl refl _ (c .hsbw .ensures .0) (c .hsbw .ensures .1)
 
 returns-6 : tie.Need-returns-6
 unfolding operatorOf ofByte operate
 returns-6 c =
-    state-arm _ _ _ _ _ _ _ _ _ _ _ _ op.endchar (c .before .before .match .keys8) refl (λ s. ending (cleared s)) (withCount 0 (c .before .before .before .before .args .st)) 2 (c .made2 .ensures ∙ ap (λ (u : St). ranOf u 2) (c .before .cleared .ensures)) refl (λ s lim. refl) (λ m s H. (refl, cleared-holds _ m s H))
+    state-arm (c .before .before .before .before .args .reading) _ _ _ _ _ _ _ _ _ _ _ _ op.endchar (c .before .before .match .keys8) refl (λ s. ending (cleared s)) (withCount 0 (c .before .before .before .before .args .st)) 2 (c .made2 .ensures ∙ ap (λ (u : St). ranOf u 2) (c .before .cleared .ensures)) refl (λ s lim. refl) (λ m s H. (refl, cleared-holds _ m s H))
 
 returns-7 : tie.Need-returns-7
 unfolding operatorOf ofEscape operate
 returns-7 c =
-    state-arm _ _ _ _ _ _ _ _ _ _ _ _ op.dotsection (c .before .before .match .keys9) refl (λ s. going (cleared s)) (withCount 0 (c .before .before .before .before .args .st)) 0 (c .made3 .ensures ∙ ap (λ (u : St). ranOf u 0) (c .before .cleared2 .ensures)) refl (λ s lim. refl) (λ m s H. (refl, cleared-holds _ m s H))
+    state-arm (c .before .before .before .before .args .reading) _ _ _ _ _ _ _ _ _ _ _ _ op.dotsection (c .before .before .match .keys9) refl (λ s. going (cleared s)) (withCount 0 (c .before .before .before .before .args .st)) 0 (c .made3 .ensures ∙ ap (λ (u : St). ranOf u 0) (c .before .cleared2 .ensures)) refl (λ s lim. refl) (λ m s H. (refl, cleared-holds _ m s H))
 
 stems3-requires : tie.Need-stems3-requires
 stems3-requires c κs =
@@ -61,7 +61,7 @@ stems3-requires c κs =
 returns-8 : tie.Need-returns-8
 unfolding operatorOf ofEscape operate
 returns-8 c =
-    stems-arm _ _ _ _ _ _ _ _ _ _ _ _ op.vstem3 (c .before .before .before .before .before .before .before .match .keys10) refl (λ lim. stems3 lim false _) _ _ _ (c .kept .ensures) (λ s lim b. ap (λ (p : Point). stems3 lim false (p .x) s) b) _ (c .before .before .before .before .before .copied .ensures) (c .before .stems3 .ensures)
+    stems-arm (c .before .before .before .before .before .before .before .before .before .args .reading) _ _ _ _ _ _ _ _ _ _ _ _ op.vstem3 (c .before .before .before .before .before .before .before .match .keys10) refl refl (λ lim. stems3 lim false _) _ _ _ (c .kept .ensures) (λ s lim b. ap (λ (p : Point). stems3 lim false (p .x) s) b) _ (c .before .before .before .before .before .copied .ensures) (c .before .stems3 .ensures)
 
 stems3-requires-2 : tie.Need-stems3-requires-2
 stems3-requires-2 c κs =
@@ -70,32 +70,32 @@ stems3-requires-2 c κs =
 returns-9 : tie.Need-returns-9
 unfolding operatorOf ofEscape operate
 returns-9 c =
-    stems-arm _ _ _ _ _ _ _ _ _ _ _ _ op.hstem3 (c .before .before .before .before .before .before .before .match .keys11) refl (λ lim. stems3 lim true _) _ _ _ (c .kept2 .ensures) (λ s lim b. ap (λ (p : Point). stems3 lim true (p .y) s) b) _ (c .before .before .before .before .before .copied2 .ensures) (c .before .stems32 .ensures)
+    stems-arm (c .before .before .before .before .before .before .before .before .before .args .reading) _ _ _ _ _ _ _ _ _ _ _ _ op.hstem3 (c .before .before .before .before .before .before .before .match .keys11) refl refl (λ lim. stems3 lim true _) _ _ _ (c .kept2 .ensures) (λ s lim b. ap (λ (p : Point). stems3 lim true (p .y) s) b) _ (c .before .before .before .before .before .copied2 .ensures) (c .before .stems32 .ensures)
 
 returns-10 : tie.Need-returns-10
 unfolding operatorOf ofEscape operate
 returns-10 c =
-    state-arm _ _ _ _ _ _ _ _ _ _ _ _ op.seac (c .before .match .keys12) refl (λ s. refused 12) (c .before .before .before .args .st) 12 (c .made4 .ensures) refl (λ s lim. refl) (λ m s H. (refl, lit≤ tt))
+    state-arm (c .before .before .before .args .reading) _ _ _ _ _ _ _ _ _ _ _ _ op.seac (c .before .match .keys12) refl (λ s. refused 12) (c .before .before .before .args .st) 12 (c .made4 .ensures) refl (λ s lim. refl) (λ m s H. (refl, lit≤ tt))
 
 returns-11 : tie.Need-returns-11
 unfolding operatorOf ofEscape
 returns-11 c =
-    bearing-arm _ _ _ _ _ _ _ _ _ _ _ _ op.sbw (c .before .before .before .match .keys13) refl _ (c .sbw .ensures .0) (c .sbw .ensures .1)
+    bearing-arm (c .before .before .before .before .before .args .reading) _ _ _ _ _ _ _ _ _ _ _ _ op.sbw (c .before .before .before .match .keys13) refl refl _ (c .sbw .ensures .0) (c .sbw .ensures .1)
 
 returns-12 : tie.Need-returns-12
 unfolding operatorOf ofEscape operate
 returns-12 c =
-    div-arm _ _ _ _ _ _ _ _ _ _ _ _ op.div (c .before .before .match .keys14) refl _ (λ s lim. refl) (c .div .ensures .0) (c .div .ensures .1)
+    div-arm (c .before .before .before .before .args .reading) _ _ _ _ _ _ _ _ _ _ _ _ op.div (c .before .before .match .keys14) refl _ (λ s lim. refl) (c .div .ensures .0) (c .div .ensures .1)
 
 returns-13 : tie.Need-returns-13
 unfolding operatorOf ofEscape operate
 returns-13 c =
-    other-arm _ _ _ _ _ _ _ _ _ _ _ _ op.callothersubr (c .before .before .before .before .before .before .before .before .match .keys15) refl _ _ _ _ (c .kept3 .ensures) (λ s lim. refl) (c .before .before .before .callothersubr .ensures .0) (c .before .before .before .callothersubr .ensures .1)
+    other-arm (c .before .before .before .before .before .before .before .before .before .before .args .reading) _ _ _ _ _ _ _ _ _ _ _ _ op.callothersubr (c .before .before .before .before .before .before .before .before .match .keys15) refl refl _ _ _ _ (c .kept3 .ensures) (λ s lim. refl) (c .before .before .before .callothersubr .ensures .0) (c .before .before .before .callothersubr .ensures .1)
 
 returns-14 : tie.Need-returns-14
 unfolding operatorOf ofEscape operate
 returns-14 c =
-    pop-arm _ _ _ _ _ _ _ _ _ _ _ _ op.pop (c .before .before .before .match .keys16) refl _ (λ s lim. refl) (c .pop .ensures .0) (c .pop .ensures .1)
+    pop-arm (c .before .before .before .before .before .args .reading) _ _ _ _ _ _ _ _ _ _ _ _ op.pop (c .before .before .before .match .keys16) refl _ (λ s lim. refl) (c .pop .ensures .0) (c .pop .ensures .1)
 
 setcurrentpoint-requires : tie.Need-setcurrentpoint-requires
 setcurrentpoint-requires c κs =
@@ -104,7 +104,7 @@ setcurrentpoint-requires c κs =
 returns-15 : tie.Need-returns-15
 unfolding operatorOf ofEscape
 returns-15 c =
-    path-arm _ _ _ _ _ _ _ _ _ _ _ _ op.setcurrentpoint (c .before .before .before .before .before .before .match .keys17) refl _ _ _ (c .kept4 .ensures) (λ lim s. refl) (c .before .before .before .setcurrentpoint .ensures .0) (c .before .before .before .setcurrentpoint .ensures .1)
+    path-arm (c .before .before .before .before .before .before .before .before .args .reading) _ _ _ _ _ _ _ _ _ _ _ _ op.setcurrentpoint (c .before .before .before .before .before .before .match .keys17) refl refl _ _ _ (c .kept4 .ensures) (λ lim s. refl) (c .before .before .before .setcurrentpoint .ensures .0) (c .before .before .before .setcurrentpoint .ensures .1)
 
 line-operator-requires : tie.Need-line-operator-requires
 line-operator-requires c κs =
@@ -112,11 +112,11 @@ line-operator-requires c κs =
 
 returns-16 : tie.Need-returns-16
 returns-16 c =
-    path-arm _ _ _ _ _ _ _ _ _ _ _ _ _ refl refl (byPoint lineBy (axesOf (c .before .before .before .before .before .before .before .before .before .before .args .op))) _ _ (c .kept5 .ensures) (λ lim s. lines lim (refused 6) s _ (lines-of _ (c .before .before .before .before .before .before .before .if1 .left) (c .before .before .before .before .before .before .if2 .taken) (c .before .before .before .before .before .before .before .before .match .rest))) (c .before .before .before .line-operator .ensures .0) (c .before .before .before .line-operator .ensures .1)
+    path-arm (c .before .before .before .before .before .before .before .before .before .before .args .reading) _ _ _ _ _ _ _ _ _ _ _ _ _ refl refl (line-no-pop _ (lines-of _ (c .before .before .before .before .before .before .before .if1 .left) (c .before .before .before .before .before .before .if2 .taken) (c .before .before .before .before .before .before .before .before .match .rest))) (byPoint lineBy (axesOf (c .before .before .before .before .before .before .before .before .before .before .args .op))) _ _ (c .kept5 .ensures) (λ lim s. lines lim (refused 6) s _ (lines-of _ (c .before .before .before .before .before .before .before .if1 .left) (c .before .before .before .before .before .before .if2 .taken) (c .before .before .before .before .before .before .before .before .match .rest))) (c .before .before .before .line-operator .ensures .0) (c .before .before .before .line-operator .ensures .1)
 
 returns-17 : tie.Need-returns-17
 returns-17 c =
-    rest-arm _ _ _ _ _ _ _ _ _ _ _ (c .made5 .ensures) (c .before .before .match .rest)
+    rest-arm (c .before .before .before .before .args .reading) _ _ _ _ _ _ _ _ _ _ _ (c .made5 .ensures) (c .before .before .match .rest)
     (either (c .before .if1 .came) (λ a. inl (a .taken)) (λ k. inr (either k (λ a. inl (a .1 .left, a .2 .taken)) (λ k. inr (either k (λ a. inl (a .3 .left, a .4 .taken)) (λ a. inr (a .5 .left)))))))
 
 curve-operator-requires : tie.Need-curve-operator-requires
@@ -125,11 +125,11 @@ curve-operator-requires c κs =
 
 returns-18 : tie.Need-returns-18
 returns-18 c =
-    path-arm _ _ _ _ _ _ _ _ _ _ _ _ _ refl refl (byCurve (tangentsOf (c .before .before .before .before .before .before .before .before .args .op))) _ _ (c .kept6 .ensures) (λ lim s. curves lim (refused 6) s _ (either (c .before .before .before .before .before .before .match .came) (λ a. inl (a .keys4)) (λ a. inr (of-two _ 30 (a .5 .left) (a .6 .taken))))) (c .before .before .before .curve-operator .ensures .0) (c .before .before .before .curve-operator .ensures .1)
+    path-arm (c .before .before .before .before .before .before .before .before .args .reading) _ _ _ _ _ _ _ _ _ _ _ _ _ refl refl (curve-no-pop _ (either (c .before .before .before .before .before .before .match .came) (λ a. inl (a .keys4)) (λ a. inr (of-two _ 30 (a .5 .left) (a .6 .taken))))) (byCurve (tangentsOf (c .before .before .before .before .before .before .before .before .args .op))) _ _ (c .kept6 .ensures) (λ lim s. curves lim (refused 6) s _ (either (c .before .before .before .before .before .before .match .came) (λ a. inl (a .keys4)) (λ a. inr (of-two _ 30 (a .5 .left) (a .6 .taken))))) (c .before .before .before .curve-operator .ensures .0) (c .before .before .before .curve-operator .ensures .1)
 
 returns-19 : tie.Need-returns-19
 returns-19 c =
-    path-arm _ _ _ _ _ _ _ _ _ _ _ _ _ refl refl (byPoint moveBy (axesOf (c .before .before .before .before .before .before .before .before .args .op))) _ _ (c .kept7 .ensures) (λ lim s. moves lim (refused 6) s _ (either (c .before .before .before .before .before .before .match .came) (λ a. inl (a .keys3)) (λ a. inr (of-two _ 21 (a .3 .left) (a .4 .taken))))) (c .before .before .before .move-operator .ensures .0) (c .before .before .before .move-operator .ensures .1)
+    path-arm (c .before .before .before .before .before .before .before .before .args .reading) _ _ _ _ _ _ _ _ _ _ _ _ _ refl refl (move-no-pop _ (either (c .before .before .before .before .before .before .match .came) (λ a. inl (a .keys3)) (λ a. inr (of-two _ 21 (a .3 .left) (a .4 .taken))))) (byPoint moveBy (axesOf (c .before .before .before .before .before .before .before .before .args .op))) _ _ (c .kept7 .ensures) (λ lim s. moves lim (refused 6) s _ (either (c .before .before .before .before .before .before .match .came) (λ a. inl (a .keys3)) (λ a. inr (of-two _ 21 (a .3 .left) (a .4 .taken))))) (c .before .before .before .move-operator .ensures .0) (c .before .before .before .move-operator .ensures .1)
 
 pub plain-spec : {M : Type 1} → statement M
 plain-spec =

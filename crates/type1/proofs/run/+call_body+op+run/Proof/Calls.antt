@@ -49,7 +49,7 @@ use Rattle.charstring.specs.Cursor.{start}
 use Rattle.bank.specs.Bank.{Valid, bytesAt, found}
 use Rattle.outline.specs.Outline.{sameStems, pick}
 use Rattle.type1.specs.State.{State}
-use Rattle.type1.specs.Run.{within, refused, operate}
+use Rattle.type1.specs.Run.{within, limitsOf, refused, operate}
 use Rattle.type1.specs.Memory.{Mem, stemsAt, Bounds, Holds, Meets, operatorOf, withOps, withPs, withCells, withHints, withPath, after, Told}
 use Rattle.type1.specs.Small.{ranOf, Finite, Space}
 use Rattle.type1.specs.Reading.{cursorOf, Reads, Calls}
@@ -131,32 +131,32 @@ module _ {M : Type 1} (𝓤 : URA M) (H : Heap 𝓤) (A : Atoms 𝓤) (mem : Mem
   BelowRun C t = (y : RunC .Ghost) → ((y .0 .3 .1 .1 .1 .0) + (y .0 .3 .1 .1 .1 .0) + (y .0 .3 .1 .1 .1 .0) + 2) < t → ent 𝓤 (RunC .pre y) (C #type1·run·run (RunC .args y) (RunC .post y))
 
 module _ {M : Type 1} (𝓤 : URA M) (H : Heap 𝓤) (A : Atoms 𝓤) (mem : Memory → SProp 𝓤) (run′ : Routine → Fun 𝓤) (W : Given 𝓤 H A) (C : Table 𝓤 H) where
-  pub token-as : Triple 𝓤 (C #type1·bytes·token) (TokenC 𝓤 H A mem run′) → (κcode : Lft) (qcode : Share) (xcode : RefT (List ℕ)) (κops : Lft) (qops : Share) (bops oops : ℕ) (γops : GName) (ysops : List Float) (κcmds : Lft) (qcmds : Share) (mcmds bcmds ocmds : ℕ) (γcmds : GName) (yscmds : List ℕ) (i : ℕ) (key : ℕ) (enc : Bool) (st : St) → i < 2 ^ 64 → key < 2 ^ 16 → Is S.the-row st (machS st ∷ []) → (i < length (xcode .now)) × ((st .operands ≤ 256) × (14 * st .entries ≤ length yscmds))
+  pub token-as : Triple 𝓤 (C #type1·bytes·token) (TokenC 𝓤 H A mem run′) → (κcode : Lft) (qcode : Share) (xcode : RefT (List ℕ)) (κops : Lft) (qops : Share) (bops oops : ℕ) (γops : GName) (ysops : List Float) (κcmds : Lft) (qcmds : Share) (mcmds bcmds ocmds : ℕ) (γcmds : GName) (yscmds : List ℕ) (i : ℕ) (key : ℕ) (enc : Bool) (st : St) (rd : Reading) → i < 2 ^ 64 → key < 2 ^ 16 → Is S.the-row st (machS st ∷ []) → Is Y.the-row rd (machY rd ∷ []) → (i < length (xcode .now)) × ((st .operands ≤ 256) × (14 * st .entries ≤ length yscmds))
       → ent 𝓤 (mean 𝓤 H A ((‵ (flft κcode qcode) ⊛ ‵ (ShrSlice (named 0) κcode u8 .own xcode (sliceVal (xcode .ptr) (length (xcode .now)) ∷ []))) ⊛ ((‵ (flft κops qops) ⊛ ‵ (OwnR (Array f64 256) bops oops κops γops ysops)) ⊛ (‵ (flft κcmds qcmds)
-      ⊛ ‵ (Own u64 mcmds bcmds ocmds κcmds γcmds yscmds))))) (C #type1·bytes·token (sliceVal (xcode .ptr) (length (xcode .now)) ∷ vint w64 i ∷ vint w16 key ∷ vbool enc ∷ machS st ∷ vptr bops oops ∷ sliceVal (bcmds, ocmds) mcmds ∷ []) (λ w. mean 𝓤 H A (GotAll 𝓤 K.the-row (Unit {0} × (Unit {0} × (Unit {0} × (Unit {0} × (Unit {0} × (List Float × (List ℕ × Unit {0})))))))
-      (λ (r : K.the-row .Denot) (lasts : (Unit {0} × (Unit {0} × (Unit {0} × (Unit {0} × (Unit {0} × (List Float × (List ℕ × Unit {0})))))))). Reads (xcode .now) i key enc st ysops yscmds r (lasts .1 .1 .1 .1 .1 .0) (lasts .1 .1 .1 .1 .1 .1 .0))
-      (λ (lasts : (Unit {0} × (Unit {0} × (Unit {0} × (Unit {0} × (Unit {0} × (List Float × (List ℕ × Unit {0})))))))). (fsep ftrue (fsep ftrue (fsep ftrue (fsep ftrue (fsep ftrue (fsep (fres γops ((Array f64 256) .coded .code (lasts .1 .1 .1 .1 .1 .0))) (fsep (fsep (finally u64 γcmds (lasts .1 .1 .1 .1 .1 .1 .0)) (feq ℕ (length (lasts .1 .1 .1 .1 .1 .1 .0)) (length yscmds))) ftrue)))))))) (‵ (flft κcode qcode) ⊛ (‵ (flft κops qops) ⊛ (‵ (flft κcmds qcmds) ⊛ ‵ ftrue))) w)))
-  token-as known κcode qcode xcode κops qops bops oops γops ysops κcmds qcmds mcmds bcmds ocmds γcmds yscmds i key enc st i-fits key-fits st-fits need =
-      let y : TokenC 𝓤 H A mem run′ .Ghost = (((κcode, (κops, (κcmds, tt))), (qcode, (qops, (qcmds, tt))), tt, (xcode, (i, (key, (enc, (st, (at-one (Array f64 256) bops oops γops ysops, (at-list u64 mcmds bcmds ocmds γcmds yscmds, tt))))))), (sliceVal (xcode .ptr) (length (xcode .now)) ∷ [], (vint w64 i ∷ [], (vint w16 key ∷ [], (vbool enc ∷ [], (machS st ∷ [], (vptr bops oops ∷ [], (sliceVal (bcmds, ocmds) mcmds ∷ [], tt)))))))), tt) in
+      ⊛ ‵ (Own u64 mcmds bcmds ocmds κcmds γcmds yscmds))))) (C #type1·bytes·token (sliceVal (xcode .ptr) (length (xcode .now)) ∷ vint w64 i ∷ vint w16 key ∷ vbool enc ∷ machS st ∷ vptr bops oops ∷ sliceVal (bcmds, ocmds) mcmds ∷ machY rd ∷ []) (λ w. mean 𝓤 H A (GotAll 𝓤 K.the-row (Unit {0} × (Unit {0} × (Unit {0} × (Unit {0} × (Unit {0} × (List Float × (List ℕ × (Unit {0} × Unit {0}))))))))
+      (λ (r : K.the-row .Denot) (lasts : (Unit {0} × (Unit {0} × (Unit {0} × (Unit {0} × (Unit {0} × (List Float × (List ℕ × (Unit {0} × Unit {0}))))))))). Reads rd (xcode .now) i key enc st ysops yscmds r (lasts .1 .1 .1 .1 .1 .0) (lasts .1 .1 .1 .1 .1 .1 .0))
+      (λ (lasts : (Unit {0} × (Unit {0} × (Unit {0} × (Unit {0} × (Unit {0} × (List Float × (List ℕ × (Unit {0} × Unit {0}))))))))). (fsep ftrue (fsep ftrue (fsep ftrue (fsep ftrue (fsep ftrue (fsep (fres γops ((Array f64 256) .coded .code (lasts .1 .1 .1 .1 .1 .0))) (fsep (fsep (finally u64 γcmds (lasts .1 .1 .1 .1 .1 .1 .0)) (feq ℕ (length (lasts .1 .1 .1 .1 .1 .1 .0)) (length yscmds))) (fsep ftrue ftrue))))))))) (‵ (flft κcode qcode) ⊛ (‵ (flft κops qops) ⊛ (‵ (flft κcmds qcmds) ⊛ ‵ ftrue))) w)))
+  token-as known κcode qcode xcode κops qops bops oops γops ysops κcmds qcmds mcmds bcmds ocmds γcmds yscmds i key enc st rd i-fits key-fits st-fits rd-fits need =
+      let y : TokenC 𝓤 H A mem run′ .Ghost = (((κcode, (κops, (κcmds, tt))), (qcode, (qops, (qcmds, tt))), tt, (xcode, (i, (key, (enc, (st, (at-one (Array f64 256) bops oops γops ysops, (at-list u64 mcmds bcmds ocmds γcmds yscmds, (rd, tt)))))))), (sliceVal (xcode .ptr) (length (xcode .now)) ∷ [], (vint w64 i ∷ [], (vint w16 key ∷ [], (vbool enc ∷ [], (machS st ∷ [], (vptr bops oops ∷ [], (sliceVal (bcmds, ocmds) mcmds ∷ [], (machY rd ∷ [], tt))))))))), tt) in
       via 𝓤 (TokenC 𝓤 H A mem run′ .pre y) (qed W (((‵ (flft κcode qcode) ⊛ ‵ (ShrSlice (named 0) κcode u8 .own xcode (sliceVal (xcode .ptr) (length (xcode .now)) ∷ []))) ⊛ ((‵ (flft κops qops) ⊛ ‵ (OwnR (Array f64 256) bops oops κops γops ysops)) ⊛ (‵ (flft κcmds qcmds) ⊛ ‵ (Own u64 mcmds bcmds ocmds κcmds γcmds yscmds)))) ∷ []) ∵ says ! need $ split ! $ move ! (1 ∷ []) $ split ! $ move ! (2 ∷ []) $
-      split ! $ move ! (2 ∷ []) $ split ! $ move ! (4 ∷ []) $ split ! $ nothing ! $ move ! (2 ∷ 0 ∷ []) $ fjoin ! $ move ! (3 ∷ 0 ∷ []) $ fjoin ! $ owned ! S.the-row (Is S.the-row) (LL.makes S.the-type S′.the-plain 𝓤 H A) st _ st-fits $ fjoin ! $ owned ! bool (Is bool) (bool-makes 𝓤 H A W) enc _ refl $ fjoin ! $ owned ! u16 (Is u16) (uint-makes 𝓤 H A W w16) key _ (refl, key-fits) $ fjoin ! $
+      split ! $ move ! (2 ∷ []) $ split ! $ move ! (4 ∷ []) $ split ! $ nothing ! $ owned ! Y.the-row (Is Y.the-row) (LL.makes Y.the-type Y′.the-plain 𝓤 H A) rd _ rd-fits $ fjoin ! $ move ! (2 ∷ 0 ∷ []) $ fjoin ! $ move ! (3 ∷ 0 ∷ []) $ fjoin ! $ owned ! S.the-row (Is S.the-row) (LL.makes S.the-type S′.the-plain 𝓤 H A) st _ st-fits $ fjoin ! $ owned ! bool (Is bool) (bool-makes 𝓤 H A W) enc _ refl $ fjoin ! $ owned ! u16 (Is u16) (uint-makes 𝓤 H A W w16) key _ (refl, key-fits) $ fjoin ! $
       owned ! usize (Is usize) (uint-makes 𝓤 H A W w64) i _ (refl, i-fits) $ fjoin ! $ move ! (4 ∷ 0 ∷ []) $ fjoin ! $ nothing ! $ move ! (2 ∷ 0 ∷ []) $ join ! $ move ! (2 ∷ 0 ∷ []) $ join ! $ move ! (2 ∷ 0 ∷ []) $ join ! $ frame ! $ done !) (known y)
 
-  pub plain-as : Triple 𝓤 (C #type1·operators·plain) (PlainC 𝓤 H A mem run′) → (κops : Lft) (qops : Share) (bops oops : ℕ) (γops : GName) (ysops : List Float) (κps : Lft) (qps : Share) (bps ops : ℕ) (γps : GName) (ysps : List Float) (κcells : Lft) (qcells : Share) (bcells ocells : ℕ) (γcells : GName) (yscells : List Float) (κedges : Lft) (qedges : Share) (bedges oedges : ℕ) (γedges : GName) (ysedges : List Float) (κacross : Lft) (qacross : Share) (bacross oacross : ℕ) (γacross : GName) (ysacross : List Bool) (κcmds : Lft) (qcmds : Share) (mcmds bcmds ocmds : ℕ) (γcmds : GName) (yscmds : List ℕ) (o : ℕ) (same : Bool) (room : ℕ) (st : St) → o < 2 ^ 16 → room < 2 ^ 64 → Is S.the-row st (machS st ∷ []) → Bounds st (length yscmds) → st .stems ≤ room → Finite st ysops yscells
+  pub plain-as : Triple 𝓤 (C #type1·operators·plain) (PlainC 𝓤 H A mem run′) → (κops : Lft) (qops : Share) (bops oops : ℕ) (γops : GName) (ysops : List Float) (κps : Lft) (qps : Share) (bps ops : ℕ) (γps : GName) (ysps : List Float) (κcells : Lft) (qcells : Share) (bcells ocells : ℕ) (γcells : GName) (yscells : List Float) (κedges : Lft) (qedges : Share) (bedges oedges : ℕ) (γedges : GName) (ysedges : List Float) (κacross : Lft) (qacross : Share) (bacross oacross : ℕ) (γacross : GName) (ysacross : List Bool) (κcmds : Lft) (qcmds : Share) (mcmds bcmds ocmds : ℕ) (γcmds : GName) (yscmds : List ℕ) (o : ℕ) (same : Bool) (room : ℕ) (st : St) (rd : Reading) → o < 2 ^ 16 → room < 2 ^ 64 → Is S.the-row st (machS st ∷ []) → Is Y.the-row rd (machY rd ∷ []) → Bounds st (length yscmds) → st .stems ≤ room → Finite st ysops yscells
       → ent 𝓤 (mean 𝓤 H A ((‵ (flft κops qops) ⊛ ‵ (OwnR (Array f64 256) bops oops κops γops ysops)) ⊛ ((‵ (flft κps qps) ⊛ ‵ (OwnR (Array f64 256) bps ops κps γps ysps)) ⊛ ((‵ (flft κcells qcells) ⊛ ‵ (OwnR (Array f64 17) bcells ocells κcells γcells yscells)) ⊛ ((‵ (flft κedges qedges) ⊛ ‵ (OwnR (Array f64 512) bedges oedges κedges γedges ysedges)) ⊛ ((‵ (flft κacross qacross)
       ⊛ ‵ (OwnR (Array bool 256) bacross oacross κacross γacross ysacross)) ⊛ (‵ (flft κcmds qcmds)
-      ⊛ ‵ (Own u64 mcmds bcmds ocmds κcmds γcmds yscmds)))))))) (C #type1·operators·plain (vint w16 o ∷ vbool same ∷ vint w64 room ∷ machS st ∷ vptr bops oops ∷ vptr bps ops ∷ vptr bcells ocells ∷ vptr bedges oedges ∷ vptr bacross oacross ∷ sliceVal (bcmds, ocmds) mcmds ∷ [])
-      (λ w. mean 𝓤 H A (GotTwo 𝓤 N.the-row (Unit {0} × (Unit {0} × (Unit {0} × (Unit {0} × (List Float × (List Float × (List Float × (List Float × (List Bool × (List ℕ × Unit {0})))))))))) (λ (r : N.the-row .Denot) (lasts : (Unit {0} × (Unit {0} × (Unit {0} × (Unit {0} × (List Float × (List Float × (List Float × (List Float × (List Bool × (List ℕ × Unit {0}))))))))))). (m : Mem) (s : State)
+      ⊛ ‵ (Own u64 mcmds bcmds ocmds κcmds γcmds yscmds)))))))) (C #type1·operators·plain (vint w16 o ∷ vbool same ∷ vint w64 room ∷ machS st ∷ vptr bops oops ∷ vptr bps ops ∷ vptr bcells ocells ∷ vptr bedges oedges ∷ vptr bacross oacross ∷ sliceVal (bcmds, ocmds) mcmds ∷ machY rd ∷ [])
+      (λ w. mean 𝓤 H A (GotTwo 𝓤 N.the-row (Unit {0} × (Unit {0} × (Unit {0} × (Unit {0} × (List Float × (List Float × (List Float × (List Float × (List Bool × (List ℕ × (Unit {0} × Unit {0}))))))))))) (λ (r : N.the-row .Denot) (lasts : (Unit {0} × (Unit {0} × (Unit {0} × (Unit {0} × (List Float × (List Float × (List Float × (List Float × (List Bool × (List ℕ × (Unit {0} × Unit {0})))))))))))). (m : Mem) (s : State)
       → length (m .stems) ≡ room → Told same s → Holds st (withOps ysops (withPs ysps (withCells yscells (withPath ysedges ysacross yscmds m)))) s
-      → Meets r (withOps (lasts .1 .1 .1 .1 .0) (withPs (lasts .1 .1 .1 .1 .1 .0) (withCells (lasts .1 .1 .1 .1 .1 .1 .0) (after st r (lasts .1 .1 .1 .1 .1 .1 .1 .1 .1 .0) (withHints (lasts .1 .1 .1 .1 .1 .1 .1 .0) (lasts .1 .1 .1 .1 .1 .1 .1 .1 .0) m))))) (operate (within room (length yscmds)) (refused 6) (operatorOf o) s))
-      (λ (r : N.the-row .Denot) (lasts : (Unit {0} × (Unit {0} × (Unit {0} × (Unit {0} × (List Float × (List Float × (List Float × (List Float × (List Bool × (List ℕ × Unit {0}))))))))))). Space st (r .st) room)
-      (λ (lasts : (Unit {0} × (Unit {0} × (Unit {0} × (Unit {0} × (List Float × (List Float × (List Float × (List Float × (List Bool × (List ℕ × Unit {0}))))))))))). (fsep ftrue (fsep ftrue (fsep ftrue (fsep ftrue (fsep (fres γops ((Array f64 256) .coded .code (lasts .1 .1 .1 .1 .0))) (fsep (fres γps ((Array f64 256) .coded .code (lasts .1 .1 .1 .1 .1 .0))) (fsep (fres γcells ((Array f64 17) .coded .code (lasts .1 .1 .1 .1 .1 .1 .0))) (fsep (fres γedges ((Array f64 512) .coded .code (lasts .1 .1 .1 .1 .1 .1 .1 .0))) (fsep (fres γacross ((Array bool 256) .coded .code (lasts .1 .1 .1 .1 .1 .1 .1 .1 .0))) (fsep (fsep (finally u64 γcmds (lasts .1 .1 .1 .1 .1 .1 .1 .1 .1 .0)) (feq ℕ (length (lasts .1 .1 .1 .1 .1 .1 .1 .1 .1 .0)) (length yscmds))) ftrue))))))))))) (‵ (flft κops qops)
+      → Meets r (withOps (lasts .1 .1 .1 .1 .0) (withPs (lasts .1 .1 .1 .1 .1 .0) (withCells (lasts .1 .1 .1 .1 .1 .1 .0) (after st r (lasts .1 .1 .1 .1 .1 .1 .1 .1 .1 .0) (withHints (lasts .1 .1 .1 .1 .1 .1 .1 .0) (lasts .1 .1 .1 .1 .1 .1 .1 .1 .0) m))))) (operate (limitsOf rd (within room (length yscmds))) (refused 6) (operatorOf o) s))
+      (λ (r : N.the-row .Denot) (lasts : (Unit {0} × (Unit {0} × (Unit {0} × (Unit {0} × (List Float × (List Float × (List Float × (List Float × (List Bool × (List ℕ × (Unit {0} × Unit {0})))))))))))). Space st (r .st) room)
+      (λ (lasts : (Unit {0} × (Unit {0} × (Unit {0} × (Unit {0} × (List Float × (List Float × (List Float × (List Float × (List Bool × (List ℕ × (Unit {0} × Unit {0})))))))))))). (fsep ftrue (fsep ftrue (fsep ftrue (fsep ftrue (fsep (fres γops ((Array f64 256) .coded .code (lasts .1 .1 .1 .1 .0))) (fsep (fres γps ((Array f64 256) .coded .code (lasts .1 .1 .1 .1 .1 .0))) (fsep (fres γcells ((Array f64 17) .coded .code (lasts .1 .1 .1 .1 .1 .1 .0))) (fsep (fres γedges ((Array f64 512) .coded .code (lasts .1 .1 .1 .1 .1 .1 .1 .0))) (fsep (fres γacross ((Array bool 256) .coded .code (lasts .1 .1 .1 .1 .1 .1 .1 .1 .0))) (fsep (fsep (finally u64 γcmds (lasts .1 .1 .1 .1 .1 .1 .1 .1 .1 .0)) (feq ℕ (length (lasts .1 .1 .1 .1 .1 .1 .1 .1 .1 .0)) (length yscmds))) (fsep ftrue ftrue)))))))))))) (‵ (flft κops qops)
       ⊛ (‵ (flft κps qps) ⊛ (‵ (flft κcells qcells) ⊛ (‵ (flft κedges qedges) ⊛ (‵ (flft κacross qacross) ⊛ (‵ (flft κcmds qcmds) ⊛ ‵ ftrue)))))) w)))
-  plain-as known κops qops bops oops γops ysops κps qps bps ops γps ysps κcells qcells bcells ocells γcells yscells κedges qedges bedges oedges γedges ysedges κacross qacross bacross oacross γacross ysacross κcmds qcmds mcmds bcmds ocmds γcmds yscmds o same room st o-fits room-fits st-fits need₁ need₂ need₃ =
-      let y : PlainC 𝓤 H A mem run′ .Ghost = (((κops, (κps, (κcells, (κedges, (κacross, (κcmds, tt)))))), (qops, (qps, (qcells, (qedges, (qacross, (qcmds, tt)))))), tt, (o, (same, (room, (st, (at-one (Array f64 256) bops oops γops ysops, (at-one (Array f64 256) bps ops γps ysps, (at-one (Array f64 17) bcells ocells γcells yscells, (at-one (Array f64 512) bedges oedges γedges ysedges, (at-one (Array bool 256) bacross oacross γacross ysacross, (at-list u64 mcmds bcmds ocmds γcmds yscmds, tt)))))))))), (vint w16 o ∷ [], (vbool same ∷ [], (vint w64 room ∷ [], (machS st ∷ [], (vptr bops oops ∷ [], (vptr bps ops ∷ [], (vptr bcells ocells ∷ [], (vptr bedges oedges ∷ [], (vptr bacross oacross ∷ [], (sliceVal (bcmds, ocmds) mcmds ∷ [], tt))))))))))), tt) in
+  plain-as known κops qops bops oops γops ysops κps qps bps ops γps ysps κcells qcells bcells ocells γcells yscells κedges qedges bedges oedges γedges ysedges κacross qacross bacross oacross γacross ysacross κcmds qcmds mcmds bcmds ocmds γcmds yscmds o same room st rd o-fits room-fits st-fits rd-fits need₁ need₂ need₃ =
+      let y : PlainC 𝓤 H A mem run′ .Ghost = (((κops, (κps, (κcells, (κedges, (κacross, (κcmds, tt)))))), (qops, (qps, (qcells, (qedges, (qacross, (qcmds, tt)))))), tt, (o, (same, (room, (st, (at-one (Array f64 256) bops oops γops ysops, (at-one (Array f64 256) bps ops γps ysps, (at-one (Array f64 17) bcells ocells γcells yscells, (at-one (Array f64 512) bedges oedges γedges ysedges, (at-one (Array bool 256) bacross oacross γacross ysacross, (at-list u64 mcmds bcmds ocmds γcmds yscmds, (rd, tt))))))))))), (vint w16 o ∷ [], (vbool same ∷ [], (vint w64 room ∷ [], (machS st ∷ [], (vptr bops oops ∷ [], (vptr bps ops ∷ [], (vptr bcells ocells ∷ [], (vptr bedges oedges ∷ [], (vptr bacross oacross ∷ [], (sliceVal (bcmds, ocmds) mcmds ∷ [], (machY rd ∷ [], tt)))))))))))), tt) in
       via 𝓤 (PlainC 𝓤 H A mem run′ .pre y) (qed W (((‵ (flft κops qops) ⊛ ‵ (OwnR (Array f64 256) bops oops κops γops ysops)) ⊛ ((‵ (flft κps qps) ⊛ ‵ (OwnR (Array f64 256) bps ops κps γps ysps)) ⊛ ((‵ (flft κcells qcells) ⊛ ‵ (OwnR (Array f64 17) bcells ocells κcells γcells yscells)) ⊛ ((‵ (flft κedges qedges) ⊛ ‵ (OwnR (Array f64 512) bedges oedges κedges γedges ysedges)) ⊛ ((‵ (flft κacross qacross)
       ⊛ ‵ (OwnR (Array bool 256) bacross oacross κacross γacross ysacross)) ⊛ (‵ (flft κcmds qcmds) ⊛ ‵ (Own u64 mcmds bcmds ocmds κcmds γcmds yscmds))))))) ∷ []) ∵ says-three ! need₁ need₂ need₃ $ split ! $ move ! (1 ∷ []) $ split ! $ move ! (1 ∷ []) $ split ! $ move ! (1 ∷ []) $ split ! $ move ! (1 ∷ []) $ split ! $ move ! (5 ∷ []) $ split ! $ move ! (6 ∷ []) $ split ! $ move ! (7 ∷ []) $ split ! $
-      move ! (8 ∷ []) $ split ! $ move ! (8 ∷ []) $ split ! $ move ! (10 ∷ []) $ split ! $ nothing ! $ move ! (2 ∷ 0 ∷ []) $ fjoin ! $ move ! (3 ∷ 0 ∷ []) $ fjoin ! $ move ! (4 ∷ 0 ∷ []) $ fjoin ! $ move ! (5 ∷ 0 ∷ []) $ fjoin ! $ move ! (6 ∷ 0 ∷ []) $ fjoin ! $ move ! (7 ∷ 0 ∷ []) $ fjoin ! $ owned ! S.the-row (Is S.the-row) (LL.makes S.the-type S′.the-plain 𝓤 H A) st _ st-fits $ fjoin ! $
+      move ! (8 ∷ []) $ split ! $ move ! (8 ∷ []) $ split ! $ move ! (10 ∷ []) $ split ! $ nothing ! $ owned ! Y.the-row (Is Y.the-row) (LL.makes Y.the-type Y′.the-plain 𝓤 H A) rd _ rd-fits $ fjoin ! $ move ! (2 ∷ 0 ∷ []) $ fjoin ! $ move ! (3 ∷ 0 ∷ []) $ fjoin ! $ move ! (4 ∷ 0 ∷ []) $ fjoin ! $ move ! (5 ∷ 0 ∷ []) $ fjoin ! $ move ! (6 ∷ 0 ∷ []) $ fjoin ! $ move ! (7 ∷ 0 ∷ []) $ fjoin ! $ owned ! S.the-row (Is S.the-row) (LL.makes S.the-type S′.the-plain 𝓤 H A) st _ st-fits $ fjoin ! $
       owned ! usize (Is usize) (uint-makes 𝓤 H A W w64) room _ (refl, room-fits) $ fjoin ! $ owned ! bool (Is bool) (bool-makes 𝓤 H A W) same _ refl $ fjoin ! $ owned ! u16 (Is u16) (uint-makes 𝓤 H A W w16) o _ (refl, o-fits) $ fjoin ! $ nothing ! $ move ! (2 ∷ 0 ∷ []) $ join ! $ move ! (2 ∷ 0 ∷ []) $ join ! $ move ! (2 ∷ 0 ∷ []) $ join ! $ move ! (2 ∷ 0 ∷ []) $ join ! $ move ! (2 ∷ 0 ∷ []) $ join ! $ move ! (2 ∷ 0 ∷ []) $ join ! $ frame ! $ done !) (known y)
 
   pub callsubr-as : Triple 𝓤 (C #type1·subroutines·callsubr) (CallsubrC 𝓤 H A mem run′) → (κbank : Lft) (qbank : Share) (xbank : RefT (List ℕ)) (κops : Lft) (qops : Share) (xops : RefT (List Float)) (st : St) → Is S.the-row st (machS st ∷ []) → Valid (xbank .now) × ((st .operands ≤ 256) × (st .ran ≤ maxCharstringBytes))

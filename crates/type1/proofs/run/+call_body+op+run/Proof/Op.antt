@@ -60,7 +60,7 @@ use Rattle.type1.proofs.Locals.{word, half, tB, tF, tA, sF, sA, tU, tS,
 use Rattle.bank.specs.Bank.{Valid}
 use Rattle.outline.specs.Outline.{sameStems}
 use Rattle.type1.specs.State.{State}
-use Rattle.type1.specs.Run.{within, refused, operate}
+use Rattle.type1.specs.Run.{within, limitsOf, refused, operate}
 use Rattle.type1.specs.Memory.{Mem, stemsAt, Holds, Meets, operatorOf, withOps, withPs, withCells, withHints, withPath, after, Told, kept}
 use Rattle.type1.specs.Small.{Space}
 use Rattle.type1.specs.Cycle.{memOf, Ready, opD, MeetsFrom}
@@ -198,18 +198,18 @@ module _ {M : Type 1} (𝓤 : URA M) (H : Heap 𝓤) (A : Atoms 𝓤) (W : Given
         -- `plain`
         move ! (8 ∷ 9 ∷ []) $ lend-ref ! tt (Array f64 256) bops oops ysops (λ νops3 δops3. move ! (10 ∷ 11 ∷ []) $ lend-ref ! tt (Array f64 256) bps ops ysps (λ νps3 δps3. move ! (12 ∷ 13 ∷ []) $ lend-ref ! tt (Array f64 17) bcells ocells yscells (λ νcells3 δcells3. move ! (10 ∷ 11 ∷ []) $ lend-ref ! tt (Array f64 512) bedges oedges ysedges (λ νedges3 δedges3. move ! (10 ∷ 11 ∷ []) $
         lend-ref ! tt (Array bool 256) bacross oacross ysacross (λ νacross3 δacross3. move ! (14 ∷ 15 ∷ []) $ lend ! tt u64 mcmds bcmds ocmds yscmds (refl) (λ νcmds3 δcmds3. move ! (2 ∷ 0 ∷ []) $ join ! $ move ! (3 ∷ 0 ∷ []) $ join ! $ move ! (4 ∷ 0 ∷ []) $ join ! $ move ! (5 ∷ 0 ∷ []) $ join ! $ move ! (6 ∷ 0 ∷ []) $ join ! $
-        asks-two ! fm N.the-row (Is N.the-row) (shows 𝓤 H A N.the-row) (Unit {0} × (Unit {0} × (Unit {0} × (Unit {0} × (List Float × (List Float × (List Float × (List Float × (List Bool × (List ℕ × Unit {0}))))))))))
-        (λ (r : N.the-row .Denot) (lasts : (Unit {0} × (Unit {0} × (Unit {0} × (Unit {0} × (List Float × (List Float × (List Float × (List Float × (List Bool × (List ℕ × Unit {0}))))))))))). (m : Mem) (s : State) → length (m .stems) ≡ r1 → Told r2 s → Holds st (withOps ysops (withPs ysps (withCells yscells (withPath ysedges ysacross yscmds m)))) s
-        → Meets r (withOps (lasts .1 .1 .1 .1 .0) (withPs (lasts .1 .1 .1 .1 .1 .0) (withCells (lasts .1 .1 .1 .1 .1 .1 .0) (after st r (lasts .1 .1 .1 .1 .1 .1 .1 .1 .1 .0) (withHints (lasts .1 .1 .1 .1 .1 .1 .1 .0) (lasts .1 .1 .1 .1 .1 .1 .1 .1 .0) m))))) (operate (within r1 (length yscmds)) (refused 6) (operatorOf o) s))
-        (λ (r : N.the-row .Denot) (lasts : (Unit {0} × (Unit {0} × (Unit {0} × (Unit {0} × (List Float × (List Float × (List Float × (List Float × (List Bool × (List ℕ × Unit {0}))))))))))). Space st (r .st) r1)
-        (λ (lasts : (Unit {0} × (Unit {0} × (Unit {0} × (Unit {0} × (List Float × (List Float × (List Float × (List Float × (List Bool × (List ℕ × Unit {0}))))))))))). (fsep ftrue (fsep ftrue (fsep ftrue (fsep ftrue (fsep (fres δops3 ((Array f64 256) .coded .code (lasts .1 .1 .1 .1 .0))) (fsep (fres δps3 ((Array f64 256) .coded .code (lasts .1 .1 .1 .1 .1 .0))) (fsep (fres δcells3 ((Array f64 17) .coded .code (lasts .1 .1 .1 .1 .1 .1 .0))) (fsep (fres δedges3 ((Array f64 512) .coded .code (lasts .1 .1 .1 .1 .1 .1 .1 .0))) (fsep (fres δacross3 ((Array bool 256) .coded .code (lasts .1 .1 .1 .1 .1 .1 .1 .1 .0))) (fsep (fsep (finally u64 δcmds3 (lasts .1 .1 .1 .1 .1 .1 .1 .1 .1 .0)) (feq ℕ (length (lasts .1 .1 .1 .1 .1 .1 .1 .1 .1 .0)) (length yscmds))) ftrue))))))))))) (‵ (flft (νops3 ∷
+        asks-two ! fm N.the-row (Is N.the-row) (shows 𝓤 H A N.the-row) (Unit {0} × (Unit {0} × (Unit {0} × (Unit {0} × (List Float × (List Float × (List Float × (List Float × (List Bool × (List ℕ × (Unit {0} × Unit {0})))))))))))
+        (λ (r : N.the-row .Denot) (lasts : (Unit {0} × (Unit {0} × (Unit {0} × (Unit {0} × (List Float × (List Float × (List Float × (List Float × (List Bool × (List ℕ × (Unit {0} × Unit {0})))))))))))). (m : Mem) (s : State) → length (m .stems) ≡ r1 → Told r2 s → Holds st (withOps ysops (withPs ysps (withCells yscells (withPath ysedges ysacross yscmds m)))) s
+        → Meets r (withOps (lasts .1 .1 .1 .1 .0) (withPs (lasts .1 .1 .1 .1 .1 .0) (withCells (lasts .1 .1 .1 .1 .1 .1 .0) (after st r (lasts .1 .1 .1 .1 .1 .1 .1 .1 .1 .0) (withHints (lasts .1 .1 .1 .1 .1 .1 .1 .0) (lasts .1 .1 .1 .1 .1 .1 .1 .1 .0) m))))) (operate (limitsOf rd (within r1 (length yscmds))) (refused 6) (operatorOf o) s))
+        (λ (r : N.the-row .Denot) (lasts : (Unit {0} × (Unit {0} × (Unit {0} × (Unit {0} × (List Float × (List Float × (List Float × (List Float × (List Bool × (List ℕ × (Unit {0} × Unit {0})))))))))))). Space st (r .st) r1)
+        (λ (lasts : (Unit {0} × (Unit {0} × (Unit {0} × (Unit {0} × (List Float × (List Float × (List Float × (List Float × (List Bool × (List ℕ × (Unit {0} × Unit {0})))))))))))). (fsep ftrue (fsep ftrue (fsep ftrue (fsep ftrue (fsep (fres δops3 ((Array f64 256) .coded .code (lasts .1 .1 .1 .1 .0))) (fsep (fres δps3 ((Array f64 256) .coded .code (lasts .1 .1 .1 .1 .1 .0))) (fsep (fres δcells3 ((Array f64 17) .coded .code (lasts .1 .1 .1 .1 .1 .1 .0))) (fsep (fres δedges3 ((Array f64 512) .coded .code (lasts .1 .1 .1 .1 .1 .1 .1 .0))) (fsep (fres δacross3 ((Array bool 256) .coded .code (lasts .1 .1 .1 .1 .1 .1 .1 .1 .0))) (fsep (fsep (finally u64 δcmds3 (lasts .1 .1 .1 .1 .1 .1 .1 .1 .1 .0)) (feq ℕ (length (lasts .1 .1 .1 .1 .1 .1 .1 .1 .1 .0)) (length yscmds))) (fsep ftrue ftrue)))))))))))) (‵ (flft (νops3 ∷
         []) fullShare) ⊛ (‵ (flft (νps3 ∷ []) fullShare) ⊛ (‵ (flft (νcells3 ∷ []) fullShare) ⊛ (‵ (flft (νedges3 ∷ []) fullShare) ⊛ (‵ (flft (νacross3 ∷ []) fullShare) ⊛ (‵ (flft (νcmds3 ∷ []) fullShare) ⊛ ‵ ftrue)))))) ((‵ (flft (νops3 ∷ []) fullShare) ⊛ ‵ (OwnR (Array f64 256) bops oops (νops3 ∷ []) δops3 ysops)) ⊛ ((‵ (flft (νps3 ∷ []) fullShare)
         ⊛ ‵ (OwnR (Array f64 256) bps ops (νps3 ∷ []) δps3 ysps)) ⊛ ((‵ (flft (νcells3 ∷ []) fullShare) ⊛ ‵ (OwnR (Array f64 17) bcells ocells (νcells3 ∷ []) δcells3 yscells)) ⊛ ((‵ (flft (νedges3 ∷ []) fullShare) ⊛ ‵ (OwnR (Array f64 512) bedges oedges (νedges3 ∷ []) δedges3 ysedges)) ⊛ ((‵ (flft (νacross3 ∷ []) fullShare) ⊛ ‵ (OwnR (Array bool 256) bacross oacross (νacross3 ∷ []) δacross3 ysacross))
-        ⊛ (‵ (flft (νcmds3 ∷ []) fullShare) ⊛ ‵ (Own u64 mcmds bcmds ocmds (νcmds3 ∷ []) δcmds3 yscmds))))))) (vint w16 o ∷ vbool r2 ∷ vint w64 r1 ∷ machS st ∷ vptr bops oops ∷ vptr bps ops ∷ vptr bcells ocells ∷ vptr bedges oedges ∷ vptr bacross oacross ∷ sliceVal (bcmds, ocmds) mcmds ∷ []) (plain-as 𝓤 H A mem run′ W C known-plain (νops3 ∷ []) fullShare bops oops δops3 ysops (νps3 ∷
+        ⊛ (‵ (flft (νcmds3 ∷ []) fullShare) ⊛ ‵ (Own u64 mcmds bcmds ocmds (νcmds3 ∷ []) δcmds3 yscmds))))))) (vint w16 o ∷ vbool r2 ∷ vint w64 r1 ∷ machS st ∷ vptr bops oops ∷ vptr bps ops ∷ vptr bcells ocells ∷ vptr bedges oedges ∷ vptr bacross oacross ∷ sliceVal (bcmds, ocmds) mcmds ∷ machY rd ∷ []) (plain-as 𝓤 H A mem run′ W C known-plain (νops3 ∷ []) fullShare bops oops δops3 ysops (νps3 ∷
         []) fullShare bps ops δps3 ysps (νcells3 ∷ []) fullShare bcells ocells δcells3 yscells (νedges3 ∷ []) fullShare bedges oedges δedges3 ysedges (νacross3 ∷ []) fullShare bacross oacross δacross3 ysacross (νcmds3 ∷
-        []) fullShare mcmds bcmds ocmds δcmds3 yscmds (o) (r2) (r1) (st) (o-fits) (is1 .1) (st-fits) (need .1 .1 .fit .bounds) (subst (λ (k : ℕ). st .stems ≤ k) (sym (e1 .0)) (need .1 .1 .fit .stems)) (finite-of st (memOf ysops ysps yscells ysedges ysacross yscmds ysstems) (need .1 .1))) (and-then ! (load ! (from ! (stop !)) (look ! 101 refl)) (and-then ! (load ! (from ! (stop !)) (look ! 75 refl))
+        []) fullShare mcmds bcmds ocmds δcmds3 yscmds (o) (r2) (r1) (st) (rd) (o-fits) (is1 .1) (st-fits) (rd-fits) (need .1 .1 .fit .bounds) (subst (λ (k : ℕ). st .stems ≤ k) (sym (e1 .0)) (need .1 .1 .fit .stems)) (finite-of st (memOf ysops ysps yscells ysedges ysacross yscmds ysstems) (need .1 .1))) (and-then ! (load ! (from ! (stop !)) (look ! 101 refl)) (and-then ! (load ! (from ! (stop !)) (look ! 75 refl))
         (and-then ! (load ! (from ! (stop !)) (look ! 77 refl)) (and-then ! (load ! (from ! (stop !)) (look ! 93 refl)) (and-then ! (load ! (from ! (stop !)) (look ! 33 refl)) (and-then ! (load ! (from ! (stop !)) (look ! 31 refl)) (and-then ! (load ! (from ! (stop !)) (look ! 29 refl)) (and-then ! (load ! (from ! (stop !)) (look ! 27 refl)) (and-then ! (load ! (from ! (stop !)) (look ! 25 refl))
-        (and-then ! (load ! (from ! (stop !)) (look ! 21 refl)) (no-more !))))))))))) (λ w3 r3 zs3 e3 is3. land ! (from ! (stop !)) (init ! 75 refl (typedN 𝓤 H A W r3 _ is3)) $ rewrite ! 75 (λ (u : Val). ‵ (fat fullShare tNt l₁₅ 0 u)) (ap only (LL.tells N.the-type N′.the-laws r3 (w3 ∷ []) is3)) refl $ put-away ! $ split ! $ move ! (1 ∷ []) $ split ! $ move ! (1 ∷ []) $ split ! $ move ! (1 ∷ []) $
+        (and-then ! (load ! (from ! (stop !)) (look ! 21 refl)) (and-then ! (load ! (from ! (stop !)) (look ! 97 refl)) (no-more !)))))))))))) (λ w3 r3 zs3 e3 is3. land ! (from ! (stop !)) (init ! 75 refl (typedN 𝓤 H A W r3 _ is3)) $ rewrite ! 75 (λ (u : Val). ‵ (fat fullShare tNt l₁₅ 0 u)) (ap only (LL.tells N.the-type N′.the-laws r3 (w3 ∷ []) is3)) refl $ put-away ! $ split ! $ move ! (1 ∷ []) $ split ! $ move ! (1 ∷ []) $ split ! $ move ! (1 ∷ []) $
         split ! $ move ! (1 ∷ []) $ split ! $ move ! (1 ∷ []) $ split ! $ move ! (1 ∷ []) $ put-away ! $ move ! (6 ∷ []) $ fsplit ! $ put-away ! $ fsplit ! $ put-away ! $ fsplit ! $ put-away ! $ fsplit ! $ put-away ! $ fsplit ! $ move ! (1 ∷ []) $ fsplit ! $ move ! (1 ∷ []) $ fsplit ! $ move ! (1 ∷ []) $ fsplit ! $ move ! (1 ∷ []) $ fsplit ! $ move ! (1 ∷ []) $ fsplit ! $ fsplit ! $ move ! (1 ∷ []) $ feqL ! (λ lcmds3. move ! (1 ∷ []) $ put-away ! $
         move ! (11 ∷ 17 ∷ 5 ∷ []) $ returned-ref ! tt (Array f64 256) bops oops νops3 δops3 ysops (zs3 .1 .1 .1 .1 .0) (move ! (11 ∷ 16 ∷ 6 ∷ []) $ returned-ref ! tt (Array f64 256) bps ops νps3 δps3 ysps (zs3 .1 .1 .1 .1 .1 .0) (move ! (11 ∷ 15 ∷ 7 ∷ []) $ returned-ref ! tt (Array f64 17) bcells ocells νcells3 δcells3 yscells (zs3 .1 .1 .1 .1 .1 .1 .0) (move ! (11 ∷ 14 ∷ 8 ∷ []) $ returned-ref ! tt (Array f64 512) bedges oedges νedges3 δedges3 ysedges (zs3 .1 .1 .1 .1 .1 .1 .1 .0) (move ! (11 ∷ 13 ∷ 9 ∷ []) $ returned-ref ! tt (Array bool 256) bacross oacross νacross3 δacross3 ysacross (zs3 .1 .1 .1 .1 .1 .1 .1 .1 .0) (move ! (11 ∷ 12 ∷ 10 ∷ []) $ returned ! tt u64 mcmds bcmds ocmds νcmds3 δcmds3 yscmds (zs3 .1 .1 .1 .1 .1 .1 .1 .1 .1 .0) (refl) lcmds3 fitcmds (
         assigns ! (of-opd ! (load ! (from ! (fld ! refl (stop !))) (look-in ! 78 (sub ! 0 refl (whole !))))) (from ! (stop !)) (init ! 76 refl (typedS 𝓤 H A W (r3 .st) _ ((LL.owed N.the-type N′.the-laws r3 (w3 ∷ []) is3) .0))) $

@@ -204,12 +204,12 @@ module _ {M : Type 1} (𝓤 : URA M) (H : Heap 𝓤) (A : Atoms 𝓤) (W : Given
         -- `token`
         use1 W (‵ (ShrSlice (named 0) κcode u8 .own xcode (sliceVal (xcode .ptr) (length (xcode .now)) ∷ [])) ⊛ ‵ (ShrSlice (named 0) κcode u8 .own xcode (sliceVal (xcode .ptr) (length (xcode .now)) ∷ []))) (shr-slice-copy 𝓤 H A W (named 0) κcode u8 .twice xcode (sliceVal (xcode .ptr) (length (xcode .now)) ∷ [])) $ split ! $ move ! (2 ∷ 1 ∷ []) $ join ! $ move ! (4 ∷ 5 ∷ []) $
         lend-ref ! tt (Array f64 256) bops oops os (λ νops1 δops1. move ! (14 ∷ 15 ∷ []) $ lend ! tt u64 mcmds bcmds ocmds ms (held .1 .1 .1 .0) (λ νcmds1 δcmds1. move ! (2 ∷ 0 ∷ []) $ join ! $ move ! (3 ∷ 0 ∷ []) $ join ! $
-        asks-all ! fm K.the-row (Is K.the-row) (shows 𝓤 H A K.the-row) (Unit {0} × (Unit {0} × (Unit {0} × (Unit {0} × (Unit {0} × (List Float × (List ℕ × Unit {0}))))))) (λ (r : K.the-row .Denot) (lasts : (Unit {0} × (Unit {0} × (Unit {0} × (Unit {0} × (Unit {0} × (List Float × (List ℕ × Unit {0})))))))). Reads (xcode .now) i key enc h os ms r (lasts .1 .1 .1 .1 .1 .0) (lasts .1 .1 .1 .1 .1 .1 .0))
-        (λ (lasts : (Unit {0} × (Unit {0} × (Unit {0} × (Unit {0} × (Unit {0} × (List Float × (List ℕ × Unit {0})))))))). (fsep ftrue (fsep ftrue (fsep ftrue (fsep ftrue (fsep ftrue (fsep (fres δops1 ((Array f64 256) .coded .code (lasts .1 .1 .1 .1 .1 .0))) (fsep (fsep (finally u64 δcmds1 (lasts .1 .1 .1 .1 .1 .1 .0)) (feq ℕ (length (lasts .1 .1 .1 .1 .1 .1 .0)) (length ms))) ftrue)))))))) (‵ (flft κcode qcode)
+        asks-all ! fm K.the-row (Is K.the-row) (shows 𝓤 H A K.the-row) (Unit {0} × (Unit {0} × (Unit {0} × (Unit {0} × (Unit {0} × (List Float × (List ℕ × (Unit {0} × Unit {0})))))))) (λ (r : K.the-row .Denot) (lasts : (Unit {0} × (Unit {0} × (Unit {0} × (Unit {0} × (Unit {0} × (List Float × (List ℕ × (Unit {0} × Unit {0}))))))))). Reads rd (xcode .now) i key enc h os ms r (lasts .1 .1 .1 .1 .1 .0) (lasts .1 .1 .1 .1 .1 .1 .0))
+        (λ (lasts : (Unit {0} × (Unit {0} × (Unit {0} × (Unit {0} × (Unit {0} × (List Float × (List ℕ × (Unit {0} × Unit {0}))))))))). (fsep ftrue (fsep ftrue (fsep ftrue (fsep ftrue (fsep ftrue (fsep (fres δops1 ((Array f64 256) .coded .code (lasts .1 .1 .1 .1 .1 .0))) (fsep (fsep (finally u64 δcmds1 (lasts .1 .1 .1 .1 .1 .1 .0)) (feq ℕ (length (lasts .1 .1 .1 .1 .1 .1 .0)) (length ms))) (fsep ftrue ftrue))))))))) (‵ (flft κcode qcode)
         ⊛ (‵ (flft (νops1 ∷ []) fullShare) ⊛ (‵ (flft (νcmds1 ∷ []) fullShare) ⊛ ‵ ftrue))) ((‵ (flft κcode qcode) ⊛ ‵ (ShrSlice (named 0) κcode u8 .own xcode (sliceVal (xcode .ptr) (length (xcode .now)) ∷ []))) ⊛ ((‵ (flft (νops1 ∷ []) fullShare) ⊛ ‵ (OwnR (Array f64 256) bops oops (νops1 ∷ []) δops1 os)) ⊛ (‵ (flft (νcmds1 ∷ []) fullShare)
-        ⊛ ‵ (Own u64 mcmds bcmds ocmds (νcmds1 ∷ []) δcmds1 ms)))) (sliceVal (xcode .ptr) (length (xcode .now)) ∷ vint w64 i ∷ vint w16 key ∷ vbool enc ∷ machS h ∷ vptr bops oops ∷ sliceVal (bcmds, ocmds) mcmds ∷ []) (token-as 𝓤 H A mem run′ W C known-token κcode qcode xcode (νops1 ∷ []) fullShare bops oops δops1 os (νcmds1 ∷
-        []) fullShare mcmds bcmds ocmds δcmds1 ms (i) (key) (enc) (h) (held .0) (held .1 .0) (held .1 .1 .0) (small, ((held .1 .1 .1 .1 .1 .1) .ready .fit .bounds .operands, (held .1 .1 .1 .1 .1 .1) .ready .fit .bounds .entries))) (and-then ! (load ! (from ! (stop !)) (look ! 84 refl)) (and-then ! (load ! (from ! (stop !)) (look ! 56 refl)) (and-then ! (load ! (from ! (stop !)) (look ! 54 refl))
-        (and-then ! (load ! (from ! (stop !)) (look ! 58 refl)) (and-then ! (load ! (from ! (stop !)) (look ! 52 refl)) (and-then ! (load ! (from ! (stop !)) (look ! 38 refl)) (and-then ! (load ! (from ! (stop !)) (look ! 34 refl)) (no-more !)))))))) (λ w1 r1 zs1 e1 is1. land ! (from ! (stop !)) (init ! 52 refl (typedK 𝓤 H A W r1 _ is1)) $
+        ⊛ ‵ (Own u64 mcmds bcmds ocmds (νcmds1 ∷ []) δcmds1 ms)))) (sliceVal (xcode .ptr) (length (xcode .now)) ∷ vint w64 i ∷ vint w16 key ∷ vbool enc ∷ machS h ∷ vptr bops oops ∷ sliceVal (bcmds, ocmds) mcmds ∷ machY rd ∷ []) (token-as 𝓤 H A mem run′ W C known-token κcode qcode xcode (νops1 ∷ []) fullShare bops oops δops1 os (νcmds1 ∷
+        []) fullShare mcmds bcmds ocmds δcmds1 ms (i) (key) (enc) (h) (rd) (held .0) (held .1 .0) (held .1 .1 .0) (rd-fits) (small, ((held .1 .1 .1 .1 .1 .1) .ready .fit .bounds .operands, (held .1 .1 .1 .1 .1 .1) .ready .fit .bounds .entries))) (and-then ! (load ! (from ! (stop !)) (look ! 84 refl)) (and-then ! (load ! (from ! (stop !)) (look ! 56 refl)) (and-then ! (load ! (from ! (stop !)) (look ! 54 refl))
+        (and-then ! (load ! (from ! (stop !)) (look ! 58 refl)) (and-then ! (load ! (from ! (stop !)) (look ! 52 refl)) (and-then ! (load ! (from ! (stop !)) (look ! 38 refl)) (and-then ! (load ! (from ! (stop !)) (look ! 34 refl)) (and-then ! (load ! (from ! (stop !)) (look ! 80 refl)) (no-more !))))))))) (λ w1 r1 zs1 e1 is1. land ! (from ! (stop !)) (init ! 52 refl (typedK 𝓤 H A W r1 _ is1)) $
         rewrite ! 52 (λ (u : Val). ‵ (fat fullShare tKt l₁₈ 0 u)) (ap only (LL.tells K.the-type K′.the-laws r1 (w1 ∷ []) is1)) refl $ drop ! $ split ! $ move ! (1 ∷ []) $ split ! $ move ! (1 ∷ []) $ split ! $ move ! (1 ∷ []) $ drop ! $ move ! (3 ∷ []) $ fsplit ! $ drop ! $ fsplit ! $ drop ! $ fsplit ! $ drop ! $ fsplit ! $ drop ! $ fsplit ! $ drop ! $ fsplit ! $ move ! (1 ∷ []) $ fsplit ! $ fsplit ! $ move ! (1 ∷ []) $ feqL ! (λ lcmds1. move ! (1 ∷ []) $ drop ! $
         move ! (3 ∷ 6 ∷ 1 ∷ []) $ returned-ref ! tt (Array f64 256) bops oops νops1 δops1 os (zs1 .1 .1 .1 .1 .1 .0) (move ! (3 ∷ 5 ∷ 2 ∷ []) $ returned ! tt u64 mcmds bcmds ocmds νcmds1 δcmds1 ms (zs1 .1 .1 .1 .1 .1 .1 .0) (held .1 .1 .1 .0) lcmds1 fitcmds (
         assigns ! (of-opd ! (load ! (from ! (fld ! refl (stop !))) (look-in ! 52 (sub ! 0 refl (whole !))))) (from ! (stop !)) (store ! 54 refl (typedS 𝓤 H A W (r1 .st) _ ((LL.owed K.the-type K′.the-laws r1 (w1 ∷ []) is1) .0))) $
