@@ -82,5 +82,15 @@ int main(void) {
     number = cribstork_convert(bad, sizeof bad, bank, sizeof bank, CRIBSTORK_NOT_ENCRYPTED, 0, identity,
         stems, STEMS, commands, WORDS, program, sizeof program, answer);
     printf("1 0 div: refused with %llu\n", (unsigned long long)number);
+
+    /* 25 operands, as the board reads them and strictly. */
+    static uint8_t deep[25];
+    static const uint64_t readings[2] = {0, CRIBSTORK_STRICT};
+    memset(deep, 0x8B, sizeof deep);
+    for (int i = 0; i < 2; i++) {
+        number = cribstork_convert(deep, sizeof deep, bank, sizeof bank, CRIBSTORK_NOT_ENCRYPTED, readings[i], identity,
+            stems, STEMS, commands, WORDS, program, sizeof program, answer);
+        printf("25 operands%s: %llu\n", i == 0 ? "" : ", strict", (unsigned long long)number);
+    }
     return 0;
 }
