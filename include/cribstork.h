@@ -77,6 +77,15 @@ extern "C" {
 /* This lenIV means that nothing is encrypted. */
 #define CRIBSTORK_NOT_ENCRYPTED SIZE_MAX
 
+/*
+ * Bits of a reading: how charstrings are read. 0 is the reading of all glyphs, in which 256 operands fit.
+ * Bits without a meaning are ignored.
+ *
+ * CRIBSTORK_STRICT  Type 1's own stack: 24 operands fit. A 25th, a number or one that a pop brings, is refused with 22.
+ *                   A glyph that is not refused so has the answer and the bytes that it has without this bit.
+ */
+#define CRIBSTORK_STRICT 1
+
 /* Words of the command store to an entry. A remainder is unused. */
 #define CRIBSTORK_ENTRY_WORDS 14
 
@@ -94,6 +103,7 @@ typedef struct cribstork_stem {
  * bank        the font's subroutines: a count n (16 bits), n + 1 offsets (32 bits each) from the table's end, the first
  *             0, none below the one before, the last equal to the bytes that follow; then the bodies, encrypted like
  *             the charstring. All numbers are big-endian. No subroutines: 00 00 00 00 00 00
+ * reading     0, or CRIBSTORK_STRICT
  * matrix      a b c d tx ty; 1 0 0 1 0 0 leaves the glyph as it is
  * stems       the stem store: one record for each stem of each group
  * commands    the command store: 14 words to an entry, one entry for each move, line, curve, flex and start of a group
@@ -104,6 +114,7 @@ uint64_t cribstork_convert(
     const uint8_t *charstring, size_t charstring_len,
     const uint8_t *bank, size_t bank_len,
     size_t len_iv,
+    uint64_t reading,
     const double matrix[6],
     cribstork_stem *stems, size_t stems_len,
     uint64_t *commands, size_t commands_len,
@@ -132,6 +143,7 @@ uint64_t cribstork_convert_finished(
     const uint8_t *charstring, size_t charstring_len,
     const uint8_t *bank, size_t bank_len,
     size_t len_iv,
+    uint64_t reading,
     const double matrix[6],
     cribstork_stem *stems, size_t stems_len,
     uint64_t *commands, size_t commands_len,

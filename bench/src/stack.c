@@ -156,14 +156,16 @@ static void box_of(const uint8_t *program, size_t n) {
     count(BOX, (void *)cribstork_box, &c, 0);
 }
 
-/* All functions of a glyph: converted, decrypted, finished with widths of both kinds, and the box of what is finished and
-   of its own bytes. */
+/* All functions of a glyph: converted in both readings, decrypted, finished with widths of both kinds, and the box of what
+   is finished and of its own bytes. */
 static void glyph(struct bytes code, struct bytes bank, size_t len_iv, double *matrix, struct stores *s) {
     uint64_t answer[4];
     double width;
-    struct call c = {.words = {A(code.at), code.n, A(bank.at), bank.n, len_iv, A(matrix), A(s->stems), s->records,
-                         A(s->commands), s->words, A(s->program), s->output, A(answer)}};
-    uint64_t number = count(CONVERT, (void *)cribstork_convert, &c, 7);
+    struct call c = {.words = {A(code.at), code.n, A(bank.at), bank.n, len_iv, CRIBSTORK_STRICT, A(matrix), A(s->stems),
+                         s->records, A(s->commands), s->words, A(s->program), s->output, A(answer)}};
+    count(CONVERT, (void *)cribstork_convert, &c, 8);
+    c.words[5] = 0;
+    uint64_t number = count(CONVERT, (void *)cribstork_convert, &c, 8);
     size_t n = number == 0 ? (size_t)answer[1] : 0;
     memcpy(&width, &answer[2], sizeof width);
     double widths[3][2] = {{0, 0}, {width, 0}, {0.5, 1e9}};
@@ -173,10 +175,11 @@ static void glyph(struct bytes code, struct bytes bank, size_t len_iv, double *m
             .doubles = {width, widths[i][0], widths[i][1]}};
         if (s->output > 0 && count(FINISH, (void *)cribstork_finish, &f, 0) == 0)
             box_of(s->out, (size_t)two[1]);
-        struct call b = {.words = {A(code.at), code.n, A(bank.at), bank.n, len_iv, A(matrix), A(s->stems), s->records,
-                             A(s->commands), s->words, A(s->program), s->output, A(s->out), s->output, A(answer)},
+        struct call b = {.words = {A(code.at), code.n, A(bank.at), bank.n, len_iv, i == 1 ? CRIBSTORK_STRICT : 0, A(matrix),
+                             A(s->stems), s->records, A(s->commands), s->words, A(s->program), s->output, A(s->out),
+                             s->output, A(answer)},
             .doubles = {widths[i][0], widths[i][1]}};
-        count(CONVERT_FINISHED, (void *)cribstork_convert_finished, &b, 9);
+        count(CONVERT_FINISHED, (void *)cribstork_convert_finished, &b, 10);
     }
     struct call d = {.words = {A(code.at), code.n, len_iv, A(s->out), s->output, A(answer)}};
     count(DECRYPT, (void *)cribstork_decrypt, &d, 0);
@@ -362,7 +365,7 @@ static void font(const char *path, struct stores *s) {
             glyph(code, bank, len_iv < 0 ? CRIBSTORK_NOT_ENCRYPTED : (size_t)len_iv, matrices[m], s);
         uint64_t answer[4];
         if (listed < sizeof widths / sizeof *widths
-            && cribstork_convert(code.at, code.n, bank.at, bank.n, (size_t)len_iv, matrices[0], s->stems, s->records,
+            && cribstork_convert(code.at, code.n, bank.at, bank.n, (size_t)len_iv, 0, matrices[0], s->stems, s->records,
                    s->commands, s->words, s->out, s->output, answer) == 0)
             memcpy(&widths[listed++], &answer[2], 8);
     }

@@ -25,7 +25,7 @@ int main(void) {
     static uint8_t program[4096], out[4096];
     uint64_t answer[4];
 
-    uint64_t number = cribstork_convert(glyph, sizeof glyph, bank, sizeof bank, CRIBSTORK_NOT_ENCRYPTED, identity,
+    uint64_t number = cribstork_convert(glyph, sizeof glyph, bank, sizeof bank, CRIBSTORK_NOT_ENCRYPTED, 0, identity,
         stems, STEMS, commands, WORDS, program, sizeof program, answer);
     if (number != 0) {
         printf("refused: %llu\n", (unsigned long long)number);
@@ -52,7 +52,7 @@ int main(void) {
     }
 
     /* The same in one call. */
-    number = cribstork_convert_finished(glyph, sizeof glyph, bank, sizeof bank, CRIBSTORK_NOT_ENCRYPTED, identity,
+    number = cribstork_convert_finished(glyph, sizeof glyph, bank, sizeof bank, CRIBSTORK_NOT_ENCRYPTED, 0, identity,
         stems, STEMS, commands, WORDS, program, sizeof program, 0, 0, out, sizeof out, answer);
     if (number != 0) {
         printf("refused: %llu\n", (unsigned long long)number);
@@ -79,8 +79,18 @@ int main(void) {
 
     /* A refusal: 1 div by 0. */
     static const uint8_t bad[] = {0x8C, 0x8B, 0x0C, 0x0C};
-    number = cribstork_convert(bad, sizeof bad, bank, sizeof bank, CRIBSTORK_NOT_ENCRYPTED, identity,
+    number = cribstork_convert(bad, sizeof bad, bank, sizeof bank, CRIBSTORK_NOT_ENCRYPTED, 0, identity,
         stems, STEMS, commands, WORDS, program, sizeof program, answer);
     printf("1 0 div: refused with %llu\n", (unsigned long long)number);
+
+    /* 25 operands, as the board reads them and strictly. */
+    static uint8_t deep[25];
+    static const uint64_t readings[2] = {0, CRIBSTORK_STRICT};
+    memset(deep, 0x8B, sizeof deep);
+    for (int i = 0; i < 2; i++) {
+        number = cribstork_convert(deep, sizeof deep, bank, sizeof bank, CRIBSTORK_NOT_ENCRYPTED, readings[i], identity,
+            stems, STEMS, commands, WORDS, program, sizeof program, answer);
+        printf("25 operands%s: %llu\n", i == 0 ? "" : ", strict", (unsigned long long)number);
+    }
     return 0;
 }

@@ -159,6 +159,9 @@ pub mod oracle {
         entries: usize::MAX,
     };
 
+    /// Operands that fit in the strict reading (document 02, (c)).
+    pub const STRICT_OPERANDS: usize = 24;
+
     /// What a run that is watched step by step came to.
     pub struct Watched {
         /// The limits that were passed first, all in one step.
@@ -168,6 +171,8 @@ pub mod oracle {
         pub bytes_run: usize,
         pub records: usize,
         pub entries: usize,
+        /// The most operands that were held after a step.
+        pub operands: usize,
         /// The run ended and was not refused.
         pub completed: bool,
         /// As in `Run`.
@@ -178,7 +183,7 @@ pub mod oracle {
 
     pub fn watched(charstring: &[u8], subrs: &[Vec<u8>], len_iv: usize, m: &Matrix, lent: &Lent) -> Watched {
         let mut interp = start(subrs, len_iv);
-        let mut divided = false;
+        let mut seen = Seen::default();
         let stop = if interp.charge(charstring.len()).is_err() {
             Stop::Refused
         } else {
@@ -187,7 +192,7 @@ pub mod oracle {
                 &decrypt_charstring(charstring, len_iv),
                 0,
                 lent,
-                &mut divided,
+                &mut seen,
             )
         };
         let completed = matches!(stop, Stop::Next | Stop::End);
@@ -200,7 +205,8 @@ pub mod oracle {
             completed,
             limit,
             first,
-            divided,
+            divided: seen.divided,
+            operands: seen.operands,
             bytes_run: interp.bytes_run,
             records: records(&interp),
             entries: interp.cmds.len(),
@@ -211,6 +217,13 @@ pub mod oracle {
         interp.groups.iter().map(Vec::len).sum()
     }
 
+    /// What is kept of the steps of a run.
+    #[derive(Default)]
+    struct Seen {
+        divided: bool,
+        operands: usize,
+    }
+
     enum Stop {
         Next,
         End,
@@ -219,7 +232,7 @@ pub mod oracle {
     }
 
     /// Runs `data` one number or operator at a time.
-    fn watch(interp: &mut Interp, data: &[u8], depth: usize, lent: &Lent, divided: &mut bool) -> Stop {
+    fn watch(interp: &mut Interp, data: &[u8], depth: usize, lent: &Lent, seen: &mut Seen) -> Stop {
         if depth > MAX_SUBR_DEPTH {
             return Stop::Refused;
         }
@@ -246,7 +259,7 @@ pub mod oracle {
                         return Stop::Refused;
                     }
                     let plain = decrypt_charstring(body, interp.len_iv);
-                    match watch(interp, &plain, depth + 1, lent, divided) {
+                    match watch(interp, &plain, depth + 1, lent, seen) {
                         Stop::Next => {}
                         stop => return stop,
                     }
@@ -262,7 +275,8 @@ pub mod oracle {
                     if interp.run(token, depth).is_err() {
                         return Stop::Refused;
                     }
-                    *divided |= token == [12, 12];
+                    seen.divided |= token == [12, 12];
+                    seen.operands = seen.operands.max(interp.stack.len());
                     let over = limits(interp, lent);
                     if !over.is_empty() {
                         let first = first_of(&over, interp, token, &before, lent);

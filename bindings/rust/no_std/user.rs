@@ -8,7 +8,7 @@ use core::arch::{asm, global_asm};
 use core::panic::PanicInfo;
 use core::ptr::write_volatile;
 use cribstork::{
-    Bounds, ENTRY_WORDS, IDENTITY, Input, NO_SUBRS, NOT_ENCRYPTED, Refusal, Stem, Stores, Verdict, Widths,
+    Bounds, ENTRY_WORDS, IDENTITY, Input, NO_SUBRS, Refusal, Settings, Stem, Stores, Verdict, Widths,
 };
 
 /// All that the archive needs of a C library.
@@ -46,7 +46,7 @@ extern "C" fn main() -> ! {
     let input = Input {
         charstring: &charstring,
         bank: &NO_SUBRS,
-        len_iv: NOT_ENCRYPTED,
+        settings: Settings::default(),
         matrix: IDENTITY,
     };
     let widths = Widths {

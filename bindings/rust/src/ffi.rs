@@ -9,6 +9,9 @@ pub struct Stem {
     pub width: f64,
 }
 
+/// The bit of a reading that makes it strict.
+pub const CRIBSTORK_STRICT: u64 = 1;
+
 unsafe extern "C" {
     pub fn cribstork_convert(
         charstring: *const u8,
@@ -16,6 +19,7 @@ unsafe extern "C" {
         bank: *const u8,
         bank_len: usize,
         len_iv: usize,
+        reading: u64,
         matrix: *const [f64; 6],
         stems: *mut Stem,
         stems_len: usize,
@@ -43,6 +47,7 @@ unsafe extern "C" {
         bank: *const u8,
         bank_len: usize,
         len_iv: usize,
+        reading: u64,
         matrix: *const [f64; 6],
         stems: *mut Stem,
         stems_len: usize,

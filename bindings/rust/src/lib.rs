@@ -120,14 +120,40 @@ fn front(out: &[u8], len: u64) -> &[u8] {
     &out[..usize::try_from(len).expect("a length within the output")]
 }
 
-/// What is converted: a charstring and the font's bank, both as the font has them, and the matrix to fold in.
+/// How charstrings are read. By default they are not encrypted, and the reading is not strict.
+#[derive(Clone, Copy, Debug, PartialEq, Eq)]
+pub struct Settings {
+    /// Plain bytes dropped at the start of every charstring, or [`NOT_ENCRYPTED`].
+    pub len_iv: usize,
+    /// Type 1's own stack: 24 operands fit, and a 25th is refused with 22. A glyph that is not refused so has the answer
+    /// and the bytes that it has without.
+    pub strict: bool,
+}
+
+impl Default for Settings {
+    fn default() -> Self {
+        Self {
+            len_iv: NOT_ENCRYPTED,
+            strict: false,
+        }
+    }
+}
+
+impl Settings {
+    /// The word of the header's `reading`.
+    fn reading(self) -> u64 {
+        if self.strict { ffi::CRIBSTORK_STRICT } else { 0 }
+    }
+}
+
+/// What is converted: a charstring and the font's bank, both as the font has them, how they are read, and the matrix to
+/// fold in.
 #[derive(Clone, Copy, Debug)]
 pub struct Input<'a> {
     pub charstring: &'a [u8],
     /// See [`bank`].
     pub bank: &'a [u8],
-    /// Plain bytes dropped at the start of every charstring, or [`NOT_ENCRYPTED`].
-    pub len_iv: usize,
+    pub settings: Settings,
     pub matrix: [f64; 6],
 }
 
@@ -220,7 +246,8 @@ pub fn convert<'a>(input: &Input, stores: Stores, out: &'a mut [u8]) -> Result<G
             input.charstring.len(),
             input.bank.as_ptr(),
             input.bank.len(),
-            input.len_iv,
+            input.settings.len_iv,
+            input.settings.reading(),
             &input.matrix,
             stores.stems.as_mut_ptr(),
             stores.stems.len(),
@@ -275,7 +302,8 @@ pub fn convert_finished<'a>(
             input.charstring.len(),
             input.bank.as_ptr(),
             input.bank.len(),
-            input.len_iv,
+            input.settings.len_iv,
+            input.settings.reading(),
             &input.matrix,
             stores.stems.as_mut_ptr(),
             stores.stems.len(),

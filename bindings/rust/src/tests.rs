@@ -53,7 +53,7 @@ fn plain<'a>(charstring: &'a [u8], bank: &'a [u8]) -> Input<'a> {
     Input {
         charstring,
         bank,
-        len_iv: NOT_ENCRYPTED,
+        settings: Settings::default(),
         matrix: IDENTITY,
     }
 }
@@ -146,6 +146,46 @@ fn converting_and_finishing() {
     assert_eq!((glyph.width, glyph.bytes_run), (500.0, 12));
     assert!(lent.stores_are_zeros());
     assert!(lent.program.iter().all(|b| *b == 0));
+}
+
+fn strict<'a>(charstring: &'a [u8], bank: &'a [u8]) -> Input<'a> {
+    let mut input = plain(charstring, bank);
+    input.settings.strict = true;
+    input
+}
+
+/// Document 02's strict reading: 24 operands fit; 5 and 11 come before 22.
+#[test]
+fn strict_reading() {
+    assert_eq!(refused(&strict(&[0x8B; 25], &NO_SUBRS)), 22);
+    let after_24 = |rest: &[u8]| [&[0x8B; 24][..], rest].concat();
+    assert_eq!(refused(&strict(&after_24(&[0xF7]), &NO_SUBRS)), 5);
+    assert_eq!(refused(&strict(&after_24(&[0x0C, 0x11]), &NO_SUBRS)), 11);
+    // A pop brings the 25th: 1 is left by OtherSubr 4.
+    let popped = [&[0x8C, 0x8C, 0x8F, 0x0C, 0x10][..], &[0x8B; 24], &[0x0C, 0x11]].concat();
+    assert_eq!(refused(&strict(&popped, &NO_SUBRS)), 22);
+    for code in [after_24(&[0x09]), WORKED.to_vec()] {
+        let (mut lent, mut other) = (Lent::usual(), Lent::usual());
+        let glyph = lent.convert(&strict(&code, &NO_SUBRS)).unwrap();
+        assert_eq!(glyph, other.convert(&plain(&code, &NO_SUBRS)).unwrap());
+    }
+    // The present reading has room for 256, in both functions.
+    let mut lent = Lent::usual();
+    assert_eq!(lent.convert(&plain(&[0x8B; 25], &NO_SUBRS)).unwrap().program, [0x0E]);
+    let widths = Widths {
+        default: 0.0,
+        nominal: 0.0,
+    };
+    for (input, number) in [(strict(&[0x8B; 25], &NO_SUBRS), 22), (plain(&[0x8B; 25], &NO_SUBRS), 0)] {
+        let mut lent = Lent::usual();
+        let stores = Stores {
+            stems: &mut lent.stems,
+            commands: &mut lent.commands,
+        };
+        let glyph = convert_finished(&input, stores, &mut lent.program, widths, &mut lent.out);
+        assert_eq!(glyph.map_or_else(Refusal::number, |_| 0), number);
+        assert!(lent.stores_are_zeros());
+    }
 }
 
 #[test]

@@ -49,13 +49,12 @@ use mir.Val.{vfloat}
 use lib.Ieee.{fits}
 use lib.Ieee.Scale.{finite}
 use denote.Floats.{float-makes}
-use Rattle.type1.specs.Run.{readingOf}
 use Rattle.type1.specs.Interpret.{sourceOf}
 use Rattle.type1.proofs.Locals.{machY}
 use Rattle.type1_to_type2.specs.Convert.{roomsOf}
 use Rattle.agreement.specs.Finished.{ConvertsFinished}
 use Rattle.agreement.proofs.Locals.{machX}
-use Rattle.board.specs.Answers.{matrixOf, widthsOf, glyphWords}
+use Rattle.board.specs.Answers.{readingWith, matrixOf, widthsOf, glyphWords}
 use Rattle.board.proofs.reading_of as reading-of-f
 use Rattle.board.proofs.reading_of.Symbol.{name as #board·reading-of}
 use Rattle.board.proofs.matrix_of as matrix-of-f
@@ -84,11 +83,11 @@ module _ {M : Type 1} (𝓤 : URA M) (H : Heap 𝓤) (A : Atoms 𝓤) (mem : Mem
   ConvertFinishedC = tripleOf 𝓤 H A convert-finished-f.signature (convert-finished-f.spec 𝓤 H A mem run′)
 
 module _ {M : Type 1} (𝓤 : URA M) (H : Heap 𝓤) (A : Atoms 𝓤) (mem : Memory → SProp 𝓤) (run′ : Routine → Fun 𝓤) (W : Given 𝓤 H A) (C : Calls 𝓤 H) where
-  pub reading-of-as : Triple 𝓤 (C #board·reading-of) (ReadingOfC 𝓤 H A mem run′) → (iv : ℕ) → iv < 2 ^ 64
-      → ent 𝓤 (mean 𝓤 H A (‵ ftrue)) (C #board·reading-of (vint w64 iv ∷ []) (λ w. mean 𝓤 H A (GotAll 𝓤 Y.the-row (Unit {0} × Unit {0}) (λ (r : Y.the-row .Denot) (lasts : (Unit {0} × Unit {0})). r ≡ readingOf iv) (λ (lasts : (Unit {0} × Unit {0})). (fsep ftrue ftrue)) (‵ ftrue) w)))
-  reading-of-as known iv iv-fits =
-      let y : ReadingOfC 𝓤 H A mem run′ .Ghost = ((tt, tt, tt, (iv, tt), (vint w64 iv ∷ [], tt)), tt) in
-      via 𝓤 (ReadingOfC 𝓤 H A mem run′ .pre y) (qed W ((‵ ftrue) ∷ []) ∵ nothing ! $ owned ! usize (Is usize) (uint-makes 𝓤 H A W w64) iv _ (refl, iv-fits) $ fjoin ! $ nothing ! $ join ! $ frame ! $ done !) (known y)
+  pub reading-of-as : Triple 𝓤 (C #board·reading-of) (ReadingOfC 𝓤 H A mem run′) → (iv : ℕ) (bits : ℕ) → iv < 2 ^ 64 → bits < 2 ^ 64
+      → ent 𝓤 (mean 𝓤 H A (‵ ftrue)) (C #board·reading-of (vint w64 iv ∷ vint w64 bits ∷ []) (λ w. mean 𝓤 H A (GotAll 𝓤 Y.the-row (Unit {0} × (Unit {0} × Unit {0})) (λ (r : Y.the-row .Denot) (lasts : (Unit {0} × (Unit {0} × Unit {0}))). r ≡ readingWith iv bits) (λ (lasts : (Unit {0} × (Unit {0} × Unit {0}))). (fsep ftrue (fsep ftrue ftrue))) (‵ ftrue) w)))
+  reading-of-as known iv bits iv-fits bits-fits =
+      let y : ReadingOfC 𝓤 H A mem run′ .Ghost = ((tt, tt, tt, (iv, (bits, tt)), (vint w64 iv ∷ [], (vint w64 bits ∷ [], tt))), tt) in
+      via 𝓤 (ReadingOfC 𝓤 H A mem run′ .pre y) (qed W ((‵ ftrue) ∷ []) ∵ nothing ! $ owned ! u64 (Is u64) (uint-makes 𝓤 H A W w64) bits _ (refl, bits-fits) $ fjoin ! $ owned ! usize (Is usize) (uint-makes 𝓤 H A W w64) iv _ (refl, iv-fits) $ fjoin ! $ nothing ! $ join ! $ frame ! $ done !) (known y)
 
   pub matrix-of-as : Triple 𝓤 (C #board·matrix-of) (MatrixOfC 𝓤 H A mem run′) → (κmatrix : Lft) (qmatrix : Share) (xmatrix : RefT (List Float))
       → ent 𝓤 (mean 𝓤 H A (‵ (flft κmatrix qmatrix) ⊛ ‵ (ShrRef (named 0) κmatrix (Array f64 6) .own xmatrix (vptr (xmatrix .ptr .0) (xmatrix .ptr .1) ∷ [])))) (C #board·matrix-of (vptr (xmatrix .ptr .0) (xmatrix .ptr .1) ∷ []) (λ w. mean 𝓤 H A (GotAll 𝓤 Z.the-row (Unit {0} × Unit {0}) (λ (r : Z.the-row .Denot) (lasts : (Unit {0} × Unit {0})). r ≡ matrixOf (xmatrix .now)) (λ (lasts : (Unit {0} × Unit {0})). (fsep ftrue ftrue)) (‵ (flft κmatrix qmatrix) ⊛ ‵ ftrue) w)))

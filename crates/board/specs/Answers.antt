@@ -1,9 +1,10 @@
--- Definitions: what the C interface reads and writes: a matrix of six entries, the words of each answer. Document 01, "Numbers the board logs": "An answer is the number (0 if none), program length, width and count". Document 02, (a): the box, the window and the verdict.
-use Prim.Native.Nat.{ℕ}
+-- Definitions: what the C interface reads and writes: how charstrings are read, a matrix of six entries, the words of each answer. Document 01, "Numbers the board logs": "An answer is the number (0 if none), program length, width and count". Document 02, (a): the box, the window and the verdict; (c): the strict reading.
+use Prim.Native.Nat.{ℕ, _%_}
 use mathlib.Core.Path.{_≡_}
 use mathlib.Core.List.{List, [], _∷_}
 use lib.IntN.{ℤ, pos}
 use lib.ListN.{getD}
+use lib.Dec.{eqb}
 use lib.Ieee.{Float, nan, binary64, toBits}
 use Rattle.charstring.specs.declared.Decrypted.{Decrypted}
 use Rattle.geometry.specs.declared.Matrix.{Matrix}
@@ -20,6 +21,10 @@ use Rattle.widths.specs.declared.Chosen.{Chosen}
 use Rattle.boxes.specs.declared.Bounds.{Bounds}
 use Rattle.boxes.specs.declared.Answer.{Answer}
 use Rattle.boxes.specs.Answers.{numberOf, verdictWord}
+
+-- the reading that a lenIV and a word ask for: strict exactly where bit 0 of the word is set, so where the word is odd. Document 02, (c)
+abbrev pub readingWith : ℕ → ℕ → Reading
+readingWith lenIV word = record { «len_iv» = lenIV; strict = eqb (word % 2) 1 }
 
 -- a, b, c, d, tx, ty
 abbrev pub matrixOf : List Float → Matrix

@@ -5,7 +5,6 @@ ghost use lib.ListN.{length, replicate};
 ghost use lib.Dec.{T};
 ghost use lib.Ieee.Scale.{finite};
 ghost use Rattle.charstring.specs.Charstring.{decrypted, written};
-ghost use Rattle.type1.specs.Run.{readingOf};
 ghost use Rattle.type1.specs.Interpret.{sourceOf};
 ghost use Rattle.type1_to_type2.specs.Convert.{roomsOf};
 ghost use Rattle.type1_to_type2.specs.Finish.{finish};
@@ -13,7 +12,7 @@ ghost use Rattle.type1_to_type2.specs.FinishAnswer.{finishedAnswer, finishedOut
 ghost use Rattle.widths.specs.Widths.{chosen, zeroWidth};
 ghost use Rattle.boxes.specs.Answers as Boxes;
 ghost use Rattle.boxes.specs.Answers.{numberOf, fourWords, boxWords, verdictWord};
-ghost use Rattle.board.specs.Answers.{matrixOf, widthsOf, glyphWords, finishedWords, decryptedWords, pairOf, windowOf, boxedWords, BoardConverts, BoardFinishes};
+ghost use Rattle.board.specs.Answers.{readingWith, matrixOf, widthsOf, glyphWords, finishedWords, decryptedWords, pairOf, windowOf, boxedWords, BoardConverts, BoardFinishes};
 use boxes::Answer;
 use boxes::Bounds;
 use boxes::Verdict;
@@ -37,11 +36,14 @@ fn matrix_of(m: &[f64; 6]) -> Matrix
     }
 }
 
-// How charstrings with this lenIV are read.
-fn reading_of(len_iv: usize) -> Reading
-    ensures { λ r. ⌜ r ≡ readingOf «len_iv» ⌝ }
+// How charstrings with this lenIV are read. Bit 0 of the word makes the reading strict; the others have no meaning.
+fn reading_of(len_iv: usize, reading: u64) -> Reading
+    ensures { λ r. ⌜ r ≡ readingWith «len_iv» reading ⌝ }
 {
-    Reading::new(len_iv)
+    Reading {
+        len_iv,
+        strict: reading % 2 == 1,
+    }
 }
 
 fn widths_of(default_width: f64, nominal_width: f64) -> Widths
@@ -68,20 +70,21 @@ pub extern "C" fn cribstork_convert(
     charstring: &[u8],
     bank: &[u8],
     len_iv: usize,
+    reading: u64,
     matrix: &[f64; 6],
     stems: &mut [Stem],
     commands: &mut [u64],
     out: &mut [u8],
     answer: &mut [u64; 4],
 ) -> u64
-    ensures { λ r. ⌜ BoardConverts (sourceOf (now (charstring .entry)) (now (bank .entry))) (readingOf «len_iv») (matrixOf (now (matrix .entry)))
+    ensures { λ r. ⌜ BoardConverts (sourceOf (now (charstring .entry)) (now (bank .entry))) (readingWith «len_iv» reading) (matrixOf (now (matrix .entry)))
         (roomsOf (now (stems .entry)) (now (commands .entry)) (now (out .entry)))
         r (now (stems .exit)) (now (commands .exit)) (now (out .exit)) (now (answer .exit)) ⌝ }
 {
     let g = type1_to_type2::convert_charstring_transformed(
         charstring,
         bank,
-        reading_of(len_iv),
+        reading_of(len_iv, reading),
         matrix_of(matrix),
         stems,
         commands,
@@ -122,6 +125,7 @@ pub extern "C" fn cribstork_convert_finished(
     charstring: &[u8],
     bank: &[u8],
     len_iv: usize,
+    reading: u64,
     matrix: &[f64; 6],
     stems: &mut [Stem],
     commands: &mut [u64],
@@ -131,14 +135,14 @@ pub extern "C" fn cribstork_convert_finished(
     out: &mut [u8],
     answer: &mut [u64; 4],
 ) -> u64
-    ensures { λ r. ⌜ BoardFinishes (sourceOf (now (charstring .entry)) (now (bank .entry))) (readingOf «len_iv») (matrixOf (now (matrix .entry))) (widthsOf «default_width» «nominal_width»)
+    ensures { λ r. ⌜ BoardFinishes (sourceOf (now (charstring .entry)) (now (bank .entry))) (readingWith «len_iv» reading) (matrixOf (now (matrix .entry))) (widthsOf «default_width» «nominal_width»)
         (roomsOf (now (stems .entry)) (now (commands .entry)) (now (program .entry))) (length (now (out .entry)))
         r (now (stems .exit)) (now (commands .exit)) (now (program .exit)) (now (out .exit)) (now (answer .exit)) ⌝ }
 {
     let g = agreement::convert_finished(
         charstring,
         bank,
-        reading_of(len_iv),
+        reading_of(len_iv, reading),
         matrix_of(matrix),
         widths_of(default_width, nominal_width),
         stems,

@@ -121,12 +121,18 @@ fn convert(
     with_records(answer, stems)
 }
 
-// Converts a vector's charstring.
+// The kind of the vectors of the strict reading.
+const STRICT: u64 = 21;
+
+// Converts a vector's charstring, strictly where that is the vector's kind.
 fn convert_vector(v: &[u8], words: &mut [u64], out: &mut [u8]) -> AfterConverting {
     convert(
         short_string(v, charstring_at(v)),
         short_string(v, bank_at(v)),
-        Reading::new(nth_short(v, 1, 6) as usize),
+        Reading {
+            len_iv: nth_short(v, 1, 6) as usize,
+            strict: byte(v, 0) == STRICT,
+        },
         short_matrix(v, 1),
         words,
         out,
@@ -182,6 +188,7 @@ fn compare(kind: u64, v: &[u8]) -> bool {
         18 => parts::compare_push_number(v),
         19 => bounds::compare_glyph_box(v),
         20 => bounds::compare_box_of_run(v),
+        21 => glyphs::compare_convert(v),
         _ => false,
     }
 }
@@ -216,6 +223,7 @@ fn replay_parts(before: Tally) -> Tally {
 fn replay_glyphs(before: Tally) -> Tally {
     let mut t = replay(b"run.vec", 14, before);
     t = replay(b"convert.vec", 15, t);
+    t = replay(b"strict.vec", STRICT, t);
     t = replay(b"finish.vec", 16, t);
     replay(b"closepaths.vec", 17, t)
 }

@@ -152,9 +152,9 @@ impl Case {
         }
     }
 
-    /// The answer that is due in the case's rooms.
-    pub fn expected(&self, outcome: &Outcome) -> Answer {
-        let a = self.converted(outcome);
+    /// The answer that is due in the case's rooms, in this reading.
+    pub fn expected(&self, outcome: &Outcome, strict: bool) -> Answer {
+        let a = self.converted(outcome, strict);
         let Some(finish) = self.finish.filter(|_| a.number == 0) else {
             return a;
         };
@@ -165,7 +165,7 @@ impl Case {
         }
     }
 
-    fn converted(&self, outcome: &Outcome) -> Answer {
+    fn converted(&self, outcome: &Outcome, strict: bool) -> Answer {
         if let Some(number) = outcome.early {
             return refused(number);
         }
@@ -176,12 +176,16 @@ impl Case {
             records: self.rooms.records,
             entries: self.rooms.words / 14,
         };
-        let (limit, first) = if watched.records <= lent.records && watched.entries <= lent.entries {
-            (watched.limit.is_some(), watched.first)
+        let (limit, first, operands) = if watched.records <= lent.records && watched.entries <= lent.entries {
+            (watched.limit.is_some(), watched.first, watched.operands)
         } else {
             let again = oracle::watched(&self.charstring, subrs, self.len_iv, &self.matrix(), &lent);
-            (again.limit.is_some(), again.first)
+            (again.limit.is_some(), again.first, again.operands)
         };
+        // The Rust has no strict reading: 22 is where its run, up to its end or its refusal, comes to hold a 25th operand.
+        if strict && operands > oracle::STRICT_OPERANDS {
+            return refused(22);
+        }
         if limit {
             return refused(first);
         }
@@ -233,9 +237,12 @@ impl Lent {
     }
 
     /// Calls the archive; tells what is wrong with its answer, or the number.
-    pub fn call(&mut self, case: &Case, expected: &Answer) -> Result<u64, String> {
+    pub fn call(&mut self, case: &Case, expected: &Answer, strict: bool) -> Result<u64, String> {
         self.turn = self.turn.wrapping_mul(6_364_136_223_846_793_005).wrapping_add(1);
         let turn = self.turn.rotate_left(17);
+        // Bits without a meaning are any, and every other time none.
+        let rest = if turn >> 32 & 1 == 0 { 0 } else { turn << 1 };
+        let reading = rest | if strict { archive::CRIBSTORK_STRICT } else { 0 };
         let charstring = self.charstring.hold(&case.charstring);
         let bank = if case.bank.bytes.len() <= COPIED {
             self.bank.hold(&case.bank.bytes)
@@ -257,6 +264,7 @@ impl Lent {
                     bank,
                     case.bank.bytes.len(),
                     case.len_iv,
+                    reading,
                     matrix.as_ptr().cast(),
                     records,
                     case.rooms.records,
@@ -274,6 +282,7 @@ impl Lent {
                         bank,
                         case.bank.bytes.len(),
                         case.len_iv,
+                        reading,
                         matrix.as_ptr().cast(),
                         records,
                         case.rooms.records,
@@ -337,9 +346,9 @@ impl Lent {
     }
 
     /// A case from its start; tells what differs.
-    pub fn differs(&mut self, case: &Case) -> Option<String> {
-        let expected = case.expected(&case.outcome());
-        self.call(case, &expected).err()
+    pub fn differs(&mut self, case: &Case, strict: bool) -> Option<String> {
+        let expected = case.expected(&case.outcome(), strict);
+        self.call(case, &expected, strict).err()
     }
 }
 
@@ -360,15 +369,15 @@ pub fn hex(bytes: &[u8]) -> String {
 }
 
 impl Case {
-    pub fn describe(&self) -> String {
-        let expected = self.expected(&self.outcome());
+    pub fn describe(&self, strict: bool) -> String {
+        let expected = self.expected(&self.outcome(), strict);
         let len_iv = if self.len_iv == NOT_ENCRYPTED {
             "not encrypted".to_string()
         } else {
             format!("lenIV {}", self.len_iv)
         };
         format!(
-            "  charstring {}\n  bank {}\n  {len_iv}, matrix {:?}\n  {:?}, finish {:?}\n  due: number {}, width {:?}, bytes run {}, bytes {}",
+            "  charstring {}\n  bank {}\n  {len_iv}, strict {strict}, matrix {:?}\n  {:?}, finish {:?}\n  due: number {}, width {:?}, bytes run {}, bytes {}",
             hex(&self.charstring),
             hex(&self.bank.bytes),
             self.matrix,
@@ -459,7 +468,7 @@ impl Case {
     }
 
     /// The smallest case found that still differs.
-    pub fn smallest(&self, lent: &mut Lent) -> Self {
+    pub fn smallest(&self, lent: &mut Lent, strict: bool) -> Self {
         let mut best = self.clone();
         let mut tries = 0;
         'again: loop {
@@ -468,7 +477,7 @@ impl Case {
                 if tries > 200_000 {
                     return best;
                 }
-                if lent.differs(&simpler).is_some() {
+                if lent.differs(&simpler, strict).is_some() {
                     best = simpler;
                     continue 'again;
                 }

@@ -3,6 +3,7 @@
 //!     scale [--threads N] [--thousands N] [--tokens N] [--seed N] [--only PART] [FONTS..]
 //!
 //! `--thousands` is how many random cases each random part has, `--tokens` the length of exhaustive charstrings.
+//! Every glyph is converted in both readings, and counted once as a case.
 //! Every answer, every byte of the output, both stores and the guards around them are compared; inputs end where memory ends. Where the Rust has no
 //! limit, document 01's numbers are taken from the Rust's state after each step. A difference prints the smallest case found.
 //! The Rust has no box: there the oracle's own machine answers.
@@ -36,6 +37,7 @@ mod others;
 mod parts;
 #[allow(dead_code)]
 mod random;
+mod strict;
 #[allow(dead_code)]
 mod type1_to_type2;
 #[allow(dead_code)]
@@ -71,15 +73,19 @@ pub struct Tally {
     pub cases: u64,
     pub different: u64,
     /// How often each number was answered.
-    pub numbers: [u64; 22],
+    pub numbers: [u64; 23],
+    /// How often in the strict reading.
+    pub strict: [u64; 23],
 }
 
 impl Tally {
     fn add(&mut self, other: &Self) {
         self.cases += other.cases;
         self.different += other.different;
-        for (a, b) in self.numbers.iter_mut().zip(&other.numbers) {
-            *a += b;
+        for (sum, more) in [(&mut self.numbers, &other.numbers), (&mut self.strict, &other.strict)] {
+            for (a, b) in sum.iter_mut().zip(more) {
+                *a += b;
+            }
         }
     }
 }
@@ -107,20 +113,24 @@ impl Worker<'_> {
     pub fn report(&mut self, text: &str) {
         self.tally.cases += 1;
         self.tally.different += 1;
-        println!("DIFFERENT: {text}");
+        println!("DIFFERENT, case {}: {text}", self.tally.cases);
     }
 
+    /// A case in both readings.
     pub fn compare(&mut self, case: &Case, outcome: &case::Outcome) {
-        let expected = case.expected(outcome);
-        match self.lent.call(case, &expected) {
-            Ok(number) => self.count(number),
-            Err(why) => {
-                let small = case.smallest(&mut self.lent);
-                let of_small = self.lent.differs(&small).unwrap_or_default();
-                self.report(&format!(
-                    "{why}; the smallest case found: {of_small}\n{}",
-                    small.describe()
-                ));
+        for strict in [false, true] {
+            let expected = case.expected(outcome, strict);
+            match self.lent.call(case, &expected, strict) {
+                Ok(number) if strict => self.tally.strict[number as usize] += 1,
+                Ok(number) => self.count(number),
+                Err(why) => {
+                    let small = case.smallest(&mut self.lent, strict);
+                    let of_small = self.lent.differs(&small, strict).unwrap_or_default();
+                    self.report(&format!(
+                        "{why}; the smallest case found: {of_small}\n{}",
+                        small.describe(strict)
+                    ));
+                }
             }
         }
     }
@@ -135,7 +145,7 @@ impl Worker<'_> {
 /// A part: its name and what a worker does of it.
 type Part = (&'static str, fn(&mut Worker));
 
-const PARTS: [Part; 17] = [
+const PARTS: [Part; 18] = [
     ("bytes", parts::bytes),
     ("tokens", parts::tokens),
     ("phrases", parts::phrases),
@@ -153,6 +163,7 @@ const PARTS: [Part; 17] = [
     ("decrypt", others::decrypt),
     ("box", others::glyph_box),
     ("groups", parts::groups),
+    ("strict", parts::strict),
 ];
 
 fn main() {
@@ -185,8 +196,8 @@ fn main() {
     );
     let mut total = Tally::default();
     let begin = Instant::now();
-    println!("| part | cases | converted | refused | seconds | different |");
-    println!("|---|---|---|---|---|---|");
+    println!("| part | cases | converted | refused | strict | 22 | seconds | different |");
+    println!("|---|---|---|---|---|---|---|---|");
     for (at, (name, part)) in PARTS.iter().enumerate() {
         if !only.is_empty() && !only.iter().any(|o| o == name) {
             continue;
@@ -220,26 +231,30 @@ fn main() {
             }
         });
         println!(
-            "| {name} | {} | {} | {} | {:.1} | {} |",
+            "| {name} | {} | {} | {} | {} | {} | {:.1} | {} |",
             sum.cases,
             sum.numbers[0],
             sum.numbers[1..].iter().sum::<u64>(),
+            sum.strict.iter().sum::<u64>(),
+            sum.strict[22],
             start.elapsed().as_secs_f64(),
             sum.different
         );
         total.add(&sum);
     }
     println!(
-        "| all | {} | {} | {} | {:.1} | {} |",
+        "| all | {} | {} | {} | {} | {} | {:.1} | {} |",
         total.cases,
         total.numbers[0],
         total.numbers[1..].iter().sum::<u64>(),
+        total.strict.iter().sum::<u64>(),
+        total.strict[22],
         begin.elapsed().as_secs_f64(),
         total.different
     );
-    println!("\nHow often each number was answered:");
-    for (number, count) in total.numbers.iter().enumerate() {
-        println!("  {number:2}  {count}");
+    println!("\nHow often each number was answered, and how often in the strict reading:");
+    for (number, (count, strict)) in total.numbers.iter().zip(&total.strict).enumerate() {
+        println!("  {number:2}  {count}  {strict}");
     }
     println!("{} cases, {} different", total.cases, total.different);
     std::process::exit(i32::from(total.different > 0));

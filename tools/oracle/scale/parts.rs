@@ -8,6 +8,7 @@ use crate::font::Font;
 use crate::generate::{self, Glyph, LONG, SHORT};
 use crate::glyphs;
 use crate::random::Random;
+use crate::strict;
 use std::sync::Arc;
 
 const IDENTITY: [f64; 6] = [1.0, 0.0, 0.0, 1.0, 0.0, 0.0];
@@ -757,5 +758,27 @@ pub fn fonts(w: &mut Worker) {
                 compare_around(w, case);
             }
         }
+    }
+}
+
+/// Charstrings that come to hold about 24 operands, brought in every way, and pieces near a limit between.
+pub fn strict(w: &mut Worker) {
+    let bank = few_bodies();
+    for (at, code) in strict::edges().into_iter().enumerate() {
+        if w.takes(at as u64) {
+            compare_around(w, plain(code, &bank));
+        }
+    }
+    let share = w.share();
+    while w.tally.cases < share && !w.has_enough() {
+        let r = &mut w.random;
+        let mut g = strict::glyph(r, |r, code| {
+            if r.once_in(4) {
+                limit_piece(r, code);
+            }
+        });
+        g.len_iv = r.pick(&LEN_IVS);
+        let case = encrypted_case(r, &g);
+        compare_around(w, case);
     }
 }

@@ -64,7 +64,7 @@ pub fn encrypted(r: &mut Random, g: &Glyph) -> Input {
 // ---------------------------------------------------------------------------
 
 /// The number v in one of its forms.
-fn push_int(r: &mut Random, out: &mut Vec<u8>, v: i32) {
+pub fn push_int(r: &mut Random, out: &mut Vec<u8>, v: i32) {
     let long = r.once_in(30);
     match v {
         -107..=107 if !long => out.push((v + 139) as u8),

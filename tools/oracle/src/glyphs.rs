@@ -5,6 +5,7 @@ use crate::doubles;
 use crate::generate::{Input, LONG, SHORT, bank, bodies, damaged, encrypted, glyph, matrix};
 use crate::geometry::Matrix;
 use crate::random::Random;
+use crate::strict;
 use crate::type1_to_type2::{convert_charstring_transformed, oracle};
 use crate::vector::{Fields, Vectors};
 
@@ -588,6 +589,53 @@ fn converting(r: &mut Random, to: &mut Vectors, mut seen: impl FnMut(&Input, &Ma
         }
         if r.once_in(40) {
             add_damaged_bank(r, to, &input, &m);
+        }
+    }
+}
+
+/// The answer in the strict reading, with ample room or less: 22 where the Rust's run, up to its end or its refusal, comes
+/// to hold a 25th operand, or the number of a store that is full before; else the Rust's.
+fn strict_answer(input: &Input, m: &Matrix, rooms: Rooms) -> Option<Answer> {
+    let lent = oracle::Lent {
+        records: RECORDS,
+        entries: rooms.words / 14,
+    };
+    let watched = oracle::watched(&input.charstring, &input.subrs, input.len_iv, m, &lent);
+    if watched.operands > oracle::STRICT_OPERANDS {
+        return Some(refused(22));
+    }
+    match watched.limit {
+        Some(numbers) if numbers.len() == 1 => Some(refused(numbers[0])),
+        Some(_) => None,
+        None => Some(answer(input, m)?.0),
+    }
+}
+
+/// The strict reading, in convert.vec's layout: document 02's examples, the edges of the depth, and 1,500 random glyphs.
+pub fn strict(r: &mut Random, to: &mut Vectors) {
+    let mut add = |input: &Input, m: &Matrix, rooms: Rooms| {
+        if let Some(a) = strict_answer(input, m, rooms) {
+            add_convert(to, m, input.len_iv, &input.charstring, &bank(&input.subrs), rooms, &a);
+        }
+    };
+    let identity = Matrix::identity();
+    for code in strict::edges() {
+        add(&plain(&code, &[]), &identity, AMPLE);
+    }
+    for input in stated_inputs().iter().chain(&edge_inputs()) {
+        if input.charstring.len() < 300 {
+            add(input, &identity, AMPLE);
+        }
+    }
+    for _ in 0..1500 {
+        let mut g = strict::glyph(r, |_, _| {});
+        g.len_iv = r.pick(&[NOT_ENCRYPTED, 4, 4, 0, 1]);
+        let m = matrix(r);
+        let input = encrypted(r, &g);
+        add(&input, &m, AMPLE);
+        if r.once_in(4) {
+            let words = 14 * r.below(3) as usize;
+            add(&input, &m, Rooms { words, ..AMPLE });
         }
     }
 }

@@ -21,6 +21,7 @@ mod glyphs;
 mod machine;
 mod numbers;
 mod random;
+mod strict;
 mod vector;
 
 use random::Random;
@@ -49,7 +50,7 @@ const fn kind(
     }
 }
 
-const KINDS: [Kind; 20] = [
+const KINDS: [Kind; 21] = [
     kind("round", 1, true, doubles::round),
     kind("floor", 2, true, doubles::floor),
     kind("abs", 3, true, doubles::abs),
@@ -70,6 +71,7 @@ const KINDS: [Kind; 20] = [
     kind("adobe_numbers", 18, true, numbers::adobe_numbers),
     kind("glyph_box", 19, true, boxes::stated),
     kind("box_of_run", 20, true, boxes::of_runs),
+    kind("strict", 21, true, glyphs::strict),
 ];
 
 fn main() {
