@@ -7,6 +7,7 @@
 #     target/bench/bench [--rounds N] FONTS..        FONTS: Type 1 fonts, or folders of them
 #     target/bench/bench --least [--rounds N] FONTS..   what the contract alone takes of each glyph
 #     target/bench/bench --boxes [--rounds N] FONTS..   the boxes of finished glyphs and of long programs alone
+#     target/bench/bench --strict [--rounds N] FONTS..  the strict reading beside the present one alone
 #     target/bench/bench --ours-only FONT            one pass over a font's glyphs, ours alone, to be profiled
 set -euo pipefail
 cd "$(dirname "$0")/.."

@@ -4,6 +4,7 @@
 //!     bench --ours-only FONT
 //!     bench --least [--rounds N] FONTS..
 //!     bench --boxes [--rounds N] FONTS..
+//!     bench --strict [--rounds N] FONTS..
 //!
 //! Ours gets 256 stem records, 256 entries of the command store and 4,096 bytes of output, and leaves the stores
 //! all zeros; the Rust takes its own memory. A time is the median of the rounds, and the thread's own.
@@ -89,6 +90,10 @@ impl Stores {
     }
 
     fn convert(&mut self, g: &Case, m: &[f64; 6]) -> [u64; 4] {
+        self.convert_read(g, 0, m)
+    }
+
+    fn convert_read(&mut self, g: &Case, reading: u64, m: &[f64; 6]) -> [u64; 4] {
         let bank = &g.subrs.bank;
         let mut answer = [0; 4];
         unsafe {
@@ -98,7 +103,7 @@ impl Stores {
                 bank.as_ptr(),
                 bank.len(),
                 g.len_iv,
-                0,
+                reading,
                 m,
                 self.stems.as_mut_ptr(),
                 self.stems.len(),
@@ -652,6 +657,52 @@ fn offsets_rise(bank: &[u8]) -> bool {
     true
 }
 
+/// Converting in the present reading and in the strict one, in turn.
+fn strict(paths: &[String], rounds: usize) {
+    let mut stores = Stores::usual();
+    println!("\nThe strict reading\n");
+    println!("| glyphs of | glyphs | over 24 operands | present, ns a glyph | strict, ns a glyph | ratio |");
+    println!("|---|---|---|---|---|---|");
+    for path in paths {
+        let read = font::read_all(std::slice::from_ref(path));
+        let last = path.trim_end_matches('/').rsplit('/').next().unwrap_or(path);
+        for (name, m) in &MATRICES {
+            let (mut glyphs, mut over) = (0, 0);
+            let mut sums = [0.0; 2];
+            for f in &read {
+                let (s, _) = of_font(f, &mut stores, m);
+                let mut all: [Vec<f64>; 2] = Default::default();
+                for round in 0..rounds {
+                    for k in [round % 2, 1 - round % 2] {
+                        let start = now();
+                        for case in &s.cases {
+                            let reading = if k == 1 { archive::CRIBSTORK_STRICT } else { 0 };
+                            black_box(stores.convert_read(black_box(case), black_box(reading), m));
+                            black_box(&stores.out);
+                        }
+                        all[k].push(now() - start);
+                    }
+                }
+                for (sum, times) in sums.iter_mut().zip(all) {
+                    *sum += median(times);
+                }
+                glyphs += s.cases.len();
+                over += s
+                    .cases
+                    .iter()
+                    .filter(|case| stores.convert_read(case, archive::CRIBSTORK_STRICT, m)[0] == 22)
+                    .count();
+            }
+            let [present, strict] = sums.map(|t| t / glyphs as f64);
+            println!(
+                "| {last} ({} fonts), {name} | {glyphs} | {over} | {present:.0} | {strict:.0} | {:.3} |",
+                read.len(),
+                strict / present
+            );
+        }
+    }
+}
+
 /// What the contract alone takes of each glyph, whatever the code: filling what is lent with zeros, and reading the
 /// bank's offsets. Beside half of the Rust's time, and for the empty glyph beside all of it.
 fn least(paths: &[String], rounds: usize) {
@@ -733,6 +784,7 @@ fn main() {
     };
     let only_least = only(&mut words, "--least");
     let only_boxes = only(&mut words, "--boxes");
+    let only_strict = only(&mut words, "--strict");
     let mut rounds = 11;
     if words.first().is_some_and(|w| w == "--rounds") {
         rounds = words[1].parse().expect("a count of rounds");
@@ -746,8 +798,13 @@ fn main() {
         boxes(&words, rounds);
         return;
     }
+    if only_strict {
+        strict(&words, rounds);
+        return;
+    }
     fonts(&words, rounds);
     growth(15);
     widths(rounds);
     boxes(&words, rounds);
+    strict(&words, rounds);
 }
