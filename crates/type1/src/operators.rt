@@ -306,11 +306,12 @@ fn pop(st: St, ops: &mut [f64; 256], ps: &[f64; 256], reading: Reading) -> Ran
 {
     let p = st.postscript;
     let n = st.operands;
-    let none = operand_stack::number_if(p == 0, 11);
+    if p == 0 {
+        return made(st, 11);
+    }
     let over = operand_stack::refusal(n, reading.strict);
-    let f = operand_stack::first(none, over);
-    if f != 0 {
-        return made(st, f);
+    if over != 0 {
+        return made(st, over);
     }
     ops[n] = ps[p - 1];
     let mut s = st;
