@@ -15,7 +15,7 @@ use Rattle.geometry.specs.declared.Matrix.{Matrix}
 use Rattle.type1.specs.declared.Reading.{Reading}
 use Rattle.type1.specs.Interpret.{Source}
 use Rattle.type1.specs.State.{State}
-use Rattle.type1.specs.Run.{Font, unlimited}
+use Rattle.type1.specs.Run.{fontOf, unlimited}
 use Rattle.type1.specs.Sound as Sound
 use Rattle.type1.specs.Sound.{All, Numbers, Placed}
 use Rattle.type1.specs.Invariants.{run-points, run-placed, run-finite, run-whole}
@@ -85,7 +85,7 @@ pub demand3 : (x : Source) (reading : Reading) (m : Matrix) (r : Rooms) (g : Gly
 demand3 x reading m r g p room out code bodies c h =
     let U = converts x reading m r g c in
     let s = U .state in
-    let font : Font = record { bank = x .bank; reading = reading } in
+    let font = fontOf (x .bank) reading in
     let outcome = unlimitedRun x reading in
     let counted = ends-so _ outcome (run-points unlimited font (x .charstring)) s (U .run) in
     let placed = ends-so Placed outcome (run-placed unlimited font (x .charstring)) s (U .run) in

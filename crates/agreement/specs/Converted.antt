@@ -11,12 +11,12 @@ use Rattle.type1.specs.declared.Reading.{Reading}
 use Rattle.outline.specs.Outline.{pick}
 use Rattle.type1.specs.State.{State, start}
 use Rattle.type1.specs.Run as Run
-use Rattle.type1.specs.Run.{Outcome, going, returning, ending, Limits, within, Font, check}
+use Rattle.type1.specs.Run.{Outcome, going, returning, ending, Limits, within, limitsOf, Font, fontOf, check}
 use Rattle.type1.specs.Interpret.{Source, runOf, outcome}
 use Rattle.type1.specs.Sound.{Ends, LimitOr}
 use Rattle.type1.specs.Outcomes.{ends-going, ends-ending}
 use Rattle.type1.specs.Invariants.{run-not-returning}
-use Rattle.type1.specs.Limited.{within-limiting, run-limited, limited-going, limited-ending}
+use Rattle.type1.specs.Limited.{reading-limiting, run-limited, limited-going, limited-ending}
 use Rattle.folding.specs.Folding.{finiteMatrix, foldedWidth}
 use Rattle.type1_to_type2.specs.Writing as Writing
 use Rattle.type1_to_type2.specs.Writing.{Written, wrote, write}
@@ -49,16 +49,16 @@ folds m room s g = go (foldsFinite m s) refl
 -- ---- the run
 module _ (x : Source) (reading : Reading) (m : Matrix) (r : Rooms) (g : Glyph) where
   abbrev limits : Limits
-  limits = within (r .records) (r .words)
+  limits = limitsOf reading (within (r .records) (r .words))
 
   abbrev font : Font
-  font = record { bank = x .bank; reading = reading }
+  font = fontOf (x .bank) reading
 
   abbrev limited : Outcome
   limited = runOf limits x reading
 
   same : LimitOr limited (unlimitedRun x reading)
-  same = run-limited limits (within-limiting (r .records) (r .words)) font (x .charstring) start
+  same = run-limited limits (reading-limiting reading (r .records) (r .words)) font (x .charstring) start
 
   unrefused : (o : Outcome) → limited ≡ o → ended m (r .bytes) o ≡ converted g → Unrefused x reading m (r .bytes) g
   unrefused (going s) e h = record { state = s; run = inl (limited-going _ _ same s e); folds = folds m (r .bytes) s g h }

@@ -11,4 +11,5 @@ pub mod Folded
 pub mod Converted
 pub mod Agreement
 pub mod Finished
+pub mod Strict
 pub mod FinishedLaws

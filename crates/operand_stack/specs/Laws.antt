@@ -1,36 +1,20 @@
 -- Laws: what one operand more is refused with.
-use mathlib.Core.Path.{_≡_, refl, sym, ap}
+use mathlib.Core.Path.{_≡_, refl, sym, ap, _∙_}
 use Prim.Native.Nat.{ℕ, _+_, _≤_, _<_}
 use native.Mathlib.Omega.{arith}
-use mathlib.Core.Bool.{Bool, true, false, true≢false}
+use mathlib.Core.Bool.{Bool, true, false}
 use lib.Dec.{leb, leb→le, lit≤}
 use borrow.Author.Tests.{le-leb, lt-leb}
 use Rattle.hints.specs.Hints.{atMost}
 use Rattle.outline.specs.Outline.{pick}
-use Rattle.operand_stack.specs.Stack.{operandRefusal}
+use Rattle.operand_stack.specs.Stack.{depthOf, overflowOf, operandRefusal}
 
-under : (most k n : ℕ) → n < most → 0 ≡ atMost most k (n + 1)
-under most k n h = sym (ap (λ (c : Bool). pick c 0 k) (le-leb (n + 1) most (omega (arith, h))))
+-- below the depth there is room, at it there is none
+pub has-room : (strict : Bool) (n d : ℕ) → d ≡ depthOf strict → n < d → 0 ≡ operandRefusal strict (n + 1)
+has-room strict n d e h = sym (ap (λ (b : Bool). pick b 0 (overflowOf strict)) (le-leb (n + 1) (depthOf strict) (omega (arith, e, h))))
 
-over : (most k n : ℕ) → most ≤ n → k ≡ atMost most k (n + 1)
-over most k n h = sym (ap (λ (c : Bool). pick c 0 k) (lt-leb (n + 1) most (omega (arith, h))))
-
--- below T1's own depth, in both readings
-pub has-room : (strict : Bool) (n : ℕ) → n < 24 → 0 ≡ operandRefusal strict (n + 1)
-has-room true n h = under 24 22 n h
-has-room false n h = under 256 15 n (omega (arith, h))
-
-pub strict-full : (strict : Bool) (n : ℕ) → strict ≡ true → 24 ≤ n → 22 ≡ operandRefusal strict (n + 1)
-strict-full true n e h = over 24 22 n h
-strict-full false n e h = absurd (true≢false (sym e))
-
-pub present-room : (strict : Bool) (n : ℕ) → strict ≡ false → n < 256 → 0 ≡ operandRefusal strict (n + 1)
-present-room true n e h = absurd (true≢false e)
-present-room false n e h = under 256 15 n h
-
-pub present-full : (strict : Bool) (n : ℕ) → strict ≡ false → 256 ≤ n → 15 ≡ operandRefusal strict (n + 1)
-present-full true n e h = absurd (true≢false e)
-present-full false n e h = over 256 15 n h
+pub has-none : (strict : Bool) (n d k : ℕ) → d ≡ depthOf strict → d ≤ n → k ≡ overflowOf strict → k ≡ operandRefusal strict (n + 1)
+has-none strict n d k e h z = z ∙ sym (ap (λ (b : Bool). pick b 0 (overflowOf strict)) (lt-leb (n + 1) (depthOf strict) (omega (arith, e, h))))
 
 fit-under : (most k n : ℕ) → (k ≡ 0 → ⊥) → atMost most k n ≡ 0 → n ≤ most
 fit-under most k n h e = go (leb n most) refl e

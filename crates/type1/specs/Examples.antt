@@ -15,7 +15,7 @@ use Rattle.type1.specs.Operator.{ofByte, ofEscape}
 use Rattle.type1.specs.Number.{oneByte, twoBytes, twoBytesBelow, fourBytes, token, double}
 use Rattle.outline.specs.Outline.{Command, move, line, curve, flex, Group, isIn, sameStems, lastIs, stemCount, stemOf}
 use Rattle.type1.specs.State.{start}
-use Rattle.type1.specs.Run.{readingOf, fontOf, Limits, within, unlimited, Outcome, going, returning, ending, refused, pointAt, push, stem, newGroup, commit, enter, list, moveBy, openSubpath, lineTo, lineBy, curveTo, curveBy, setPoint, backwards, handBack, endFlex, otherSubr0, otherSubr2, otherSubr, callOtherSubr, popD, divD, stems3, operate, charge, named, callBody, callSubr, execute, runBytes, runBody, run}
+use Rattle.type1.specs.Run.{readingOf, strictOf, fontOf, Limits, within, limitsOf, unlimited, Outcome, going, returning, ending, refused, pointAt, push, stem, newGroup, commit, enter, list, moveBy, openSubpath, lineTo, lineBy, curveTo, curveBy, setPoint, backwards, handBack, endFlex, otherSubr0, otherSubr2, otherSubr, callOtherSubr, popD, divD, stems3, operate, charge, named, callBody, callSubr, execute, runBytes, runBody, run}
 
 -- ---- numbers: Adobe Type 1 Font Format, section 6.2
 least-one : oneByte 32 ≡ negsuc 106
@@ -72,6 +72,12 @@ count (going s) = s .ran
 count (returning s) = s .ran
 count (ending s) = s .ran
 count (refused n) = 0
+
+abbrev held : Outcome → ℕ
+held (going s) = length (s .operands)
+held (returning s) = length (s .operands)
+held (ending s) = length (s .operands)
+held (refused n) = 0
 
 abbrev width : Outcome → Float
 width (going s) = s .width
@@ -143,6 +149,52 @@ just-room = refl
 no-store : result (within 0 0) noBodies (0x8C ∷ 0x16 ∷ []) ≡ refused 17
 unfolding result
 no-store = refl
+
+-- ---- document 02, c: T1's own operand stack, of 24
+abbrev strict : Limits
+strict = limitsOf (strictOf notEncrypted) (within 0 0)
+
+-- 24 bytes `8B`
+abbrev full : List ℕ
+full = replicate 24 0x8B
+
+-- they fit
+strict-room : held (result strict noBodies full) ≡ 24
+unfolding result
+strict-room = refl
+
+-- then `F7`: 5 comes before 22
+strict-cut : result strict noBodies (full ++ (0xF7 ∷ [])) ≡ refused 5
+unfolding result
+strict-cut = refl
+
+-- then `0C 11`: so does 11
+strict-nothing-left : result strict noBodies (full ++ (0x0C ∷ 0x11 ∷ [])) ≡ refused 11
+unfolding result
+strict-nothing-left = refl
+
+-- 25 bytes `8B`
+strict-too-many : result strict noBodies (replicate 25 0x8B) ≡ refused 22
+unfolding result
+strict-too-many = refl
+
+-- `8B 8B 8D 90 0C 10` hands two arguments back (OtherSubr 5); the count and the number are operands too
+abbrev handed : List ℕ
+handed = 0x8B ∷ 0x8B ∷ 0x8D ∷ 0x90 ∷ 0x0C ∷ 0x10 ∷ []
+
+-- with 23 operands more, `0C 11` brings the 24th, and a second one the 25th
+strict-pop-room : held (result strict noBodies (handed ++ replicate 23 0x8B ++ (0x0C ∷ 0x11 ∷ []))) ≡ 24
+unfolding result
+strict-pop-room = refl
+
+strict-pop : result strict noBodies (handed ++ replicate 23 0x8B ++ (0x0C ∷ 0x11 ∷ 0x0C ∷ 0x11 ∷ [])) ≡ refused 22
+unfolding result
+strict-pop = refl
+
+-- the present reading takes it
+present-pop : held (result (within 0 0) noBodies (handed ++ replicate 23 0x8B ++ (0x0C ∷ 0x11 ∷ 0x0C ∷ 0x11 ∷ []))) ≡ 25
+unfolding result
+present-pop = refl
 
 -- ---- "Bytes run", number 3: 1,048,577 bytes, whatever they are
 too-long : (lim : Limits) (bank l : List ℕ) → length l ≡ 1048577 → result lim bank l ≡ refused 3

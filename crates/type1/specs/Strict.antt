@@ -28,10 +28,10 @@ use Rattle.type1.specs.State.{State, start, withOperands, withPostscript
 use Rattle.type1.specs.Run.{Limits, within, strictly, limitsOf, unlimited, Outcome, going, returning, ending, refused, andThen, check, allowed, top, without, push, stem, newGroup, commit, enter, list, moveBy, openSubpath, lineTo, lineBy, curveTo, curveBy, setPoint, handBack, endFlex, otherSubr0, otherSubr, callOtherSubr, popD, stems3, operate, readingOf, strictOf, Font, charge, named, returned, callBody, callSubr, execute, consume, runBytes, runBody, run}
 use Rattle.type1.specs.Interpret.{Source, runOf, outcome}
 use Rattle.type1.specs.States.{reached, counted, inBody, isCall, isPop, inCall, atToken, inBytes, inLevels, states, isDeep, anyDeep, holds25, anyPostscript}
-use Rattle.type1.specs.Sound.{isStep, Keeps, Answering}
+use Rattle.type1.specs.Sound.{Keeps, Answering}
 use Rattle.type1.specs.Refusals.{execute-keeps, runBody-keeps, run-never}
 
--- ---- operators
+-- ---- operators; c and d are what a call does
 operate-same : (lim : Limits) (c d : Outcome) (o : Operator) (s : State) → isPop o ≡ false → (isCall o ≡ true → c ≡ d) → operate (strictly lim) c o s ≡ operate lim d o s
 unfolding operate stem newGroup commit enter list moveBy openSubpath lineTo lineBy curveTo curveBy setPoint handBack endFlex otherSubr0 otherSubr callOtherSubr stems3
 operate-same lim c d op.hstem s h k = refl
@@ -61,6 +61,7 @@ operate-same lim c d op.pop s h k = absurd (true≢false h)
 operate-same lim c d op.setcurrentpoint s h k = refl
 operate-same lim c d op.unknown s h k = refl
 
+-- no operator but pop looks at the limit of operands
 pub operate-strictly : (lim : Limits) (c : Outcome) (o : Operator) (s : State) → isPop o ≡ false → operate (strictly lim) c o s ≡ operate lim c o s
 operate-strictly lim c o s h = operate-same lim c c o s h (λ e. refl)
 
@@ -258,6 +259,7 @@ module _ (lim : Limits) (room : (n : ℕ) → n ≤ 25 → lim .operands n ≡ 0
       runBytes-strict (execute (strictly lim) f (runBody (strictly lim) f n)) (execute lim f (runBody lim f n)) (inCall f (inLevels lim f n))
       (execute-strict f (runBody (strictly lim) f n) (runBody lim f n) (inLevels lim f n) (runBody-strict f n) (runBody-keeps Fits Any (λ m k a b. omega arith) (λ k t. tt) (strictly lim) any push-fits f n)) (plain (f .lenIV) l) 0 s q
 
+  -- 22 where a state of the present run is deep, else the present run
   pub strict-run : (f : Font) (l : List ℕ) (s : State) → Fits (length (s .operands)) → run (strictly lim) f l s ≡ pick (anyDeep (states lim f l s)) (refused 22) (run lim f l s)
   unfolding run states
   strict-run f l s q = charged-strict (runBody (strictly lim) f _ l) (runBody lim f _ l) (inLevels lim f _ l) (runBody-strict f _ l) l s q
@@ -277,9 +279,11 @@ module _ (x : Source) (lenIV records words : ℕ) where
   abbrev present : Outcome
   present = outcome x (readingOf lenIV) records words
 
+  -- the present run holds a 25th operand
   abbrev deep : Bool
   deep = holds25 x lenIV records words
 
+  -- the present run
   abbrev r : Outcome
   r = runOf (within records words) x (readingOf lenIV)
 
@@ -287,6 +291,7 @@ module _ (x : Source) (lenIV records words : ℕ) where
   unfolding outcome holds25
   strict-is = ap (check (valid (x .bank)) 2) (strict-run (within records words) (λ n h. ap (λ (b : Bool). pick b 0 15) (le-leb n 256 (omega arith))) _ (x .charstring) start (omega arith))
 
+  -- "a strict answer that is not 22 equals the present reading's answer"
   pub strict-answer : (strict ≡ refused 22) ⊎ (strict ≡ present)
   unfolding outcome
   strict-answer = go (valid (x .bank)) deep strict-is
@@ -306,6 +311,7 @@ module _ (x : Source) (lenIV records words : ℕ) where
         commands = λ n. at-most-not (leb (entryWords * n) words) 17 22 refl refl;
       }) (λ n. at-most-not (leb n 256) 15 22 refl refl) _ (x .charstring) start
 
+  -- nothing about the present reading changes
   pub present-not-22 : present ≡ refused 22 → ⊥
   unfolding outcome
   present-not-22 = go (valid (x .bank))
@@ -314,9 +320,11 @@ module _ (x : Source) (lenIV records words : ℕ) where
       go true = run-not-22
       go false = two-not
 
+  -- 22 where 2 does not come first and the present run holds a 25th operand
   pub refused-22 : valid (x .bank) ≡ true → deep ≡ true → strict ≡ refused 22
   refused-22 v d = strict-is ∙ ap (λ (b : Bool). check b 2 (pick deep (refused 22) r)) v ∙ ap (λ (b : Bool). pick b (refused 22) r) d
 
+  -- and nowhere else
   pub only-22 : strict ≡ refused 22 → (valid (x .bank) ≡ true) × (deep ≡ true)
   only-22 e = go (valid (x .bank)) deep refl refl (sym strict-is ∙ e)
     where
@@ -325,6 +333,7 @@ module _ (x : Source) (lenIV records words : ℕ) where
       go true false a b h = absurd (run-not-22 h)
       go false d a b h = absurd (two-not h)
 
+  -- 15 is not met where the PostScript stack has room
   pub strict-15 : runOf (anyPostscript (limitsOf (strictOf lenIV) (within records words))) x (strictOf lenIV) ≡ refused 15 → ⊥
   strict-15 =
       run-never 15 refl (anyPostscript (strictly (within records words))) (record {
@@ -335,5 +344,6 @@ module _ (x : Source) (lenIV records words : ℕ) where
         commands = λ n. at-most-not (leb (entryWords * n) words) 17 15 refl refl;
       }) (λ n. at-most-not (leb n 24) 22 15 refl refl) _ (x .charstring) start
 
+  -- demand 3's run is fed nothing of the limits
   pub strict-unlimited : runOf unlimited x (strictOf lenIV) ≡ runOf unlimited x (readingOf lenIV)
   strict-unlimited = refl

@@ -38,7 +38,7 @@ use Rattle.type1_to_type2.specs.Streaming.{resumedAll}
 use Rattle.type1_to_type2.specs.Passes.{both, BothTables, Gathers, stemsTo, cmdsFrom, Stored}
 use Rattle.type1_to_type2.specs.Entry.{groupCount, noneOf, tables, Planned, opens, Opens, leftState, fromRun, settles, Answers, ConvertsFrom, firstNumber}
 use Rattle.type1_to_type2.specs.Fine.{written-finite}
-use Rattle.type1_to_type2.specs.Nonzero.{write-nonzero}
+use Rattle.type1_to_type2.specs.Nonzero.{folded-nonzero}
 use Rattle.type1_to_type2.proofs.Folds.{finite-all}
 use Rattle.type1_to_type2.proofs.Ordering.{collects-first, collects-group}
 use Rattle.type1_to_type2.proofs.EntryLaws.{commands-are, stems-are, count-is}
@@ -195,21 +195,9 @@ Real x = x ≡ Convert.refused 0 → ⊥
 real-refused : (n : ℕ) → 0 < n → Real (Convert.refused n)
 real-refused n h e = let z : n ≡ 0 = ap numberOf e in let y : ⊥ = omega (arith, z, h) in y
 
-real-writes : (g : List ℕ → Glyph) (x : Written) → (x ≡ Writing.refused 0 → ⊥) → Real (writes g x)
-real-writes g (Writing.refused k) h e = h (ap Writing.refused (ap numberOf e))
-real-writes g (Writing.wrote b) h e = let z : _≡_ {A = ℕ} 1 0 = ap numberOf e in let y : ⊥ = omega (arith, z) in y
-
-real-folded : (m : Matrix) (room : ℕ) (s : State) → Real (folded m room s)
-unfolding folded
-real-folded m room s = go (foldsFinite m s)
-  where
-    go : (b : Bool) → Real (pick b (writes (glyphOf (foldedWidth m (s .width)) (s .ran)) (write (instructions m s) room)) (Convert.refused 14))
-    go true = real-writes (glyphOf (foldedWidth m (s .width)) (s .ran)) (write (instructions m s) room) (write-nonzero (instructions m s) room)
-    go false = real-refused 14 (omega arith)
-
 real-ended : (m : Matrix) (room : ℕ) (r : Interpreted) (c : List ℕ) (z : List Stem) (c₀ : List ℕ) (z₀ : List Stem) (o : Outcome) → Leaves r c z c₀ z₀ o → Real (ended m room o)
-real-ended m room r c z c₀ z₀ (Run.going s) L = real-folded m room s
-real-ended m room r c z c₀ z₀ (Run.ending s) L = real-folded m room s
+real-ended m room r c z c₀ z₀ (Run.going s) L = folded-nonzero m room s
+real-ended m room r c z c₀ z₀ (Run.ending s) L = folded-nonzero m room s
 real-ended m room r c z c₀ z₀ (Run.returning s) L = absurd L
 real-ended m room r c z c₀ z₀ (Run.refused n) L = real-refused n (L .0)
 

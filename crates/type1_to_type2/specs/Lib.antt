@@ -12,4 +12,5 @@ pub mod Entry
 pub mod FinishAnswer
 pub mod FinishLaws
 pub mod Nonzero
+pub mod Strict
 pub mod Fine
