@@ -78,13 +78,13 @@ extern "C" {
 #define CRIBSTORK_NOT_ENCRYPTED SIZE_MAX
 
 /*
- * Bits of a reading: how charstrings are read. 0 is the reading of all glyphs, in which 256 operands fit.
+ * Bits of a reading: how charstrings are read. 0 is the present reading, in which 256 operands fit.
  * Bits without a meaning are ignored.
  *
  * CRIBSTORK_STRICT  Type 1's own stack: 24 operands fit. A 25th, a number or one that a pop brings, is refused with 22.
  *                   A glyph that is not refused so has the answer and the bytes that it has without this bit.
  */
-#define CRIBSTORK_STRICT 1
+#define CRIBSTORK_STRICT UINT64_C(1)
 
 /* Words of the command store to an entry. A remainder is unused. */
 #define CRIBSTORK_ENTRY_WORDS 14

@@ -1,4 +1,4 @@
--- Definitions: the operand stack. Document 01, number 15; document 02, c: "24 operands fit", "It refuses with 22 the 25th operand".
+-- Definitions: the operand stack. Document 01, number 15; document 02, (c): "24 operands fit", "It refuses with 22 the 25th operand".
 use Prim.Native.Nat.{ℕ}
 use mathlib.Core.Bool.{Bool}
 use Rattle.hints.specs.Hints.{atMost}

@@ -188,7 +188,7 @@ fn compare(kind: u64, v: &[u8]) -> bool {
         18 => parts::compare_push_number(v),
         19 => bounds::compare_glyph_box(v),
         20 => bounds::compare_box_of_run(v),
-        21 => glyphs::compare_convert(v),
+        STRICT => glyphs::compare_convert(v),
         _ => false,
     }
 }

@@ -31,11 +31,10 @@ use Rattle.type1.specs.State.{State, withOperands, withOpen}
 use Rattle.type1.specs.Run.{Limits, within, limitsOf, Outcome, allowed, going, returning, ending, refused, andThen, check, push, consume, operate, runBytes}
 use Rattle.type1.specs.Memory.{Mem, flexHeld, abs, Fit, Holds, Good, Meets, operatorOf}
 use Rattle.type1.specs.Small.{ranOf, withOpened}
-use Rattle.type1.specs.Sound.{All, OfFlex, GoodPoint, Sound, SoundOut, SmallToken}
+use Rattle.type1.specs.Sound.{isPop, All, OfFlex, GoodPoint, Sound, SoundOut, SmallToken}
 use Rattle.type1.specs.SoundLaws.{zero-good, sound-stable}
 use Rattle.type1.specs.StableLaws.{token-small}
 use Rattle.type1.specs.Reading.{cursorOf, placed, tokOf, left, isRead, isQuick, drawnTo, Draws, ReadsAs, readMem, goesOn, Numbered, Operated, Reads}
-use Rattle.type1.specs.States.{isPop}
 use Rattle.operand_stack.specs.Stack.{operandRefusal}
 use Rattle.operand_stack.specs.Laws.{operands-fit, refusal-above}
 use Rattle.type1.proofs.Depth.{operate-limits, limit-is, allowed-none, allowed-not}

@@ -1,4 +1,4 @@
--- Laws: the limits of a reading beside those of document 01 (document 02, c).
+-- Laws: the limits of a reading beside those of document 01 (document 02, (c)).
 use mathlib.Core.Path.{_≡_, refl, ap}
 use Prim.Native.Nat.{ℕ}
 use mathlib.Core.Bool.{Bool, true, false}
@@ -8,7 +8,7 @@ use Rattle.operand_stack.specs.Stack.{operandRefusal}
 use Rattle.type1.specs.declared.Reading.{Reading}
 use Rattle.type1.specs.Operator.{Operator}
 use Rattle.type1.specs.State.{State}
-use Rattle.type1.specs.States.{isPop}
+use Rattle.type1.specs.Sound.{isPop}
 use Rattle.type1.specs.Strict.{operate-strictly}
 use Rattle.type1.specs.Run.{Limits, within, strictly, limitsOf, Outcome, refused, check, allowed, operate}
 

@@ -19,7 +19,7 @@ use Rattle.type1.specs.Run.{Limits, within, limitsOf, Outcome, going, re
 use Rattle.type1.specs.Memory.{Mem, Holds, Meets, operatorOf, after, withOps, withPs, withCells, withHints, withPath, Told, Takes, Hinted}
 use Rattle.type1.specs.Reading.{withCount}
 use Rattle.type1.specs.Small.{ranOf, closedRan, Space}
-use Rattle.type1.specs.States.{isPop}
+use Rattle.type1.specs.Sound.{isPop}
 use Rattle.type1.proofs.Depth.{operate-limits}
 use Rattle.type1.proofs.Stacks.{cleared-holds}
 use Rattle.type1.proofs.Steps.{bearing-is}

@@ -21,7 +21,7 @@ pub record Ready (t : St) (m : Mem) : Type 0 where
   pub fit : Fit t m
   pub sound : Sound (abs t m)
 
--- the limits of a reading in the lent stores: document 01, numbers 15 to 17; document 02, c
+-- the limits of a reading in the lent stores: document 01, numbers 15 to 17; document 02, (c)
 abbrev pub limitsIn : Reading → Mem → Limits
 limitsIn reading m = limitsOf reading (within (length (m .stems)) (length (m .cmds)))
 

@@ -2,7 +2,7 @@
 use Prim.Native.Nat.{ℕ, zero, suc}
 use native.Mathlib.Nat.{zero-add}
 use mathlib.Core.Path.{_≡_, refl}
-use mathlib.Core.Bool.{true, false}
+use mathlib.Core.Bool.{Bool, true, false}
 use mathlib.Core.List.{List, [], _∷_, _++_}
 use lib.Count.{trailingZeros}
 use lib.IntN.{pos, negsuc}
@@ -15,6 +15,8 @@ use Rattle.type1.specs.Operator.{ofByte, ofEscape}
 use Rattle.type1.specs.Number.{oneByte, twoBytes, twoBytesBelow, fourBytes, token, double}
 use Rattle.outline.specs.Outline.{Command, move, line, curve, flex, Group, isIn, sameStems, lastIs, stemCount, stemOf}
 use Rattle.type1.specs.State.{start}
+use Rattle.type1.specs.Interpret.{sourceOf}
+use Rattle.type1.specs.States.{inCall, inBytes, inLevels, states, anyOver24, holds25}
 use Rattle.type1.specs.Run.{readingOf, strictOf, fontOf, Limits, within, limitsOf, unlimited, Outcome, going, returning, ending, refused, pointAt, push, stem, newGroup, commit, enter, list, moveBy, openSubpath, lineTo, lineBy, curveTo, curveBy, setPoint, backwards, handBack, endFlex, otherSubr0, otherSubr2, otherSubr, callOtherSubr, popD, divD, stems3, operate, charge, named, callBody, callSubr, execute, runBytes, runBody, run}
 
 -- ---- numbers: Adobe Type 1 Font Format, section 6.2
@@ -150,7 +152,7 @@ no-store : result (within 0 0) noBodies (0x8C ∷ 0x16 ∷ []) ≡ refused 17
 unfolding result
 no-store = refl
 
--- ---- document 02, c: T1's own operand stack, of 24
+-- ---- document 02, (c): T1's own operand stack, of 24
 abbrev strict : Limits
 strict = limitsOf (strictOf notEncrypted) (within 0 0)
 
@@ -195,6 +197,30 @@ strict-pop = refl
 present-pop : held (result (within 0 0) noBodies (handed ++ replicate 23 0x8B ++ (0x0C ∷ 0x11 ∷ 0x0C ∷ 0x11 ∷ []))) ≡ 25
 unfolding result
 present-pop = refl
+
+-- ---- whether the present reading's run comes to hold a 25th operand, in a command store of so many words
+over : List ℕ → ℕ → List ℕ → Bool
+unfolding holds25 anyOver24 states inLevels inBytes inCall run charge runBody plain runBytes token ofByte ofEscape execute operate push stem newGroup commit enter list moveBy openSubpath lineTo lineBy curveTo curveBy setPoint backwards handBack endFlex otherSubr0 otherSubr2 otherSubr callOtherSubr popD divD stems3 callSubr callBody named body be16 be32 isIn sameStems lastIs stemCount ofInt add sum div eq lt le toUnsigned toSigned round units odd size climb span trailingZeros
+over bank words l = holds25 (sourceOf l bank) notEncrypted 0 words
+
+-- 24 bytes `8B`, and 25
+over-24 : over noBodies 0 full ≡ false
+unfolding over
+over-24 = refl
+
+over-25 : over noBodies 0 (0x8B ∷ full) ≡ true
+unfolding over
+over-25 = refl
+
+-- within a body, though it clears them: `8B 0A`, subroutine 0 being 25 bytes `8B` and `09`
+over-in-body : over (0 ∷ 1 ∷ 0 ∷ 0 ∷ 0 ∷ 0 ∷ 0 ∷ 0 ∷ 0 ∷ 26 ∷ 0x8B ∷ full ++ (0x09 ∷ [])) 0 (0x8B ∷ 0x0A ∷ []) ≡ true
+unfolding over
+over-in-body = refl
+
+-- not after a refusal: `8C 16` has no room in a store of 0
+over-refused : over noBodies 0 (0x8C ∷ 0x16 ∷ 0x8B ∷ full) ≡ false
+unfolding over
+over-refused = refl
 
 -- ---- "Bytes run", number 3: 1,048,577 bytes, whatever they are
 too-long : (lim : Limits) (bank l : List ℕ) → length l ≡ 1048577 → result lim bank l ≡ refused 3

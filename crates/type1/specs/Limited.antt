@@ -1,4 +1,4 @@
--- Laws: a run with limits is refused by a limit, with 15, 16, 17 or 22, or is the unlimited run. Document 01, numbers 15 to 17; document 02, c, number 22.
+-- Laws: a run with limits is refused by a limit, with 15, 16, 17 or 22, or is the unlimited run. Document 01, numbers 15 to 17; document 02, (c), number 22.
 use Prim.Native.Nat.{ℕ, zero, suc, _+_, _-_, _*_}
 use mathlib.Core.Path.{_≡_, refl, sym, ap, _∙_, subst}
 use mathlib.Core.Logic.{inl, inr}
@@ -75,7 +75,7 @@ at-most false n t = go (eqb n 0)
     go true = tt
     go false = t
 
-pub within-limiting : (records words : ℕ) → Limiting (within records words)
+within-limiting : (records words : ℕ) → Limiting (within records words)
 within-limiting records words = record {
   operands = λ n. at-most (leb n 256) 15 tt;
   postscript = λ n. at-most (leb n 256) 15 tt;

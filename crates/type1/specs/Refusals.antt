@@ -30,7 +30,7 @@ module _ (P R : ℕ → Type 0) where
   pick-number true m n h k = h
   pick-number false m n h k = k
 
-  pub allowed-keeps : (n : ℕ) (o : Outcome) → R n → Keeps P R o → Keeps P R (allowed n o)
+  allowed-keeps : (n : ℕ) (o : Outcome) → R n → Keeps P R o → Keeps P R (allowed n o)
   allowed-keeps n o r h = go (eqb n 0)
     where
       go : (b : Bool) → Keeps P R (check b n o)
@@ -194,7 +194,7 @@ module _ (P R : ℕ → Type 0) where
         unfolding popD
         popD-keeps s q = let l = s .postscript in let k = length l - 1 in check-keeps (ltb 0 (length l)) 11 _ tt (λ t. pushes (getD l k nan) (withPostscript (take k l) s) q)
 
-        pub operate-keeps : (call : Outcome) → Keeps P R call → (o : Operator) (s : State) → Few s → Keeps P R (operate lim call o s)
+        operate-keeps : (call : Outcome) → Keeps P R call → (o : Operator) (s : State) → Few s → Keeps P R (operate lim call o s)
         unfolding operate
         operate-keeps call c o s q = go o
           where
@@ -265,7 +265,7 @@ module _ (P R : ℕ → Type 0) where
         runBody-keeps f zero l s q = steps 4 tt
         runBody-keeps f (suc n) l s q = runBytes-keeps (execute lim f (runBody lim f n)) (execute-keeps f (runBody lim f n) (runBody-keeps f n)) (plain (f .lenIV) l) 0 s q
 
-        pub run-keeps : (f : Font) (l : List ℕ) (s : State) → Few s → Keeps P R (run lim f l s)
+        run-keeps : (f : Font) (l : List ℕ) (s : State) → Few s → Keeps P R (run lim f l s)
         unfolding run
         run-keeps f l s q = charged-keeps (runBody lim f _) l (runBody-keeps f _ l) s q
 

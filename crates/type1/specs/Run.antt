@@ -18,6 +18,7 @@ use Rattle.type1.specs.Operator.{Operator}
 use Rattle.type1.specs.Number.{Token, cut, number, operator, token, double}
 use Rattle.outline.specs.Store.{entryWords}
 use Rattle.hints.specs.Hints.{atMost, groupRefusal}
+use Rattle.operand_stack.specs.Stack.{operandRefusal}
 use Rattle.outline.specs.Outline.{Command, move, line, curve, flex, plusZero, origin, isIn, lastIs, stemCount, pick, stemOf}
 use Rattle.type1.specs.State.{State, withOperands, withPostscript, withPoint, withBearing, withOpen, withFlex, withHints, settled, withDrawn, withDivided, withRan}
 
@@ -33,11 +34,11 @@ pub record Limits : Type 0 where
 
 -- document 01's numbers 15 to 17: 256 operands, 256 on the PostScript stack, 256 stems in force, 256 groups, and the lent stores, of so many records and words, 14 words to an entry
 abbrev pub within : ℕ → ℕ → Limits
-within records words = record { operands = atMost 256 15; postscript = atMost 256 15; hints = atMost 256 16; groups = atMost 256 16; stems = atMost records 16; commands = λ n. atMost words 17 (entryWords * n) }
+within records words = record { operands = operandRefusal false; postscript = atMost 256 15; hints = atMost 256 16; groups = atMost 256 16; stems = atMost records 16; commands = λ n. atMost words 17 (entryWords * n) }
 
--- T1's own operand stack (chapter 6; document 02, c): 24 operands fit, and a 25th is refused with 22
+-- T1's own operand stack (chapter 6; document 02, (c)): 24 operands fit, and a 25th is refused with 22
 abbrev pub strictly : Limits → Limits
-strictly lim = record { operands = atMost 24 22; postscript = lim .postscript; hints = lim .hints; groups = lim .groups; stems = lim .stems; commands = lim .commands }
+strictly lim = record { operands = operandRefusal true; postscript = lim .postscript; hints = lim .hints; groups = lim .groups; stems = lim .stems; commands = lim .commands }
 
 -- the limits of a reading
 abbrev pub limitsOf : Reading → Limits → Limits
@@ -84,7 +85,7 @@ without k s = withOperands (take (length (s .operands) - k) (s .operands)) s
 abbrev pub needs : ℕ → State → Outcome → Outcome
 needs n s o = check (leb n (length (s .operands))) 7 o
 
--- one operand more; a 257th is refused with 15
+-- one operand more, or the number that the limit answers
 unfoldable pub push : Limits → Float → State → Outcome
 push lim v s = allowed (lim .operands (length (s .operands) + 1)) (going (withOperands (s .operands ++ (v ∷ [])) s))
 
@@ -238,7 +239,7 @@ callOtherSubr lim s =
 
 -- ---- operators
 
--- 12 17: what was left last; with nothing left it is refused with 11
+-- 12 17: what was left last; with nothing left it is refused with 11, before the limit of operands is asked
 unfoldable pub popD : Limits → State → Outcome
 popD lim s = check (ltb 0 (length (s .postscript))) 11 (push lim (getD (s .postscript) (length (s .postscript) - 1) nan) (withPostscript (take (length (s .postscript) - 1) (s .postscript)) s))
 
@@ -296,7 +297,7 @@ operate lim call op.unknown s = refused 6
 abbrev pub readingOf : ℕ → Reading
 readingOf lenIV = record { «len_iv» = lenIV; strict = false }
 
--- the strict reading (document 02, c)
+-- the strict reading (document 02, (c))
 abbrev pub strictOf : ℕ → Reading
 strictOf lenIV = record { «len_iv» = lenIV; strict = true }
 

@@ -18,6 +18,7 @@ use Rattle.type1.specs.Number.{Token, cut, number, operator, double}
 use Rattle.outline.specs.Outline.{Command, move, line, curve, flex, Group, plusZero}
 use Rattle.type1.specs.State.{State, withRan}
 use Rattle.type1.specs.Memory.{Good}
+use Rattle.type1.specs.Operator as op
 use Rattle.type1.specs.Operator.{Operator}
 use Rattle.type1.specs.Run.{Limits, Outcome, going, returning, ending, refused, without, push, operate}
 
@@ -130,7 +131,7 @@ abbrev pub ByteBody : Option (List ℕ) → Type 0
 ByteBody none = Unit {0}
 ByteBody (some l) = Bytes l
 
--- ---- what limits refuse with: document 01, numbers 15 to 17; document 02, c, number 22
+-- ---- what limits refuse with: document 01, numbers 15 to 17; document 02, (c), number 22
 abbrev pub isLimit : ℕ → Bool
 isLimit n = (leb 15 n && leb n 17) || eqb n 22
 
@@ -150,7 +151,36 @@ pub record Limiting (lim : Limits) : Type 0 where
 abbrev pub LimitOr : Outcome → Outcome → Type 0
 LimitOr o p = ((n : ℕ) × (o ≡ refused n) × T (isLimit n)) ⊎ (o ≡ p)
 
--- ---- what steps refuse with: document 01, numbers 3 to 12 and 14
+-- ---- the operator that pushes
+abbrev pub isPop : Operator → Bool
+isPop op.hstem = false
+isPop op.vstem = false
+isPop op.vmoveto = false
+isPop op.rlineto = false
+isPop op.hlineto = false
+isPop op.vlineto = false
+isPop op.rrcurveto = false
+isPop op.closepath = false
+isPop op.callsubr = false
+isPop op.return = false
+isPop op.hsbw = false
+isPop op.endchar = false
+isPop op.rmoveto = false
+isPop op.hmoveto = false
+isPop op.vhcurveto = false
+isPop op.hvcurveto = false
+isPop op.dotsection = false
+isPop op.vstem3 = false
+isPop op.hstem3 = false
+isPop op.seac = false
+isPop op.sbw = false
+isPop op.div = false
+isPop op.callothersubr = false
+isPop op.pop = true
+isPop op.setcurrentpoint = false
+isPop op.unknown = false
+
+-- ---- what steps refuse with: document 01, numbers 3 to 14, of which 13 is no step's
 abbrev pub isStep : ℕ → Bool
 isStep n = leb 3 n && leb n 14
 

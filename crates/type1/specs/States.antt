@@ -1,4 +1,4 @@
--- Definitions: the states that a run goes through, and whether it comes to hold a 25th operand. Document 01, "Type 1 run"; document 02, c: "24 operands fit, a 25th ends the run".
+-- Definitions: the states that a run goes through, and whether it comes to hold a 25th operand. Document 01, "Type 1 run"; document 02, (c): "24 operands fit, a 25th ends the run".
 use Prim.Native.Nat.{ℕ, zero, suc}
 use mathlib.Core.Bool.{Bool, true, false, _||_}
 use mathlib.Core.List.{List, [], _∷_, _++_}
@@ -7,12 +7,11 @@ use lib.Dec.{leb, ltb}
 use lib.ListN.{length}
 use Rattle.charstring.specs.Cipher.{plain}
 use Rattle.outline.specs.Outline.{pick}
-use Rattle.type1.specs.declared.Reading.{Reading}
 use Rattle.type1.specs.Operator as op
 use Rattle.type1.specs.Operator.{Operator}
 use Rattle.type1.specs.Number.{Token, cut, number, operator, token, double}
 use Rattle.type1.specs.State.{State, start}
-use Rattle.type1.specs.Run.{Limits, within, Outcome, going, returning, ending, refused, top, without, push, Font, fontOf, charge, named, execute, runBody}
+use Rattle.type1.specs.Run.{Limits, within, limitsOf, readingOf, Outcome, going, returning, ending, refused, top, without, push, Font, fontOf, charge, named, execute, runBody}
 use Rattle.type1.specs.Interpret.{Source}
 
 -- ---- after each number and each operator, and within a body after each of its own
@@ -63,34 +62,6 @@ isCall op.pop = false
 isCall op.setcurrentpoint = false
 isCall op.unknown = false
 
-abbrev pub isPop : Operator → Bool
-isPop op.hstem = false
-isPop op.vstem = false
-isPop op.vmoveto = false
-isPop op.rlineto = false
-isPop op.hlineto = false
-isPop op.vlineto = false
-isPop op.rrcurveto = false
-isPop op.closepath = false
-isPop op.callsubr = false
-isPop op.return = false
-isPop op.hsbw = false
-isPop op.endchar = false
-isPop op.rmoveto = false
-isPop op.hmoveto = false
-isPop op.vhcurveto = false
-isPop op.hvcurveto = false
-isPop op.dotsection = false
-isPop op.vstem3 = false
-isPop op.hstem3 = false
-isPop op.seac = false
-isPop op.sbw = false
-isPop op.div = false
-isPop op.callothersubr = false
-isPop op.pop = true
-isPop op.setcurrentpoint = false
-isPop op.unknown = false
-
 -- those of the body that an operator runs: callsubr's alone
 unfoldable pub inCall : Font → (List ℕ → State → List State) → Operator → State → List State
 inCall f deep o s = pick (isCall o) (pick (leb 1 (length (s .operands))) (inBody deep (named f (top 1 s)) (without 1 s)) []) []
@@ -116,16 +87,16 @@ unfoldable pub states : Limits → Font → List ℕ → State → List State
 states lim f l s = counted (charge l s) (inLevels lim f 11 l)
 
 -- ---- a 25th operand
-abbrev pub isDeep : State → Bool
-isDeep s = ltb 24 (length (s .operands))
+abbrev pub isOver24 : State → Bool
+isOver24 s = ltb 24 (length (s .operands))
 
-unfoldable pub anyDeep : List State → Bool
-anyDeep [] = false
-anyDeep (s ∷ l) = isDeep s || anyDeep l
+unfoldable pub anyOver24 : List State → Bool
+anyOver24 [] = false
+anyOver24 (s ∷ l) = isOver24 s || anyOver24 l
 
 -- the present reading's run of a source, in stores of so many records and words, comes to hold one
 unfoldable pub holds25 : Source → ℕ → ℕ → ℕ → Bool
-holds25 x lenIV records words = anyDeep (states (within records words) (record { bank = x .bank; lenIV = lenIV }) (x .charstring) start)
+holds25 x lenIV records words = anyOver24 (states (limitsOf (readingOf lenIV) (within records words)) (fontOf (x .bank) (readingOf lenIV)) (x .charstring) start)
 
 -- ---- limits with room for any number on the PostScript stack
 abbrev pub anyPostscript : Limits → Limits

@@ -56,6 +56,9 @@ module _ (k : ℕ) (range : eqb 13 k ≡ false) (space : eqb 18 k ≡ false) whe
   unfolding finish
   finish-other width program p room = numbers-other (first (widthFor width p)) room (λ left. put left program (λ j. wrote [])) (λ left. put-other left program (λ j. wrote []) (λ j. tt))
 
+  pub finish-not : (width : Float) (program : List ℕ) (p : Widths) (room : ℕ) → finish width program p room ≡ refused k → ⊥
+  finish-not width program p room e = subst Other e (finish-other width program p room) refl
+
   -- nor 14
   module _ (fold : eqb 14 k ≡ false) where
     abbrev Apart : Conversion → Type 0
@@ -81,4 +84,4 @@ pub folded-nonzero : (m : Matrix) (room : ℕ) (s : State) → folded m room s �
 folded-nonzero = folded-not 0 refl refl refl
 
 pub finish-nonzero : (width : Float) (program : List ℕ) (p : Widths) (room : ℕ) → finish width program p room ≡ refused 0 → ⊥
-finish-nonzero width program p room e = subst (Other 0 refl refl) e (finish-other 0 refl refl width program p room) refl
+finish-nonzero = finish-not 0 refl refl

@@ -1,4 +1,4 @@
--- Laws: converting in the strict reading (document 02, c), of every source, lenIV, matrix and rooms.
+-- Laws: converting in the strict reading (document 02, (c)), of every source, lenIV, matrix and rooms.
 --     convert-strict     it is refused with 22, or gives what the present reading gives: number, program, width and count
 --     converts-same      a glyph that converts strictly converts to the same glyph
 --     same-left          an answer that is not 22, the output and the stores are the present reading's
