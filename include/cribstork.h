@@ -48,14 +48,14 @@
  * input (bench/stack.sh has both).
  *
  *   function                    measured   bound
- *   cribstork_convert             20,888  20,888
+ *   cribstork_convert             21,272  21,272
  *   cribstork_finish                 136     136
- *   cribstork_convert_finished    21,000  21,000
+ *   cribstork_convert_finished    21,384  21,384
  *   cribstork_box                    376     376
  *   cribstork_choose_widths        3,960   4,032
  *   cribstork_decrypt                 56      56
  *
- * Reserve 24 KiB for a call, which is 3,576 bytes over the largest. What interrupts take comes on top, and a handler on
+ * Reserve 24 KiB for a call, which is 3,192 bytes over the largest. What interrupts take comes on top, and a handler on
  * the same stack leaves the 128 bytes below the stack pointer as they are (the red zone; 120 of them are used). No
  * function tests how much stack is left: that it returns is proved of a machine that has enough.
  *
