@@ -58,7 +58,7 @@ module _ (x : Source) (lenIV : ℕ) (m : Matrix) (p : Widths) (r : Rooms) (room 
   finished-22 f v d = ap (finished p room) (convert-22 x lenIV m r f v d)
 
   -- and nowhere else: finishing has no 22
-  number : Conversion → ℕ
+  abbrev number : Conversion → ℕ
   number y = answer y .number
 
   not-written : (g : Glyph) (w : Written) → finish (g .width) (g .program) p room ≡ w → writes (withProgram g) w ≡ refused 22 → ⊥

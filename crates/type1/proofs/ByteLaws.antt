@@ -6,12 +6,11 @@ use native.Mathlib.Omega.{arith}
 use mathlib.Core.Bool.{Bool, true, false, cond, true≢false}
 use mathlib.Core.List.{List, [], _∷_, _++_}
 use mathlib.Core.Option.{Option, none, some}
-use borrow.Author.Tests.{lt-ltb, le-ltb, ne-eqb, le-leb, lt-leb, eqb-true, eqb-false}
-use lib.Dec.{T, eqb, ltb, leb, lit≤}
+use borrow.Author.Tests.{lt-ltb, le-ltb, ne-eqb, eqb-true, eqb-false}
+use lib.Dec.{T, eqb, ltb, lit≤}
 use lib.IntN.{ℤ}
 use lib.ListN.{length, getD, take, drop, set, replicate, length-set, length-take}
 use lib.Seq.{take-suc-set}
-use lib.Arith.{lt-of-le-ne}
 use lib.Ieee.{Float}
 use Rattle.charstring.specs.Cipher.{Bytes, step, byteOf}
 use Rattle.charstring.specs.Cursor.{after, byteAt, rest}
@@ -28,7 +27,7 @@ use Rattle.type1.specs.Number.{Token, cut, number, operator, token, toke
 use Rattle.geometry.specs.declared.Point.{Point}
 use Rattle.outline.specs.Outline.{pick, origin}
 use Rattle.type1.specs.State.{State, withOperands, withOpen}
-use Rattle.type1.specs.Run.{Limits, within, limitsOf, Outcome, allowed, going, returning, ending, refused, andThen, check, push, consume, operate, runBytes}
+use Rattle.type1.specs.Run.{Limits, within, limitsOf, Outcome, allowed, going, returning, ending, refused, andThen, push, consume, operate, runBytes}
 use Rattle.type1.specs.Memory.{Mem, flexHeld, abs, Fit, Holds, Good, Meets, operatorOf}
 use Rattle.type1.specs.Small.{ranOf, withOpened}
 use Rattle.type1.specs.Sound.{isPop, All, OfFlex, GoodPoint, Sound, SoundOut, SmallToken}

@@ -306,10 +306,11 @@ fn pop(st: St, ops: &mut [f64; 256], ps: &[f64; 256], reading: Reading) -> Ran
 {
     let p = st.postscript;
     let n = st.operands;
+    let strict = reading.strict;
     if p == 0 {
         return made(st, 11);
     }
-    let over = operand_stack::refusal(n, reading.strict);
+    let over = operand_stack::refusal(n, strict);
     if over != 0 {
         return made(st, over);
     }

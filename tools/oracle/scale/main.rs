@@ -112,11 +112,15 @@ impl Worker<'_> {
 
     pub fn report(&mut self, text: &str) {
         self.tally.cases += 1;
-        self.tally.different += 1;
-        println!("DIFFERENT, case {}: {text}", self.tally.cases);
+        self.say(text);
     }
 
-    /// A case in both readings.
+    fn say(&mut self, text: &str) {
+        self.tally.different += 1;
+        println!("DIFFERENT, this worker's case {}: {text}", self.tally.cases);
+    }
+
+    /// A case in both readings, counted once.
     pub fn compare(&mut self, case: &Case, outcome: &case::Outcome) {
         for strict in [false, true] {
             let expected = case.expected(outcome, strict);
@@ -126,7 +130,8 @@ impl Worker<'_> {
                 Err(why) => {
                     let small = case.smallest(&mut self.lent, strict);
                     let of_small = self.lent.differs(&small, strict).unwrap_or_default();
-                    self.report(&format!(
+                    self.tally.cases += u64::from(!strict);
+                    self.say(&format!(
                         "{why}; the smallest case found: {of_small}\n{}",
                         small.describe(strict)
                     ));

@@ -593,8 +593,8 @@ fn converting(r: &mut Random, to: &mut Vectors, mut seen: impl FnMut(&Input, &Ma
     }
 }
 
-/// The answer in the strict reading, with ample room or less: 22 where the Rust's run, up to its end or its refusal, comes
-/// to hold a 25th operand, or the number of a store that is full before; else the Rust's.
+/// The answer in the strict reading, with ample room or less: 22 where the Rust's run comes to hold a 25th operand before
+/// it ends, is refused or fills a store; the number of that store; else the Rust's.
 fn strict_answer(input: &Input, m: &Matrix, rooms: Rooms) -> Option<Answer> {
     let lent = oracle::Lent {
         records: RECORDS,
