@@ -570,7 +570,7 @@ def read(path):
 def ask(options):
     """The table and the messages of the command."""
     need = ["--need", options.need] if options.need else []
-    ran = subprocess.run([options.cribstork, "--banks", options.banks] + need + options.font,
+    ran = subprocess.run([options.cribstork, "--banks", options.banks] + need + ["--strict"] * options.strict + options.font,
                          stdout=subprocess.PIPE, stderr=subprocess.PIPE)
     sys.stderr.buffer.write(ran.stderr)
     return ran.stdout.decode("latin-1"), ran.stderr.decode("latin-1")
@@ -581,6 +581,7 @@ def main():
     p.add_argument("--cribstork", default="target/bin/cribstork", metavar="PROGRAM", help="the program (default: %(default)s)")
     p.add_argument("--banks", metavar="BANKS", help="the banks")
     p.add_argument("--need", metavar="LABEL", help="the glyphs that the label needs")
+    p.add_argument("--strict", action="store_true", help="the strict reading for banks that do not say how they read")
     p.add_argument("--table", metavar="ROWS", help="what the command printed; the program is not run")
     p.add_argument("--messages", metavar="LINES", help="with --table: what the command said on standard error")
     p.add_argument("font", nargs="*", metavar="FONT")
