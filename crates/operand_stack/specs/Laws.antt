@@ -1,15 +1,16 @@
--- Laws: what one operand more is refused with.
-use mathlib.Core.Path.{_≡_, refl, sym, ap, _∙_}
+-- Laws: what a refusal of an operand says, and what it says that there is none.
+use mathlib.Core.Path.{_≡_, refl, sym, ap, ap₂, _∙_}
 use Prim.Native.Nat.{ℕ, _+_, _≤_, _<_}
+use native.Mathlib.Nat.{pos-of-ne-zero}
 use native.Mathlib.Omega.{arith}
-use mathlib.Core.Bool.{Bool, true, false}
-use lib.Dec.{leb, leb→le, lit≤}
-use borrow.Author.Tests.{le-leb, lt-leb}
+use mathlib.Core.Bool.{Bool, true, false, true≢false}
+use lib.Dec.{leb, eqb, leb→le, lit≤}
+use borrow.Author.Tests.{ne-eqb, eqb-false, le-leb, lt-leb}
 use Rattle.hints.specs.Hints.{atMost}
 use Rattle.outline.specs.Outline.{pick}
-use Rattle.operand_stack.specs.Stack.{depthOf, overflowOf, operandRefusal}
+use Rattle.operand_stack.specs.Stack.{depthOf, overflowOf, operandRefusal, numberIf, firstRefusal}
 
--- below the depth there is room, at it there is none
+-- ---- one operand more
 pub has-room : (strict : Bool) (n d : ℕ) → d ≡ depthOf strict → n < d → 0 ≡ operandRefusal strict (n + 1)
 has-room strict n d e h = sym (ap (λ (b : Bool). pick b 0 (overflowOf strict)) (le-leb (n + 1) (depthOf strict) (omega (arith, e, h))))
 
@@ -36,3 +37,34 @@ refusal-is false k h f = h
 pub refusal-above : (strict : Bool) (n : ℕ) → (operandRefusal strict n ≡ 0 → ⊥) → 3 ≤ operandRefusal strict n
 refusal-above true n = refusal-is (leb n 24) 22 (lit≤ tt)
 refusal-above false n = refusal-is (leb n 256) 15 (lit≤ tt)
+
+-- ---- the first of two refusals
+pub first-taken : (a b : ℕ) → (a ≡ 0 → ⊥) → a ≡ firstRefusal a b
+first-taken a b h = sym (ap (λ (t : Bool). pick t b a) (ne-eqb a 0 h))
+
+pub first-left : (a b : ℕ) → a ≡ 0 → b ≡ firstRefusal a b
+first-left a b e = sym (ap (λ (k : ℕ). pick (eqb k 0) b a) e)
+
+pub refused-by : (f a b x y : ℕ) → f ≡ firstRefusal a b → a ≡ x → b ≡ y → f ≡ firstRefusal x y
+refused-by f a b x y p q r = p ∙ ap₂ firstRefusal q r
+
+-- of which the first is k where c
+pub first-is : (c : Bool) (k g : ℕ) → c ≡ true → (k ≡ 0 → ⊥) → firstRefusal (numberIf c k) g ≡ k
+first-is true k g e h = ap (λ (b : Bool). pick b g k) (ne-eqb k 0 h)
+first-is false k g e h = absurd (true≢false (sym e))
+
+pub second-is : (c : Bool) (k g : ℕ) → c ≡ false → firstRefusal (numberIf c k) g ≡ g
+second-is true k g e = absurd (true≢false e)
+second-is false k g e = refl
+
+pub none-refused : (c : Bool) (k g : ℕ) → (k ≡ 0 → ⊥) → firstRefusal (numberIf c k) g ≡ 0 → (c ≡ false) × (g ≡ 0)
+none-refused true k g h e = absurd (h (sym (first-is true k g refl h) ∙ e))
+none-refused false k g h e = (refl, e)
+
+-- there is room for one operand more
+pub room-left : (strict : Bool) (n k f : ℕ) (c : Bool) → (k ≡ 0 → ⊥) → f ≡ firstRefusal (numberIf c k) (operandRefusal strict (n + 1)) → f ≡ 0 → n < 256
+room-left strict n k f c h e z = let fits = operands-fit strict (n + 1) (none-refused c k (operandRefusal strict (n + 1)) h (sym e ∙ z) .1) in omega (arith, fits)
+
+-- p is not 0
+pub some-left : (p k g f : ℕ) → (k ≡ 0 → ⊥) → f ≡ firstRefusal (numberIf (eqb p 0) k) g → f ≡ 0 → 1 ≤ p
+some-left p k g f h e z = pos-of-ne-zero (eqb-false p 0 (none-refused (eqb p 0) k g h (sym e ∙ z) .0))

@@ -1,7 +1,7 @@
-// The operand stack: what one operand more is refused with.
+// The operand stack: what one operand more is refused with, and which of two refusals comes first.
 ghost use mathlib.Core.Path.{_≡_};
 ghost use Prim.Native.Nat.{_+_};
-ghost use Rattle.operand_stack.specs.Stack.{depthOf, overflowOf, operandRefusal};
+ghost use Rattle.operand_stack.specs.Stack.{depthOf, overflowOf, operandRefusal, numberIf, firstRefusal};
 
 // How many operands fit.
 fn depth(strict: bool) -> usize
@@ -26,4 +26,18 @@ pub fn refusal(held: usize, strict: bool) -> u8
     } else {
         overflow(strict)
     }
+}
+
+// A number where something is refused, or 0.
+pub fn number_if(refused: bool, number: u8) -> u8
+    ensures { λ r. ⌜ r ≡ numberIf refused number ⌝ }
+{
+    if refused { number } else { 0 }
+}
+
+// The first of two refusals, of which each may be 0.
+pub fn first(a: u8, b: u8) -> u8
+    ensures { λ r. ⌜ r ≡ firstRefusal a b ⌝ }
+{
+    if a != 0 { a } else { b }
 }

@@ -6,11 +6,12 @@ use native.Mathlib.Omega.{arith}
 use mathlib.Core.Bool.{Bool, true, false, cond, true≢false}
 use mathlib.Core.List.{List, [], _∷_, _++_}
 use mathlib.Core.Option.{Option, none, some}
-use borrow.Author.Tests.{lt-ltb, le-ltb, ne-eqb, eqb-true, eqb-false}
-use lib.Dec.{T, eqb, ltb, lit≤}
+use borrow.Author.Tests.{lt-ltb, le-ltb, ne-eqb, le-leb, lt-leb, eqb-true, eqb-false}
+use lib.Dec.{T, eqb, ltb, leb, lit≤}
 use lib.IntN.{ℤ}
 use lib.ListN.{length, getD, take, drop, set, replicate, length-set, length-take}
 use lib.Seq.{take-suc-set}
+use lib.Arith.{lt-of-le-ne}
 use lib.Ieee.{Float}
 use Rattle.charstring.specs.Cipher.{Bytes, step, byteOf}
 use Rattle.charstring.specs.Cursor.{after, byteAt, rest}
@@ -27,15 +28,15 @@ use Rattle.type1.specs.Number.{Token, cut, number, operator, token, toke
 use Rattle.geometry.specs.declared.Point.{Point}
 use Rattle.outline.specs.Outline.{pick, origin}
 use Rattle.type1.specs.State.{State, withOperands, withOpen}
-use Rattle.type1.specs.Run.{Limits, within, limitsOf, Outcome, allowed, going, returning, ending, refused, andThen, push, consume, operate, runBytes}
+use Rattle.type1.specs.Run.{Limits, within, limitsOf, Outcome, allowed, going, returning, ending, refused, andThen, check, push, consume, operate, runBytes}
 use Rattle.type1.specs.Memory.{Mem, flexHeld, abs, Fit, Holds, Good, Meets, operatorOf}
 use Rattle.type1.specs.Small.{ranOf, withOpened}
 use Rattle.type1.specs.Sound.{isPop, All, OfFlex, GoodPoint, Sound, SoundOut, SmallToken}
 use Rattle.type1.specs.SoundLaws.{zero-good, sound-stable}
 use Rattle.type1.specs.StableLaws.{token-small}
 use Rattle.type1.specs.Reading.{cursorOf, placed, tokOf, left, isRead, isQuick, drawnTo, Draws, ReadsAs, readMem, goesOn, Numbered, Operated, Reads}
-use Rattle.operand_stack.specs.Stack.{operandRefusal}
-use Rattle.operand_stack.specs.Laws.{operands-fit, refusal-above}
+use Rattle.operand_stack.specs.Stack.{operandRefusal, numberIf, firstRefusal}
+use Rattle.operand_stack.specs.Laws.{operands-fit, refusal-above, first-is, second-is, none-refused}
 use Rattle.type1.proofs.Depth.{operate-limits, limit-is, allowed-none, allowed-not}
 use Rattle.type1.proofs.Stacks.{operands-are, holds-itself}
 
@@ -417,33 +418,39 @@ module _ (reading : Reading) (code : List ℕ) (from start : ℕ) (e : Bool) (st
           → consume (limits m) f (number j z) s (runBytes (limits m) f after-it) ≡ andThen (allowed (operandRefusal (reading .strict) (n + 1)) (going (withOperands (take n ops ++ (r .x ∷ [])) s))) (runBytes (limits m) f after-it j)
       pushing m f s H j z eq = ap (λ (a : Outcome). andThen a (runBytes (limits m) f after-it j)) (push-is m s H z eq)
 
-      -- a cut number
-      pub at-cut : (u : St) (t : Tok) → r .cut ≡ true → u ≡ here → t ≡ tokOf u (i + 1) k′ 5 0 → Reads reading code from start e st ops₀ cmds₀ t ops cmds
-      at-cut u t z eu et = subst (λ (a : Tok). Reads reading code from start e st ops₀ cmds₀ a ops cmds) (sym (et ∙ ap (λ (a : St). tokOf a (i + 1) k′ 5 0) eu)) (record {
-        fit = G .fit;
-        sound = G .sound;
-        same = λ m s H. let (u, K, is) = G .same m s H in (u, K, λ f w. is f w ∙ next m f u ∙ ap (λ (a : Token). consume (limits m) f a u (runBytes (limits m) f after-it)) (N .cut z));
-        on = (let b = G .on in omega arith);
-        whole = G .whole;
-        number = λ a b. lit≤ tt;
-      })
+      -- what a number is refused with
+      abbrev number-refusal : ℕ
+      number-refusal = firstRefusal (numberIf (r .cut) 5) (operandRefusal (reading .strict) (n + 1))
 
-      -- a number that does not fit
-      pub at-full : (u : St) (t : Tok) (f : ℕ) → r .cut ≡ false → f ≡ operandRefusal (reading .strict) (n + 1) → (f ≡ 0 → ⊥) → u ≡ here → t ≡ tokOf u (i + 1) k′ f 0 → Reads reading code from start e st ops₀ cmds₀ t ops cmds
-      at-full u t f z ef nf eu et =
-          let (j, w, tk, is, dr) = N .number z in
-          let above : 3 ≤ f = subst (λ (a : ℕ). 3 ≤ a) (sym ef) (refusal-above (reading .strict) (n + 1) (λ q. nf (ef ∙ q))) in
-          subst (λ (a : Tok). Reads reading code from start e st ops₀ cmds₀ a ops cmds) (sym (et ∙ ap (λ (a : St). tokOf a (i + 1) k′ f 0) eu)) (record {
+      abbrev Refuses : Type 0
+      Refuses = (3 ≤ number-refusal) × ((m : Mem) (f : Operator → State → Outcome) (s : State) → Holds here (readMem ops cmds m) s → consume (limits m) f (token v after-it) s (runBytes (limits m) f after-it) ≡ refused number-refusal)
+
+      refuses : (number-refusal ≡ 0 → ⊥) → Refuses
+      refuses h = go (r .cut) refl
+        where
+          go : (c : Bool) → r .cut ≡ c → Refuses
+          go true z = let five = first-is (r .cut) 5 (operandRefusal (reading .strict) (n + 1)) z (λ q. let w : ⊥ = omega (arith, q) in w) in (
+            subst (λ (a : ℕ). 3 ≤ a) (sym five) (lit≤ tt),
+            λ m f s H. ap (λ (a : Token). consume (limits m) f a s (runBytes (limits m) f after-it)) (N .cut z) ∙ ap refused (sym five),
+          )
+          go false z =
+              let (j, w, tk, is, dr) = N .number z in
+              let full = second-is (r .cut) 5 (operandRefusal (reading .strict) (n + 1)) z in
+              let over : operandRefusal (reading .strict) (n + 1) ≡ 0 → ⊥ = λ q. h (full ∙ q) in (
+                subst (λ (a : ℕ). 3 ≤ a) (sym full) (refusal-above (reading .strict) (n + 1) over),
+                λ m f s H.
+                    ap (λ (a : Token). consume (limits m) f a s (runBytes (limits m) f after-it)) tk ∙ pushing m f s H j w is
+                    ∙ ap (λ (a : Outcome). andThen a (runBytes (limits m) f after-it j)) (allowed-not (operandRefusal (reading .strict) (n + 1)) _ over) ∙ ap refused (sym full),
+              )
+
+      -- a number that is cut, or does not fit
+      pub at-refused : (u : St) (t : Tok) (f : ℕ) → f ≡ number-refusal → (f ≡ 0 → ⊥) → u ≡ here → t ≡ tokOf u (i + 1) k′ f 0 → Reads reading code from start e st ops₀ cmds₀ t ops cmds
+      at-refused u t f ef nf eu et =
+          let (above, is) = refuses (λ q. nf (ef ∙ q)) in
+          subst (λ (a : Tok). Reads reading code from start e st ops₀ cmds₀ a ops cmds) (sym (et ∙ ap (λ (a : St). tokOf a (i + 1) k′ f 0) eu ∙ ap (λ (a : ℕ). tokOf here (i + 1) k′ a 0) ef)) (record {
             fit = G .fit;
             sound = G .sound;
-            same = λ m s H.
-                let (v, K, all) = G .same m s H in (
-                  v,
-                  K,
-                  λ g W.
-                      all g W ∙ next m g v ∙ ap (λ (a : Token). consume (limits m) g a v (runBytes (limits m) g after-it)) tk ∙ pushing m g v K j w is
-                      ∙ ap (λ (a : Outcome). andThen a (runBytes (limits m) g after-it j)) (ap (λ (a : ℕ). allowed a (going (withOperands (take n ops ++ (r .x ∷ [])) v))) (sym ef) ∙ allowed-not f _ nf) ∙ sym (refusal-flow f _ (going v) (refused f) above),
-                );
+            same = λ m s H. let (u, K, all) = G .same m s H in (u, K, λ g w. all g w ∙ next m g u ∙ is m g u K ∙ sym (refusal-flow number-refusal _ (going u) (refused number-refusal) above));
             on = (let b = G .on in omega arith);
             whole = G .whole;
             number = λ a b. above;
@@ -476,15 +483,15 @@ module _ (reading : Reading) (code : List ℕ) (from start : ℕ) (e : Bool) (st
             fit = more-fit m few F;
           }
 
-      pub pushed : (f : ℕ) → r .cut ≡ false → f ≡ operandRefusal (reading .strict) (n + 1) → f ≡ 0 → r .key < 65536 → Going reading code from start e st ops₀ cmds₀ (set ops n (r .x)) cmds (r .next) (r .key) (n + 1) x y k o
-      pushed f z ef nf small =
-          let (j, w, tk, is, dr) = N .number z in
+      pub pushed : (f : ℕ) → f ≡ number-refusal → f ≡ 0 → r .key < 65536 → Going reading code from start e st ops₀ cmds₀ (set ops n (r .x)) cmds (r .next) (r .key) (n + 1) x y k o
+      pushed f ef nf small =
+          let (j, w, tk, is, dr) = N .number (none .0) in
           record {
             fit = λ m F. more-fit m below (G .fit m F);
             sound = λ m F b s.
                 let K = holds-itself here (readMem ops cmds m) (G .fit m F) in
                 held-sound (placed (n + 1) x y k (withOpened o st)) (readMem (set ops n (r .x)) cmds m) (withOperands (take n ops ++ (r .x ∷ [])) (state m)) (more-held m (state m) below K)
-                (subst SoundOut (push-is m (state m) K w is ∙ allowed-none (operandRefusal (reading .strict) (n + 1)) _ fits) (sound-stable (limits m) .number w (subst SmallToken tk (token-small v after-it (byte-here b) (bytes-after b))) (state m) (G .sound m F b s)));
+                (subst SoundOut (push-is m (state m) K w is ∙ allowed-none (operandRefusal (reading .strict) (n + 1)) _ (none .1)) (sound-stable (limits m) .number w (subst SmallToken tk (token-small v after-it (byte-here b) (bytes-after b))) (state m) (G .sound m F b s)));
             same = λ m s H.
                 let (a, K, all) = G .same m s H in
                 let more = withOperands (take n ops ++ (r .x ∷ [])) a in (
@@ -493,7 +500,7 @@ module _ (reading : Reading) (code : List ℕ) (from start : ℕ) (e : Bool) (st
                   λ f W.
                       all f W ∙ next m f a ∙ ap (λ (q : Token). consume (limits m) f q a (runBytes (limits m) f after-it)) tk
                       ∙ pushing m f a K j w is
-                      ∙ ap (λ (q : Outcome). andThen q (runBytes (limits m) f after-it j)) (allowed-none (operandRefusal (reading .strict) (n + 1)) _ fits)
+                      ∙ ap (λ (q : Outcome). andThen q (runBytes (limits m) f after-it j)) (allowed-none (operandRefusal (reading .strict) (n + 1)) _ (none .1))
                       ∙ skip (limits m) f after-it j more
                       ∙ ap (λ (q : List ℕ). runBytes (limits m) f q 0 more) dr,
                 );
@@ -505,11 +512,11 @@ module _ (reading : Reading) (code : List ℕ) (from start : ℕ) (e : Bool) (st
             whole = G .whole;
           }
         where
-          fits : operandRefusal (reading .strict) (n + 1) ≡ 0
-          fits = sym ef ∙ nf
+          none : (r .cut ≡ false) × (operandRefusal (reading .strict) (n + 1) ≡ 0)
+          none = none-refused (r .cut) 5 (operandRefusal (reading .strict) (n + 1)) (λ q. let w : ⊥ = omega (arith, q) in w) (sym ef ∙ nf)
 
           below : n + 1 ≤ 256
-          below = operands-fit (reading .strict) (n + 1) fits
+          below = operands-fit (reading .strict) (n + 1) (none .1)
 
   -- the end of the bytes
   pub at-end : (u : St) (t : Tok) → length code ≤ i → from < length code → u ≡ here → t ≡ tokOf u i key 1 0 → Reads reading code from start e st ops₀ cmds₀ t ops cmds

@@ -7,8 +7,8 @@ use native.Mathlib.Omega.{arith}
 use mathlib.Core.Bool.{Bool, true, false, not, cond}
 use mathlib.Core.List.{List, [], _∷_, _++_, reverse, reverse-cons}
 use mathlib.Core.Option.{Option, none, some}
-use borrow.Author.Tests.{le-leb, lt-leb, leb-true, leb-false, lt-ltb, le-ltb, ltb-true, ltb-false}
-use lib.Dec.{T, leb, ltb, lit≤}
+use borrow.Author.Tests.{le-leb, lt-leb, leb-true, leb-false, lt-ltb, le-ltb, ltb-true, ltb-false, eqb-true, eqb-false}
+use lib.Dec.{T, leb, ltb, eqb, lit≤}
 use lib.ListN.{length, getD, take, drop, set, replicate, length-set, length-append, length-drop, length-reverse, length-replicate}
 use lib.Seq.{getD-set-same, getD-set-other, getD-take, length-take-le, take-take, take-suc-set, take-all, paste, length-paste, take-paste}
 use lib.Ieee.{Float, nan, binary64, eq, div}
@@ -26,8 +26,8 @@ use Rattle.type1.specs.Outcomes.{limit-check}
 use Rattle.type1.specs.Run.{Limits, within, limitsOf, Outcome, going, refused, check, allowed, top, cleared, without, needs, push, popD, divD, backwards, handBack, collected, otherSubr2, pointAt}
 use Rattle.type1.specs.Memory.{Mem, pointsAt, atMostSeven, flexIn, flexHeld, heldOf, abs, Bounds, Fit, Holds, Meets, withOps, withPs, withCells}
 use Rattle.type1.specs.Reading.{withCount}
-use Rattle.operand_stack.specs.Stack.{operandRefusal}
-use Rattle.operand_stack.specs.Laws.{operands-fit, refusal-above}
+use Rattle.operand_stack.specs.Stack.{operandRefusal, numberIf, firstRefusal}
+use Rattle.operand_stack.specs.Laws.{operands-fit, refusal-above, first-is, second-is, none-refused}
 use Rattle.type1.proofs.Depth.{limit-is, allowed-none, allowed-not}
 use Rattle.type1.specs.Small.{ranOf, withXY}
 
@@ -239,7 +239,7 @@ module _ (t : St) (m : Mem) (s : State) (H : Holds t m s) where
     abbrev pushes : Float → List Float → Outcome
     pushes v l = allowed (operandRefusal (reading .strict) (t .operands + 1)) (next v l)
 
-    pub pop-none : (r : Ran) → r ≡ ranOf t 11 → t .postscript ≡ 0 → Meets r m (popD lim s)
+    pop-none : (r : Ran) → r ≡ ranOf t 11 → t .postscript ≡ 0 → Meets r m (popD lim s)
     unfolding popD push
     pop-none r e z = subst (λ (k : Bool). Meets r m (check k 11 (pushed (getD (s .postscript) (length (s .postscript) - 1) nan) (take (length (s .postscript) - 1) (s .postscript))))) (sym (le-ltb 0 (length (s .postscript)) (let n = postscript-count in omega arith))) (ap (λ (q : Ran). q .flow) e, lit≤ tt)
 
@@ -259,14 +259,12 @@ module _ (t : St) (m : Mem) (s : State) (H : Holds t m s) where
           ∙ ap₂ (λ (l : List Float) (n : ℕ). pushes (getD l (n - 1) nan) (take (n - 1) l)) postscript-are postscript-count
           ∙ ap₂ pushes (getD-take (t .postscript) (m .ps) (t .postscript - 1) nan (omega arith)) (take-take (t .postscript - 1) (t .postscript) (m .ps) (omega arith))
 
-      pub pop-full : (r : Ran) (f : ℕ) → f ≡ operandRefusal (reading .strict) (t .operands + 1) → (f ≡ 0 → ⊥) → r ≡ ranOf t f → Meets r m (popD lim s)
-      pop-full r f ef nf e =
-          subst (Meets r m) (sym (pop-is ∙ allowed-not (operandRefusal (reading .strict) (t .operands + 1)) _ (λ q. nf (ef ∙ q)))) (ap (λ (q : Ran). q .flow) e ∙ ef, refusal-above (reading .strict) (t .operands + 1) (λ q. nf (ef ∙ q)))
+      pop-full : (r : Ran) → r ≡ ranOf t (operandRefusal (reading .strict) (t .operands + 1)) → (operandRefusal (reading .strict) (t .operands + 1) ≡ 0 → ⊥) → Meets r m (popD lim s)
+      pop-full r e h = subst (Meets r m) (sym (pop-is ∙ allowed-not (operandRefusal (reading .strict) (t .operands + 1)) _ h)) (ap (λ (q : Ran). q .flow) e, refusal-above (reading .strict) (t .operands + 1) h)
 
-      pub pop-done : (r : Ran) (f : ℕ) → f ≡ operandRefusal (reading .strict) (t .operands + 1) → f ≡ 0 → r ≡ ranOf (popped t) 0 → Meets r (withOps (set (m .ops) (t .operands) (getD (m .ps) (t .postscript - 1) nan)) m) (popD lim s)
+      pop-more : (r : Ran) → r ≡ ranOf (popped t) 0 → operandRefusal (reading .strict) (t .operands + 1) ≡ 0 → Meets r (withOps (set (m .ops) (t .operands) (getD (m .ps) (t .postscript - 1) nan)) m) (popD lim s)
       unfolding abs
-      pop-done r f ef nf e =
-          let z : operandRefusal (reading .strict) (t .operands + 1) ≡ 0 = sym ef ∙ nf in
+      pop-more r e z =
           let F = H .fit in
           let lo = F .ops in
           let lt : t .operands + 1 ≤ 256 = operands-fit (reading .strict) (t .operands + 1) z in
@@ -280,6 +278,24 @@ module _ (t : St) (m : Mem) (s : State) (H : Holds t m s) where
               fit = small-fit t m F _ _ _ _ _ _ _ _ _ _ _ _ _ _ (omega arith) (omega arith) (F .bounds .points) (F .bounds .hints) (F .bounds .ran) (length-set (m .ops) (t .operands) v ∙ F .ops) (F .ps) (F .cells);
             }),
           )
+
+    -- what `pop` is refused with
+    abbrev pop-refusal : ℕ
+    pop-refusal = firstRefusal (numberIf (eqb (t .postscript) 0) 11) (operandRefusal (reading .strict) (t .operands + 1))
+
+    pub pop-refused : (r : Ran) (f : ℕ) → f ≡ pop-refusal → (f ≡ 0 → ⊥) → r ≡ ranOf t f → Meets r m (popD lim s)
+    pop-refused r f ef nf e = go (eqb (t .postscript) 0) refl
+      where
+        go : (c : Bool) → eqb (t .postscript) 0 ≡ c → Meets r m (popD lim s)
+        go true z = pop-none r (e ∙ ap (ranOf t) (ef ∙ first-is (eqb (t .postscript) 0) 11 (operandRefusal (reading .strict) (t .operands + 1)) z (λ q. let w : ⊥ = omega (arith, q) in w))) (eqb-true (t .postscript) 0 z)
+        go false z =
+            let full = ef ∙ second-is (eqb (t .postscript) 0) 11 (operandRefusal (reading .strict) (t .operands + 1)) z in
+            pop-full (eqb-false (t .postscript) 0 z) r (e ∙ ap (ranOf t) full) (λ q. nf (full ∙ q))
+
+    pub pop-done : (r : Ran) (f : ℕ) → f ≡ pop-refusal → f ≡ 0 → r ≡ ranOf (popped t) 0 → Meets r (withOps (set (m .ops) (t .operands) (getD (m .ps) (t .postscript - 1) nan)) m) (popD lim s)
+    pop-done r f ef nf e =
+        let (left, room) = none-refused (eqb (t .postscript) 0) 11 (operandRefusal (reading .strict) (t .operands + 1)) (λ q. let w : ⊥ = omega (arith, q) in w) (sym ef ∙ nf) in
+        pop-more (eqb-false (t .postscript) 0 left) r e room
 
 pub groups-kept : (t : St) (r : Ran) (n : ℕ) → r ≡ ranOf t n → r .st .groups ≡ t .groups
 groups-kept t r n e = ap (λ (q : Ran). q .st .groups) e

@@ -276,14 +276,11 @@ pub(crate) fn token(
         } else {
             let k = charstring::next_key(c, key);
             let w = number_at(code, i + 1, k, encrypted, v);
-            let cut = w.cut;
-            let strict = reading.strict;
-            if cut {
-                return found(place(st, n, x, y, entries, opened), i + 1, k, 5, 0);
-            }
-            let over = operand_stack::refusal(n, strict);
-            if over != 0 {
-                return found(place(st, n, x, y, entries, opened), i + 1, k, over, 0);
+            let cut = operand_stack::number_if(w.cut, 5);
+            let over = operand_stack::refusal(n, reading.strict);
+            let f = operand_stack::first(cut, over);
+            if f != 0 {
+                return found(place(st, n, x, y, entries, opened), i + 1, k, f, 0);
             }
             ops[n] = w.x;
             n += 1;

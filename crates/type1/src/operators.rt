@@ -306,13 +306,11 @@ fn pop(st: St, ops: &mut [f64; 256], ps: &[f64; 256], reading: Reading) -> Ran
 {
     let p = st.postscript;
     let n = st.operands;
-    let strict = reading.strict;
-    if p == 0 {
-        return made(st, 11);
-    }
-    let over = operand_stack::refusal(n, strict);
-    if over != 0 {
-        return made(st, over);
+    let none = operand_stack::number_if(p == 0, 11);
+    let over = operand_stack::refusal(n, reading.strict);
+    let f = operand_stack::first(none, over);
+    if f != 0 {
+        return made(st, f);
     }
     ops[n] = ps[p - 1];
     let mut s = st;

@@ -1,12 +1,12 @@
 -- `type1::bytes::token` meets its contract.
 use native.Mathlib.Omega.{arith}
-use mathlib.Core.Path.{refl, sym, _∙_}
+use mathlib.Core.Path.{refl, _∙_}
 use borrow.Author.Tests.{not-true, not-false}
 use borrow.Author.Needs.{needs}
 use Prim.Native.Nat.{_-_}
 use lib.ListN.{length}
-use Rattle.type1.proofs.ByteLaws.{Going, begins, quick-is, at-operator, listed, closed, at-cut, at-full, pushed, at-end}
-use Rattle.operand_stack.specs.Laws.{operands-fit}
+use Rattle.type1.proofs.ByteLaws.{Going, begins, quick-is, at-operator, listed, closed, at-refused, pushed, at-end}
+use Rattle.operand_stack.specs.Laws.{refused-by, room-left}
 use Rattle.type1.proofs.bytes.token.Statement.{statement}
 use Rattle.type1.proofs.bytes.token.Tie as tie
 
@@ -66,39 +66,31 @@ number-at-requires c κs =
 
 same-length-3 : tie.Need-same-length-3 Inv-loop μ-loop
 same-length-3 c =
-    c .before .before .before .before .before .before .before .before .before .loop .inv .whole
+    c .before .before .before .before .before .before .before .before .before .before .before .before .loop .inv .whole
 
 returns-3 : tie.Need-returns-3 Inv-loop μ-loop
 returns-3 c =
-    at-cut _ _ _ _ _ _ _ _ _ _ _ _ _ _ _ _ _ (c .before .before .before .before .before .before .before .before .before .loop .inv) _ _ _ (search needs) refl (c .before .before .before .before .before .before .byte-of .ensures) (c .before .before .before .before .next-key3 .ensures) _ (c .before .before .before .number-at .ensures) _ _ (c .before .before .if5 .taken) (c .before .place3 .ensures) (c .found .ensures)
-
-same-length-4 : tie.Need-same-length-4 Inv-loop μ-loop
-same-length-4 c =
-    c .before .before .before .before .before .before .before .before .before .before .before .loop .inv .whole
-
-returns-4 : tie.Need-returns-4 Inv-loop μ-loop
-returns-4 c =
-    at-full _ _ _ _ _ _ _ _ _ _ _ _ _ _ _ _ _ (c .before .before .before .before .before .before .before .before .before .before .before .loop .inv) _ _ _ (search needs) refl (c .before .before .before .before .before .before .before .before .byte-of .ensures) (c .before .before .before .before .before .before .next-key3 .ensures) _ (c .before .before .before .before .before .number-at .ensures) _ _ _ (c .before .before .before .before .if5 .left) (c .before .before .before .refusal .ensures) (c .before .before .if6 .taken) (c .before .place4 .ensures) (c .found2 .ensures)
+    at-refused _ _ _ _ _ _ _ _ _ _ _ _ _ _ _ _ _ (c .before .before .before .before .before .before .before .before .before .before .before .before .loop .inv) _ _ _ (search needs) refl (c .before .before .before .before .before .before .before .before .before .byte-of .ensures) (c .before .before .before .before .before .before .before .next-key3 .ensures) _ (c .before .before .before .before .before .before .number-at .ensures) _ _ _ (refused-by _ _ _ _ _ (c .before .before .before .first .ensures) (c .before .before .before .before .before .number-if .ensures) (c .before .before .before .before .refusal .ensures)) (c .before .before .if5 .taken) (c .before .place3 .ensures) (c .found .ensures)
 
 element-write-ops : tie.Need-element-write-ops Inv-loop μ-loop
 element-write-ops c =
-    omega (arith, operands-fit (c .before .before .before .before .before .before .before .before .before .before .before .before .args .reading .strict) _ (sym (c .before .refusal .ensures) ∙ c .if6 .left))
+    room-left (c .before .before .before .before .before .before .before .before .before .before .before .before .before .args .reading .strict) _ 5 _ (c .before .before .before .before .number-at .result .cut) (λ z. let y : ⊥ = omega (arith, z) in y) (refused-by _ _ _ _ _ (c .before .first .ensures) (c .before .before .before .number-if .ensures) (c .before .before .refusal .ensures)) (c .if5 .left)
 
 add-n : tie.Need-add-n Inv-loop μ-loop
 add-n c =
-    omega (arith, c .before .before .before .before .before .before .before .before .before .loop .inv .few)
+    omega (arith, c .before .before .before .before .before .before .before .before .before .before .loop .inv .few)
 
 loop-less-3 : tie.Need-loop-less-3 Inv-loop μ-loop
 loop-less-3 c =
-    omega (arith, c .before .before .before .number-at .ensures .on .0, c .before .before .before .number-at .ensures .on .1)
+    omega (arith, c .before .before .before .before .number-at .ensures .on .0, c .before .before .before .before .number-at .ensures .on .1)
 
 loop-again-3 : tie.Need-loop-again-3 Inv-loop μ-loop
 loop-again-3 c =
-    pushed _ _ _ _ _ _ _ _ _ _ _ _ _ _ _ _ _ (c .before .before .before .before .before .before .before .before .before .loop .inv) _ _ _ (search needs) refl (c .before .before .before .before .before .before .byte-of .ensures) (c .before .before .before .before .next-key3 .ensures) _ (c .before .before .before .number-at .ensures) _ (c .before .before .if5 .left) (c .before .refusal .ensures) (c .if6 .left) (omega arith)
+    pushed _ _ _ _ _ _ _ _ _ _ _ _ _ _ _ _ _ (c .before .before .before .before .before .before .before .before .before .before .loop .inv) _ _ _ (search needs) refl (c .before .before .before .before .before .before .before .byte-of .ensures) (c .before .before .before .before .before .next-key3 .ensures) _ (c .before .before .before .before .number-at .ensures) _ (refused-by _ _ _ _ _ (c .before .first .ensures) (c .before .before .before .number-if .ensures) (c .before .before .refusal .ensures)) (c .if5 .left) (omega arith)
 
-returns-5 : tie.Need-returns-5 Inv-loop μ-loop
-returns-5 c =
-    at-end _ _ _ _ _ _ _ _ _ _ _ _ _ _ _ _ _ (c .before .before .before .loop .inv) _ _ (search needs) (c .before .before .before .before .before .before .pre .0) (c .before .place5 .ensures) (c .found3 .ensures)
+returns-4 : tie.Need-returns-4 Inv-loop μ-loop
+returns-4 c =
+    at-end _ _ _ _ _ _ _ _ _ _ _ _ _ _ _ _ _ (c .before .before .before .loop .inv) _ _ (search needs) (c .before .before .before .before .before .before .pre .0) (c .before .place4 .ensures) (c .found2 .ensures)
 
 pub token-spec : {M : Type 1} → statement M
 token-spec =
@@ -106,6 +98,6 @@ token-spec =
     (tie.spec Inv-loop μ-loop loop-holds (λ c. search needs) (λ c κs. search needs) (λ c κs. search needs) (λ c. omega arith) (λ c. omega arith)
     loop-again (λ c κs. search needs) (λ c κs. search needs) (λ c. omega arith) (λ c κs. search needs) operator-at-requires (λ c. search needs) returns
     draw-requires (λ c. omega arith) (λ c κs. search needs) operator-at-requires-2 same-length-2 returns-2 add-entries (λ c. omega arith)
-    (λ c. omega arith) loop-again-2 (λ c κs. search needs) (λ c. omega arith) number-at-requires (λ c κs. search needs) (λ c. omega arith)
-    (λ c κs. search needs) same-length-3 returns-3 (λ c κs. search needs) (λ c κs. search needs) (λ c. omega arith) (λ c κs. search needs) same-length-4 returns-4
-    (λ c. search needs) element-write-ops add-n loop-less-3 loop-again-3 (λ c κs. search needs) (λ c κs. search needs) (λ c. search needs) returns-5)
+    (λ c. omega arith) loop-again-2 (λ c κs. search needs) (λ c. omega arith) number-at-requires (λ c κs. search needs) (λ c κs. search needs)
+    (λ c κs. search needs) (λ c κs. search needs) (λ c. omega arith) (λ c κs. search needs) same-length-3 returns-3 (λ c. search needs)
+    element-write-ops add-n loop-less-3 loop-again-3 (λ c κs. search needs) (λ c κs. search needs) (λ c. search needs) returns-4)
