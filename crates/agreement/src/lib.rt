@@ -1,4 +1,6 @@
-// Demand 3, and the entry that converts and finishes in one call.
+//! Demand 3, and the entry that converts and finishes in one call.
+#![tactic(auto)]
+
 ghost use Rattle.std.specs.Prelude.{◌≡◌, length, replicate};
 ghost use Rattle.type1.specs.Interpret.{source_of};
 ghost use Rattle.type1_to_type2.specs.Convert.{rooms_of};

@@ -1,4 +1,6 @@
-// The subroutine bank: a check of its layout, where a body lies, and the body that a call names.
+//! The subroutine bank: a check of its layout, where a body lies, and the body that a call names.
+#![tactic(auto)]
+
 ghost use Rattle.std.specs.Prelude.{◌≡◌, ◌+◌, ◌<◌, length};
 ghost use Rattle.bank.specs.Bank.{be16, be32, rises_from, valid, found, bytes_at};
 ghost use Rattle.bank.specs.Call.{max_depth, refused_with, called, refused_before};

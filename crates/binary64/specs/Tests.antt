@@ -142,6 +142,7 @@ level_balance s t a b = (forth s t, back s t)
   where
     pair : (p q : Bool) → T p → T q → T (p && q)
     pair true q x y = y
+    pair false q x y = elim x [ ]
 
     right : (p q : Bool) → T q → T (p || q)
     right true q y = tt
@@ -149,6 +150,8 @@ level_balance s t a b = (forth s t, back s t)
 
     zero_or : (p q : Bool) → (T p → a ≡ b) → (T q → a ≡ 0) → T (p && q) → (a ≡ b) × (a ≡ 0)
     zero_or true true x y u = (x tt, y tt)
+    zero_or false q x y u = elim u [ ]
+    zero_or true false x y u = elim u [ ]
 
     both : T (a == b && (false || a == 0)) → (a ≡ b) × (a ≡ 0)
     both u = zero_or (a == b) (a == 0) (eqb→eq a b) (eqb→eq a 0) u

@@ -1,4 +1,6 @@
-// Rust's `round`, `floor`, `abs`, `is_finite` and the casts to `usize` and `i64`, from plain operations on floats.
+//! Rust's `round`, `floor`, `abs`, `is_finite` and the casts to `usize` and `i64`, from plain operations on floats.
+#![tactic(auto)]
+
 ghost use Rattle.std.specs.Prelude.{◌≡◌, false};
 ghost use Rattle.std.specs.Float.Ieee.{to_unsigned, to_signed};
 ghost use Rattle.std.specs.Float.Ieee.Scale.{finite};

@@ -1,5 +1,7 @@
-// The C interface of the board: each function wraps one entry, has its contract, writes what the entry
-// answers to lent words and returns the number. `include/cribstork.h` declares them.
+//! The C interface of the board: each function wraps one entry, has its contract, writes what the entry
+//! answers to lent words and returns the number. `include/cribstork.h` declares them.
+#![tactic(auto)]
+
 ghost use Rattle.std.specs.Prelude.{◌≡◌, length, replicate, T};
 ghost use Rattle.std.specs.Float.Ieee.Scale.{finite};
 ghost use Rattle.charstring.specs.Charstring.{decrypted, written};

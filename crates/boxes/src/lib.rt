@@ -1,4 +1,6 @@
-// The box of a finished charstring, and how it lies to a window. Document 02, (a).
+//! The box of a finished charstring, and how it lies to a window. Document 02, (a).
+#![tactic(auto)]
+
 ghost use Rattle.std.specs.Prelude.{◌≡◌, ◌≤◌, ◌<◌, min, max, not, ◌&&◌, ◌||◌, cond, length};
 ghost use Rattle.std.proofs.Math.Option.{Option};
 ghost use Rattle.std.specs.Int.Signed.{le_z};

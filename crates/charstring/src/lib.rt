@@ -1,4 +1,6 @@
-// The Type 1 charstring cipher: its key step, a cursor that decrypts as it reads, and a whole charstring decrypted.
+//! The Type 1 charstring cipher: its key step, a cursor that decrypts as it reads, and a whole charstring decrypted.
+#![tactic(auto)]
+
 ghost use Rattle.std.specs.Prelude.{◌≡◌, ◌*◌, ◌%◌, ◌^◌, ◌≤◌, true, length, take};
 ghost use Rattle.charstring.specs.Cipher.{start_key, step, key_part, plain_byte, byte_of, key_after};
 ghost use Rattle.charstring.specs.Cursor.{start, rest, read};

@@ -1,4 +1,6 @@
-// Comparing what a function gives with what was recorded of it.
+//! Comparing what a function gives with what was recorded of it.
+#![tactic(auto)]
+
 ghost use Rattle.std.specs.Prelude.{◌≡◌, length, get_or, replicate};
 ghost use Rattle.std.specs.Float.{binary64};
 ghost use Rattle.std.specs.Float.Ieee.{of_bits};

@@ -1,5 +1,7 @@
-// Converts Type 1 font files: reads each, builds its bank, converts every glyph, chooses the widths,
-// finishes each glyph, and prints a table, a row for each font, or a row for each font and bank.
+//! Converts Type 1 font files: reads each, builds its bank, converts every glyph, chooses the widths,
+//! finishes each glyph, and prints a table, a row for each font, or a row for each font and bank.
+#![tactic(auto)]
+
 ghost use Rattle.std.specs.Prelude.{◌≡◌, ◌≤◌, length};
 ghost use Rattle.type1.specs.Interpret.{source_of, outcome};
 ghost use Rattle.type1_to_type2.specs.Convert.{rooms_with, convert};

@@ -1,4 +1,6 @@
-// Folding a matrix into points, stems and the width.
+//! Folding a matrix into points, stems and the width.
+#![tactic(auto)]
+
 ghost use Rattle.std.specs.Prelude.{◌≡◌};
 ghost use Rattle.folding.specs.Folding as Folding;
 

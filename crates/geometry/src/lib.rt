@@ -1,4 +1,6 @@
-// Points, matrices and their products, in the order of operations of stet's geometry.rs.
+//! Points, matrices and their products, in the order of operations of stet's geometry.rs.
+#![tactic(auto)]
+
 ghost use Rattle.std.specs.Prelude.{◌≡◌};
 ghost use Rattle.geometry.specs.Transform as Transform;
 

@@ -1,5 +1,7 @@
-// Stem hints: the stems in force, whether they can be the last group's, when a new group is refused, and which hints are
-// declared.
+//! Stem hints: the stems in force, whether they can be the last group's, when a new group is refused, and which hints are
+//! declared.
+#![tactic(auto)]
+
 ghost use Rattle.std.specs.Prelude.{◌≡◌, ◌≤◌};
 ghost use Rattle.hints.specs.Hints.{cut, in_force, may_be_last, refused_group, are_few, need_masks};
 

@@ -1,4 +1,6 @@
-// The operand stack: what one operand more is refused with, and which of two refusals comes first.
+//! The operand stack: what one operand more is refused with, and which of two refusals comes first.
+#![tactic(auto)]
+
 ghost use Rattle.std.specs.Prelude.{◌≡◌, ◌+◌};
 ghost use Rattle.operand_stack.specs.Stack.{depth_of, overflow_of, operand_refusal, number_if, first_refusal};
 

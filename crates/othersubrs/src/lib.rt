@@ -1,4 +1,6 @@
-// OtherSubrs: the arguments that callothersubr takes and hands back, when a flex is drawn, and when setcurrentpoint is a move.
+//! OtherSubrs: the arguments that callothersubr takes and hands back, when a flex is drawn, and when setcurrentpoint is a move.
+#![tactic(auto)]
+
 ghost use Rattle.std.specs.Prelude.{◌≡◌, length};
 ghost use Rattle.othersubrs.specs.OtherSubrs.{taken, hand_number, handed_back, whole_flex, is_move};
 

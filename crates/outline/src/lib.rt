@@ -1,4 +1,6 @@
-// The vocabulary of outlines: stem records, and the entries of the command store.
+//! The vocabulary of outlines: stem records, and the entries of the command store.
+#![tactic(auto)]
+
 ghost use Rattle.std.specs.Prelude.{◌≡◌, get_or};
 ghost use Rattle.outline.specs.Outline.{same_stem, zero_stem};
 

@@ -1,5 +1,7 @@
-// The Type 2 machine. Its definition is in specs/Machine.antt; here a finished charstring is read operator by
-// operator, as the machine reads it.
+//! The Type 2 machine. Its definition is in specs/Machine.antt; here a finished charstring is read operator by
+//! operator, as the machine reads it.
+#![tactic(auto)]
+
 ghost use Rattle.std.specs.Prelude.{◌≡◌, true};
 ghost use Rattle.renderer.specs.Reader.{is_possible, is_drawing, first_reader, no_operator, Comes};
 ghost use Rattle.renderer.specs.Reads.{after_found};

@@ -1,6 +1,8 @@
-// Compares our functions with vectors recorded from the Rust, with Adobe's number examples and with boxes that the oracle states
-// (tools/oracle/VECTORS.md has their layout).
-// Prints for each file of vectors its name, how many were compared and how many differ, then the sums.
+//! Compares our functions with vectors recorded from the Rust, with Adobe's number examples and with boxes that the oracle states
+//! (tools/oracle/VECTORS.md has their layout).
+//! Prints for each file of vectors its name, how many were compared and how many differ, then the sums.
+#![tactic(auto)]
+
 ghost use Rattle.std.specs.Prelude.{◌≡◌, length, replicate};
 ghost use Rattle.type1.specs.Interpret.{source_of, outcome, Leaves};
 ghost use Rattle.type1_to_type2.specs.Convert.{rooms_with};

@@ -1,4 +1,6 @@
-// Lent stores made zero, how much of an output stands before its zeros, and that part of it.
+//! Lent stores made zero, how much of an output stands before its zeros, and that part of it.
+#![tactic(auto)]
+
 ghost use Rattle.std.specs.Prelude.{◌≡◌, take};
 ghost use Rattle.stores.specs.Zeros.{zeros, zeros_from, kept};
 

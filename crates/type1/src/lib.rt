@@ -1,6 +1,8 @@
-// The Type 1 run: a charstring and its subroutines are run on lent stores. The command store gets an
-// entry of 14 words for each path command and for each group's start, the stem store a record for
-// each stem of each group.
+//! The Type 1 run: a charstring and its subroutines are run on lent stores. The command store gets an
+//! entry of 14 words for each path command and for each group's start, the stem store a record for
+//! each stem of each group.
+#![tactic(auto)]
+
 ghost use Rattle.std.specs.Prelude.{◌≡◌, length, replicate};
 ghost use Rattle.outline.specs.Outline as Outline;
 ghost use Rattle.type1.specs.Run.{reading_of};

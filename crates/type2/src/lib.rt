@@ -1,5 +1,7 @@
-// Type 2 numbers (TN#5177, section 3.2): doubles rounded to the 16.16 grid, and their bytes; the deltas of a path, how many
-// share an operator, and a charstring's width.
+//! Type 2 numbers (TN#5177, section 3.2): doubles rounded to the 16.16 grid, and their bytes; the deltas of a path, how many
+//! share an operator, and a charstring's width.
+#![tactic(auto)]
+
 ghost use Rattle.std.specs.Prelude.{◌≡◌, ◌-◌, ◌*◌, ◌≤◌, ◌<◌, [], ◌∷◌};
 ghost use Rattle.std.proofs.Math.IntN.{sub_ℕ};
 ghost use Rattle.std.specs.Float.{binary64};
