@@ -5,8 +5,7 @@ use Rattle.charstring.specs.declared.Read.TheVariants.{Byte}
 use Rattle.charstring.specs.Cipher.{plain_byte, step}
 use Rattle.charstring.specs.Cursor.{read, byte_at, after}
 use Rattle.charstring.specs.Laws.{read_none, read_more}
-use Rattle.charstring.proofs.Cursor.next.Statement.{statement}
-use Rattle.charstring.proofs.Cursor.next.Tie as tie
+use Rattle.charstring.proofs.Cursor.next.Goals as goal
 
 -- reading by the cursor's mode
 read_by :
@@ -17,16 +16,11 @@ read_by :
 unfolding byte_at after
 read_by k code m b r h e p q = rw (read_more k code h, e, p, q)
 
-returns : tie.Need-returns
-returns c = sym (read_none c.before.before.args.self c.before.before.args.code.now c.if1.true)
+pub returns-then-code-at : goal.returns-then-code-at
+returns-then-code-at c = sym (read_none c.args.self c.args.code.now c.if-code-at.true)
 
-returns-2 : tie.Need-returns-2
-returns-2 c = read_by c.before.before.before.before.before.before.args.self _ true _ _ c.before.before.before.before.if1.false c.before.before.if2.true c.before.plain_byte.ensures c.next-key.ensures
+pub returns-then-self : goal.returns-then-self
+returns-then-self c = read_by c.args.self _ true _ _ c.if-code-at.false c.if-self.true c.plain_byte-b.ensures c.next_key.ensures
 
-returns-3 : tie.Need-returns-3
-returns-3 c = read_by c.before.before.before.before.args.self _ false _ _ c.before.before.if1.false c.if2.false refl refl
-
-pub next-spec : {M : Type 1} → statement M
-next-spec =
-    tie.close
-    (tie.spec returns (λ c. search rules) (λ c κs. search rules) (λ c. search rules) (λ c κs. search rules) (λ c. search rules) returns-2 returns-3)
+pub returns-else-self : goal.returns-else-self
+returns-else-self c = read_by c.args.self _ false _ _ c.if-code-at.false c.if-self.false refl refl

@@ -3,12 +3,8 @@ use mathlib.Core.Path.{ap}
 use lib.Ieee.{Float, binary64, div, of_bits}
 use Rattle.geometry.specs.Transform.{ten_billion, rounded10}
 use borrow.Author.Rules.{rules}
-use Rattle.geometry.proofs.round10.Statement.{statement}
-use Rattle.geometry.proofs.round10.Tie as tie
+use Rattle.geometry.proofs.round10.Goals as goal
 
-returns : tie.Need-returns
+pub returns : goal.returns
 unfolding of_bits rounded10
 returns c = ap (λ (z : Float). div binary64 z ten_billion) c.round.ensures
-
-pub round10-spec : {M : Type 1} → statement M
-round10-spec = tie.close (tie.spec (λ c κs. search rules) returns)
