@@ -8,8 +8,7 @@ use Rattle.hints.specs.Hints.{refused_group}
 use Rattle.hints.specs.Laws.{group_number_lem}
 use native.Mathlib.Omega.{arith}
 use mathlib.Core.Path.{◌≡◌, sym, ◌∙◌}
-use Rattle.hints.proofs.new_group.Statement.{statement}
-use Rattle.hints.proofs.new_group.Tie as tie
+use Rattle.hints.proofs.new_group.Goals as goal
 
 module _ (groups records used n words entries : ℕ) where
   abbrev entry : Bool
@@ -41,25 +40,22 @@ module _ (groups records used n words entries : ℕ) where
     passes : entries < words / 14 → 0 ≡ refused_group groups records used n words entries
     passes h = sym (group_number_lem groups records used n words entries true true fits (le-leb (14 * (entries + 1)) words (omega arith)))
 
-returns : tie.Need-returns
+pub returns-then-groups-ge-MOST : goal.returns-then-groups-ge-MOST
+returns-then-groups-ge-MOST c =
+    many-groups _ _ _ _ _ _ c.if-groups-ge-MOST.true
+
+pub returns-then-records-used : goal.returns-then-records-used
+returns-then-records-used c =
+    used-up _ _ _ _ _ _ c.if-records-used.true
+
+pub returns-then-records-used-2 : goal.returns-then-records-used-2
+returns-then-records-used-2 c =
+    no-records _ _ _ _ _ _ c.if-records-used.false c.if-records-used-2.true
+
+pub returns-then-words-entries : goal.returns-then-words-entries
+returns-then-words-entries c =
+    no_words _ _ _ _ _ _ c.if-groups-ge-MOST.false c.if-records-used.false c.if-records-used-2.false c.if-words-entries.true
+
+pub returns : goal.returns
 returns c =
-    many-groups _ _ _ _ _ _ c.if1.true
-
-returns-2 : tie.Need-returns-2
-returns-2 c =
-    used-up _ _ _ _ _ _ c.if2.true
-
-returns-3 : tie.Need-returns-3
-returns-3 c =
-    no-records _ _ _ _ _ _ c.before.if2.false c.if3.true
-
-returns-4 : tie.Need-returns-4
-returns-4 c =
-    no_words _ _ _ _ _ _ c.before.before.before.if1.false c.before.before.if2.false c.before.if3.false c.if4.true
-
-returns-5 : tie.Need-returns-5
-returns-5 c =
-    passes _ _ _ _ _ _ c.before.before.before.if1.false c.before.before.if2.false c.before.if3.false c.if4.false
-
-pub new-group-spec : {M : Type 1} → statement M
-new-group-spec = tie.close (tie.spec returns returns-2 returns-3 returns-4 returns-5)
+    passes _ _ _ _ _ _ c.if-groups-ge-MOST.false c.if-records-used.false c.if-records-used-2.false c.if-words-entries.false

@@ -7,8 +7,7 @@ use borrow.Author.Tests.{lt-ltb, le-ltb, ltb-true, ltb-false}
 use borrow.Author.Rules.{rules}
 use lib.Dec.{ltb}
 use Rattle.hints.specs.Hints.{are_few}
-use Rattle.hints.proofs.are_few.Statement.{statement}
-use Rattle.hints.proofs.are_few.Tie as tie
+use Rattle.hints.proofs.are_few.Goals as goal
 
 few : (a u : ℕ) → a < 97 → ltb u (97 - a) ≡ are_few a u
 few a u h = sym (choose (ltb u (97 - a)) refl)
@@ -20,11 +19,8 @@ few a u h = sym (choose (ltb u (97 - a)) refl)
 many : (a u : ℕ) → 97 ≤ a → false ≡ are_few a u
 many a u h = sym (le-ltb (a + u) 97 (omega arith))
 
-returns : tie.Need-returns
-returns c = few _ _ c.if1.true
+pub returns-then-across-lt97 : goal.returns-then-across-lt97
+returns-then-across-lt97 c = few _ _ c.if-across-lt97.true
 
-returns-2 : tie.Need-returns-2
-returns-2 c = many _ c.before.args.upright c.if1.false
-
-pub are-few-spec : {M : Type 1} → statement M
-are-few-spec = tie.close (tie.spec (λ c. search rules) returns returns-2)
+pub returns-else-across-lt97 : goal.returns-else-across-lt97
+returns-else-across-lt97 c = many _ c.args.upright c.if-across-lt97.false

@@ -7,8 +7,7 @@ use mathlib.Core.Bool.{Bool, true, false, not, ◌&&◌}
 use borrow.Author.Tests.{eqb-true, eqb-false, lt-ltb, le-ltb}
 use lib.Dec.{eqb, ltb}
 use Rattle.hints.specs.Hints.{need_masks}
-use Rattle.hints.proofs.need_masks.Statement.{statement}
-use Rattle.hints.proofs.need_masks.Tie as tie
+use Rattle.hints.proofs.need_masks.Goals as goal
 
 module _ (g a u : ℕ) where
   one-group : g < 2 → false ≡ need_masks g a u
@@ -36,14 +35,11 @@ module _ (g a u : ℕ) where
         choose true q = let e = eqb-true u 0 q in by-stems false (le-ltb 0 (a + u) (omega arith))
         choose false q = let p = pos_of_ne-zero (eqb-false u 0 q) in by-stems true (lt-ltb 0 (a + u) (omega arith))
 
-returns : tie.Need-returns
-returns c = one-group _ c.before.args.across c.before.args.upright c.if1.true
+pub returns-then-groups-lt2 : goal.returns-then-groups-lt2
+returns-then-groups-lt2 c = one-group _ c.args.across c.args.upright c.if-groups-lt2.true
 
-returns-2 : tie.Need-returns-2
-returns-2 c = across-left _ _ c.before.before.args.upright c.before.if1.false c.if2.true
+pub returns-then-across-ne0 : goal.returns-then-across-ne0
+returns-then-across-ne0 c = across-left _ _ c.args.upright c.if-groups-lt2.false c.if-across-ne0.true
 
-returns-3 : tie.Need-returns-3
-returns-3 c = only-upright _ _ _ c.before.if1.false c.if2.false
-
-pub need-masks-spec : {M : Type 1} → statement M
-need-masks-spec = tie.close (tie.spec returns returns-2 returns-3)
+pub returns : goal.returns
+returns c = only-upright _ _ _ c.if-groups-lt2.false c.if-across-ne0.false

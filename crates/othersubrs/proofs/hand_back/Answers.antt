@@ -8,12 +8,8 @@ use lib.Seq.{paste, paste-zero}
 use lib.Ieee.{Float, nan}
 use Rattle.othersubrs.specs.OtherSubrs.{hand_number, handed_back}
 use Rattle.othersubrs.specs.Laws.{handed_more, number-none, number_some, handed-none, handed_all}
-use Rattle.othersubrs.proofs.hand_back.Statement.{statement}
-use Rattle.othersubrs.proofs.hand_back.Tie as tie
-
--- i of the n arguments are on the stack
-abbrev Handing : List Float → List Float → ℕ → ℕ → List Float → ℕ → Type 0
-Handing args before held n stack i = (i ≤ n) × (n ≡ length args) × (stack ≡ paste before held (reverse args) i)
+use Rattle.othersubrs.proofs.hand_back.Invariants.{Handing}
+use Rattle.othersubrs.proofs.hand_back.Goals as goal
 
 begun : (args stack : List Float) (held : ℕ) → Handing args stack held (length args) stack 0
 begun args stack held = (omega arith, refl, paste-zero stack held (reverse args))
@@ -32,36 +28,22 @@ done args before stack held n i h H d =
     let f = H.0 in
     (number_some args stack held (omega arith), H.2 ∙ ap (paste before held (reverse args)) (let z : i ≡ length args = omega arith in z) ∙ sym (handed_all args before held (omega arith)))
 
-abbrev invariant-loop : tie.invariant-loop
-invariant-loop args held stack₀ n most i₀ stack i = Handing args stack₀ held n stack i
+pub returns-then-most-held : goal.returns-then-most-held
+returns-then-most-held c =
+    let both = full _ _ _ (omega arith) in record { value = both.0; stack_after = both.1 }
 
-abbrev decreases-loop : tie.decreases-loop
-decreases-loop args held stack₀ n most i₀ stack i = n - i
+pub returns-then-most-held-2 : goal.returns-then-most-held-2
+returns-then-most-held-2 c =
+    let both = full _ _ _ (omega arith) in record { value = both.0; stack_after = both.1 }
 
-returns : tie.Need-returns invariant-loop decreases-loop
+pub loop-i-init : goal.loop-i-init
+loop-i-init c =
+    begun c.args.args.now _ c.args.held
+
+pub loop-i-preserved : goal.loop-i-preserved
+loop-i-preserved c =
+    turn c.args.args.now _ _ _ _ _ (omega arith) c.loop-i.invariant c.loop-i-test.true
+
+pub returns : goal.returns
 returns c =
-    let l = c.before.all2.given.0 in full _ _ _ (omega arith)
-
-returns-2 : tie.Need-returns-2 invariant-loop decreases-loop
-returns-2 c =
-    let l = c.before.before.all2.given.0 in full _ _ _ (omega arith)
-
-loop-holds : tie.Need-loop-init invariant-loop decreases-loop
-loop-holds c =
-    begun c.before.before.before.before.args.args.now _ c.before.before.before.before.args.held
-
-loop-again : tie.Need-loop-preserved invariant-loop decreases-loop
-loop-again c =
-    let l = c.before.before.before.before.before.all2.given.0 in
-    turn c.before.before.before.before.before.before.before.args.args.now _ _ _ _ _ (omega arith) c.before.before.loop.invariant c.before.loop-test.true
-
-returns-3 : tie.Need-returns-3 invariant-loop decreases-loop
-returns-3 c =
-    let l = c.before.before.before.before.all2.given.0 in
-    done _ _ _ _ _ _ (omega arith) c.before.loop.invariant c.loop-test.false
-
-pub hand-back-spec : {M : Type 1} → statement M
-hand-back-spec =
-    tie.close
-    (tie.spec invariant-loop decreases-loop returns returns-2 loop-holds (λ c. omega arith) (λ c. omega arith) (λ c. omega arith) (λ c. omega arith) (λ c. omega arith)
-    (λ c. omega arith) (λ c. omega arith) (λ c. omega arith) (λ c. omega arith) loop-again returns-3)
+    let both = done _ _ _ _ _ _ (omega arith) c.loop-i.invariant c.loop-i-test.false in record { value = both.0; stack_after = both.1 }
