@@ -1,5 +1,5 @@
 -- `renderer::Reader::next` meets its contract.
-use Rattle.renderer.specs.ReaderLaws.{possible_stems, possible_near}
+use Rattle.renderer.proofs.ReaderLaws.{possible_stems, possible_near}
 use Rattle.renderer.proofs.NextLaws.{impossible_comes, fault_comes, still_comes, out_comes, drawn_comes}
 use borrow.Author.Tests.{not-true, not-false}
 use mathlib.Core.Path.{sym, ◌∙◌}

@@ -11,9 +11,10 @@ use Rattle.type2.specs.Bools.{is_lt, not_lt, and_both, not_eq, choose}
 use Rattle.type2.specs.Signed.{sub_bal, sub_is, add_bal}
 use Rattle.type2.specs.Path.{Kind}
 use Rattle.renderer.specs.Machine.{Point, State, fault, on, small, moved, reach, last_of, all_small, draw, draws, and_then}
-use Rattle.renderer.specs.Operators.{acted, draw_is}
+use Rattle.renderer.specs.Operators.{acted}
+use Rattle.renderer.proofs.InstructionLaws.{draw_is}
 use Rattle.renderer.specs.declared.Reader.{Reader}
-use Rattle.renderer.specs.Reader.{unit, held, coordinate, point_at, is_near, is_possible, is_drawing, is_code, Taken, acted_each}
+use Rattle.renderer.specs.Reader.{unit, held, part, coordinate, point_at, is_near, Near, is_possible, is_drawing, is_code, Taken, acted_each}
 
 -- ---- a list of bytes or operands at a place
 pub cons_at : (l : List ℕ) (i : ℕ) → i < length l → drop i l ≡ get_or l i 0 ∷ drop (i + 1) l
@@ -25,10 +26,6 @@ held-length [] = refl
 held-length (n ∷ l) = ap suc (held-length l)
 
 -- ---- a coordinate is small where it is near
-pub record Near (n : ℕ) : Type 0 where
-  pub above : 1152921504606846976 ≤ n
-  pub below : n ≤ 3458764513820540928
-
 pub near_of : (n : ℕ) → is_near n ≡ true → Near n
 near_of n e =
     let w = and_both (leb 1152921504606846976 n) (leb n 3458764513820540928) (subst T (sym e) tt) in
@@ -79,9 +76,6 @@ unfolding reach
 reach-pair p a b l = refl
 
 -- the operands from `i` to before `end`
-abbrev pub part : ℕ → ℕ → List ℕ → List ℤ
-part i end o = held (drop i (take end o))
-
 part_pair : (o : List ℕ) (i end : ℕ) → i + 1 < end → end ≤ length o → part i end o ≡ unit (get_or o i 0) ∷ unit (get_or o (i + 1) 0) ∷ part (i + 1 + 1) end o
 unfolding held
 part_pair o i end h k =
