@@ -1,6 +1,5 @@
 -- `boxes::answered` meets its contract.
 use Rattle.boxes.proofs.ExtentLaws.{answers_none, answers_some}
-use borrow.Author.Rules.{rules}
 use Rattle.boxes.proofs.answered.Goals as goal
 
 pub returns-then-e : goal.returns-then-e

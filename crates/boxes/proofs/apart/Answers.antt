@@ -1,6 +1,5 @@
 -- `boxes::apart` meets its contract.
 use Rattle.boxes.proofs.WindowLaws.{said, said_no, said_yes}
-use borrow.Author.Rules.{rules}
 use Rattle.boxes.proofs.apart.Goals as goal
 
 pub returns-then-below : goal.returns-then-below

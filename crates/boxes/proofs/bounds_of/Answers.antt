@@ -1,6 +1,5 @@
 -- `boxes::bounds_of` meets its contract.
 use Rattle.boxes.proofs.ExtentLaws.{bounds_are}
-use borrow.Author.Rules.{rules}
 use Rattle.boxes.proofs.bounds_of.Goals as goal
 
 pub returns : goal.returns

@@ -1,6 +1,4 @@
 -- `boxes::decide` meets its contract.
-use borrow.Author.Tests.{not-true, not-false}
-use borrow.Author.Rules.{rules}
 use Rattle.boxes.proofs.decide.Goals as goal
 
 pub returns-then-not-c : goal.returns-then-not-c

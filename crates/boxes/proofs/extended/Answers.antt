@@ -1,8 +1,6 @@
 -- `boxes::extended` meets its contract.
-use Rattle.boxes.proofs.ExtentLaws.{Grows, grows_first, grown_done, grows_more}
-use borrow.Author.Rules.{rules}
+use Rattle.boxes.proofs.ExtentLaws.{grows_first, grown_done, grows_more}
 use native.Mathlib.Omega.{arith}
-use Prim.Native.Nat.{◌-◌}
 use Rattle.boxes.proofs.extended.Goals as goal
 
 pub loop-i-init : goal.loop-i-init

@@ -1,7 +1,5 @@
 -- `boxes::extended` meets its contract.
-use Rattle.boxes.proofs.ExtentLaws.{Grows, grows_first, grown_done, grows_more}
-use borrow.Author.Rules.{rules}
-use native.Mathlib.Omega.{arith}
+use Rattle.boxes.proofs.ExtentLaws.{Grows}
 use Prim.Native.Nat.{◌-◌}
 use Rattle.boxes.proofs.extended.Given as goal
 

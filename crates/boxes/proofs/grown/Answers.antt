@@ -1,5 +1,4 @@
 -- `boxes::grown` meets its contract.
-use borrow.Author.Rules.{rules}
 use Rattle.boxes.proofs.grown.Goals as goal
 
 pub returns : goal.returns

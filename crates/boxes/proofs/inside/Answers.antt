@@ -1,6 +1,5 @@
 -- `boxes::inside` meets its contract.
 use Rattle.boxes.proofs.WindowLaws.{said_not, said_no, said_yes}
-use borrow.Author.Rules.{rules}
 use Rattle.boxes.proofs.inside.Goals as goal
 
 pub returns-then-below : goal.returns-then-below

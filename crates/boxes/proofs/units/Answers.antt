@@ -1,6 +1,5 @@
 -- `boxes::units` meets its contract.
 use Rattle.boxes.proofs.ExtentLaws.{unit-fits, unit_is}
-use borrow.Author.Rules.{rules}
 use Rattle.boxes.proofs.units.Goals as goal
 
 pub overflow_sub-result : goal.overflow_sub-result

@@ -6,12 +6,12 @@ use mathlib.Core.List.{List, [], ◌∷◌, cons≢nil, Memᴰ as OneOf}
 use Rattle.std.proofs.Math.Option.{Option, none, some, some-ne-none}
 use Rattle.renderer.specs.Machine.{Point, Entry, State, Result, failed, ended, machine}
 use Rattle.type2.specs.Bools.{choose}
-use Rattle.boxes.specs.Box.{box_from, points, box_of}
+use Rattle.boxes.specs.Box.{lesser, greater, box_from, points, box_of}
 use Rattle.boxes.specs.Window.{share, holds_all, verdict_of}
 use Rattle.boxes.specs.Answers.{answer_of, answer}
 use Rattle.boxes.specs.Points.{HasPoint, IsBox, Says, NoBox, HasBox, Means}
 use Rattle.boxes.specs.Order.{≤ℤ_trans, ≤ℤ_antisymm}
-use Rattle.boxes.specs.PointLaws.{box_of_lem, corner, corner_in, share_yes, share_of, all_yes, all_no}
+use Rattle.boxes.proofs.PointLaws.{box_of_lem, corner, corner_in, share_yes, share_of, all_yes, all_no}
 use Rattle.boxes.specs.declared.Bounds.{Bounds}
 use Rattle.boxes.specs.declared.Verdict.{Verdict}
 use Rattle.boxes.specs.declared.Verdict.TheVariants.{Within, Crossing, Outside}
@@ -45,7 +45,7 @@ box_of_drawn s rest b e = box_of_lem (points s.drawn) b e
 never_none : (b : Bounds) (ps : List Point) → ¬ (box_from (some b) ps ≡ none)
 unfolding box_from
 never_none b [] e = some-ne-none b e
-never_none b (p ∷ ps) e = never_none _ ps e
+never_none b (p ∷ ps) e = never_none (record { left = lesser b.left p.x; bottom = lesser b.bottom p.y; right = greater b.right p.x; top = greater b.top p.y }) ps e
 
 no_points : (ps : List Point) → (box_from none ps ≡ none) ↔ (ps ≡ [])
 unfolding box_from
