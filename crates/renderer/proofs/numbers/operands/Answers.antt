@@ -20,9 +20,9 @@ pub returns-then-r-eq0 : goal.returns-then-r-eq0
 returns-then-r-eq0 c =
     cut-number c.loop-at.invariant _ (omega arith) c.wide-b.ensures.0 (sym c.starts_number.ensures ∙ c.if-not-starts_number.false) _ _ c.number-r.ensures c.if-r-eq0.true _ _ _ c.no_operator.ensures.0 c.no_operator.ensures.1 c.no_operator.ensures.2
 
-pub returns-then-n-ge48 : goal.returns-then-n-ge48
-returns-then-n-ge48 c =
-    full_number c.loop-at.invariant _ (omega arith) c.wide-b.ensures.0 (sym c.starts_number.ensures ∙ c.if-not-starts_number.false) c.if-n-ge48.true _ _ _ c.no_operator-then-n-ge48.ensures.0 c.no_operator-then-n-ge48.ensures.1 c.no_operator-then-n-ge48.ensures.2
+pub returns-then-n-ge-MOST : goal.returns-then-n-ge-MOST
+returns-then-n-ge-MOST c =
+    full_number c.loop-at.invariant _ (omega arith) c.wide-b.ensures.0 (sym c.starts_number.ensures ∙ c.if-not-starts_number.false) c.if-n-ge-MOST.true _ _ _ c.no_operator-then-n-ge-MOST.ensures.0 c.no_operator-then-n-ge-MOST.ensures.1 c.no_operator-then-n-ge-MOST.ensures.2
 
 pub loop-at-smaller : goal.loop-at-smaller
 loop-at-smaller c =
@@ -30,7 +30,7 @@ loop-at-smaller c =
 
 pub loop-at-preserved : goal.loop-at-preserved
 loop-at-preserved c =
-    more_number c.loop-at.invariant _ (omega arith) c.wide-b.ensures.0 (sym c.starts_number.ensures ∙ c.if-not-starts_number.false) _ _ c.number-r.ensures c.if-r-eq0.false c.if-n-ge48.false
+    more_number c.loop-at.invariant _ (omega arith) c.wide-b.ensures.0 (sym c.starts_number.ensures ∙ c.if-not-starts_number.false) _ _ c.number-r.ensures c.if-r-eq0.false c.if-n-ge-MOST.false
 
 pub returns : goal.returns
 returns c =

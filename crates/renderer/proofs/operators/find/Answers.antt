@@ -15,13 +15,13 @@ pub overflow_sub-all : goal.overflow_sub-all
 overflow_sub-all c =
     (taken _ c.requires.0 c.operands-r.ensures c.named-code.ensures c.first_operand-first.ensures c.if-code-eq0.false c.if-first-gt1.false).order
 
-pub returns-then-all-gt96 : goal.returns-then-all-gt96
-returns-then-all-gt96 c =
-    many_stems _ c.requires.0 c.operands-r.ensures c.named-code.ensures c.first_operand-first.ensures c.if-code-eq0.false c.if-first-gt1.false _ c.fault-then-all-gt96.ensures c.if-code-eq-HSTEM.true c.if-all-gt96.true
+pub returns-then-all-gt-MOST_STEMS : goal.returns-then-all-gt-MOST_STEMS
+returns-then-all-gt-MOST_STEMS c =
+    many_stems _ c.requires.0 c.operands-r.ensures c.named-code.ensures c.first_operand-first.ensures c.if-code-eq0.false c.if-first-gt1.false _ c.fault-then-all-gt-MOST_STEMS.ensures c.if-code-eq-HSTEM.true c.if-all-gt-MOST_STEMS.true
 
 pub returns-then-code-eq-HSTEM : goal.returns-then-code-eq-HSTEM
 returns-then-code-eq-HSTEM c =
-    some_stems _ c.requires.0 c.operands-r.ensures c.named-code.ensures c.first_operand-first.ensures c.if-code-eq0.false c.if-first-gt1.false c.if-code-eq-HSTEM.true c.if-all-gt96.false
+    some_stems _ c.requires.0 c.operands-r.ensures c.named-code.ensures c.first_operand-first.ensures c.if-code-eq0.false c.if-first-gt1.false c.if-code-eq-HSTEM.true c.if-all-gt-MOST_STEMS.false
 
 pub returns-then-next-eq0 : goal.returns-then-next-eq0
 returns-then-next-eq0 c =
