@@ -14,9 +14,9 @@ use Rattle.binary64.specs.Tests.{lt→balance, balance→lt}
 use Rattle.type2.specs.Number.{zp, zm, quantized, units, Nearest, Is, in_range, number_bytes, Push, gave, put, push_number}
 use Rattle.type2.specs.Bools.{choose}
 use Rattle.type2.specs.Signed.{one_sided}
-use Rattle.type2.specs.Quantize.{quantized_nearest, quantized-fits, multiple}
-use Rattle.type2.specs.Fixed.{units-quantized, units_is}
-use Rattle.type2.specs.Casts.{in_range-finite}
+use Rattle.type2.proofs.QuantizeLaws.{quantized_nearest, quantized-fits, multiple}
+use Rattle.type2.proofs.Fixed.{units-quantized, units_is}
+use Rattle.type2.proofs.Casts.{in_range-finite}
 
 abbrev F : Format
 F = binary64

@@ -21,8 +21,8 @@ use Rattle.type2.specs.Number.{zp, zm, quantized, units, in_range, number_bytes,
 use Rattle.type2.specs.Bools.{yes, and_both}
 use Rattle.type2.specs.Signed.{sub_is}
 use Rattle.type2.specs.Whole.{whole-count, middle, is_whole, between_finite, between_size}
-use Rattle.type2.specs.Quantize.{scaled, rounded_once, quantized-fixed}
-use Rattle.type2.specs.Fixed.{count, units_parts, below-count}
+use Rattle.type2.proofs.QuantizeLaws.{scaled, rounded_once, quantized-fixed}
+use Rattle.type2.proofs.Fixed.{count, units_parts, below-count}
 use Rattle.type2.specs.Forms.{one_form}
 
 abbrev F : Format

@@ -13,7 +13,7 @@ use Rattle.binary64.specs.Away.{up_half, up_half_lo, up_half_hi}
 use Rattle.type2.specs.Number.{zp, zm, quantized, units, in_range, Is}
 use Rattle.type2.specs.Signed.{same}
 use Rattle.type2.specs.Whole.{whole-count}
-use Rattle.type2.specs.Quantize.{quantized_nearest}
+use Rattle.type2.proofs.QuantizeLaws.{quantized_nearest}
 
 abbrev F : Format
 F = binary64
