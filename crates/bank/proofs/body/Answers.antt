@@ -5,25 +5,22 @@ use mathlib.Core.Path.{sym, ap, ◌∙◌}
 use borrow.Author.Rules.{rules}
 use Rattle.bank.proofs.body.Goals as goal
 
-pub enum_told-1 : goal.enum_told-1
-enum_told-1 c = search rules
-
 pub returns-in_default : goal.returns-in_default
 returns-in_default c =
-    ap (λ f. bytes_at f c.args.bank.now) (sym c.enum_told-1.given.1 ∙ c.find.ensures)
+    ap (λ f. bytes_at f c.args.bank.now) (sym c.in_default.is ∙ c.find.ensures)
 
 pub slice_bounds-result-count : goal.slice_bounds-result-count
 slice_bounds-result-count c =
-    (found_within _ _ (sym c.find.ensures ∙ c.start-1.given.1)).0
+    (found_within _ _ (sym c.find.ensures ∙ c.in-At.is)).0
 
 pub slice_bounds-result-start : goal.slice_bounds-result-start
 slice_bounds-result-start c =
-    (found_within _ _ (sym c.find.ensures ∙ c.start-1.given.1)).0
+    (found_within _ _ (sym c.find.ensures ∙ c.in-At.is)).0
 
-pub slice_bounds-result-end : goal.slice_bounds-result-end
-slice_bounds-result-end c =
-    (found_within _ _ (sym c.find.ensures ∙ c.start.given.1)).1
+pub slice_bounds-result-end-2 : goal.slice_bounds-result-end-2
+slice_bounds-result-end-2 c =
+    (found_within _ _ (sym c.find.ensures ∙ c.in-At.is)).1
 
 pub returns : goal.returns
 returns c =
-    ap (λ f. bytes_at f c.args.bank.now) (sym c.start-1.given.1 ∙ c.find.ensures)
+    ap (λ f. bytes_at f c.args.bank.now) (sym c.in-At.is ∙ c.find.ensures)

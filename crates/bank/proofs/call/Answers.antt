@@ -21,32 +21,29 @@ large n ran start end h k = rw (lt-leb (ran + (end - start)) max_charstring_byte
 passes : (n ran start end : ℕ) → ran ≤ max_charstring_bytes → end - start ≤ max_charstring_bytes - ran → record { number = 0; index = n; ran = ran + (end - start) } ≡ counted n ran (At start end)
 passes n ran start end h k = rw (le-leb (ran + (end - start)) max_charstring_bytes (omega arith))
 
-pub enum_told-1 : goal.enum_told-1
-enum_told-1 c = search rules
-
 pub returns-in_default : goal.returns-in_default
 unfolding of_bits
 returns-in_default c =
-    c.refused.ensures ∙ sym (called_is _ _ _ c.if-number.true _ c.to_usize-index.ensures _ (sym c.find.ensures ∙ c.enum_told-1.given.1))
+    c.refused.ensures ∙ sym (called_is _ _ _ c.if-number.true _ c.to_usize-index.ensures _ (sym c.find.ensures ∙ c.in_default.is))
 
 pub overflow_sub-size : goal.overflow_sub-size
 overflow_sub-size c =
-    (found_within _ _ (sym c.find.ensures ∙ c.start-1.given.1)).0
+    (found_within _ _ (sym c.find.ensures ∙ c.in-At.is)).0
 
 pub returns-then-ran-gt-MAX_CHARSTRING_BYTES : goal.returns-then-ran-gt-MAX_CHARSTRING_BYTES
 unfolding of_bits
 returns-then-ran-gt-MAX_CHARSTRING_BYTES c =
-    c.refused-then-ran-gt-MAX_CHARSTRING_BYTES.ensures ∙ over _ _ _ _ c.if-ran-gt-MAX_CHARSTRING_BYTES.true ∙ sym (called_is _ _ _ c.if-number.true _ c.to_usize-index.ensures _ (sym c.find.ensures ∙ c.start-1.given.1))
+    c.refused-then-ran-gt-MAX_CHARSTRING_BYTES.ensures ∙ over _ _ _ _ c.if-ran-gt-MAX_CHARSTRING_BYTES.true ∙ sym (called_is _ _ _ c.if-number.true _ c.to_usize-index.ensures _ (sym c.find.ensures ∙ c.in-At.is))
 
 pub returns-then-ran-size : goal.returns-then-ran-size
 unfolding of_bits
 returns-then-ran-size c =
-    c.refused-then-ran-size.ensures ∙ large _ _ _ _ c.if-ran-gt-MAX_CHARSTRING_BYTES.false c.if-ran-size.true ∙ sym (called_is _ _ _ c.if-number.true _ c.to_usize-index.ensures _ (sym c.find.ensures ∙ c.start-1.given.1))
+    c.refused-then-ran-size.ensures ∙ large _ _ _ _ c.if-ran-gt-MAX_CHARSTRING_BYTES.false c.if-ran-size.true ∙ sym (called_is _ _ _ c.if-number.true _ c.to_usize-index.ensures _ (sym c.find.ensures ∙ c.in-At.is))
 
 pub returns-then-number : goal.returns-then-number
 unfolding of_bits
 returns-then-number c =
-    passes _ _ _ _ c.if-ran-gt-MAX_CHARSTRING_BYTES.false c.if-ran-size.false ∙ sym (called_is _ _ _ c.if-number.true _ c.to_usize-index.ensures _ (sym c.find.ensures ∙ c.start-1.given.1))
+    passes _ _ _ _ c.if-ran-gt-MAX_CHARSTRING_BYTES.false c.if-ran-size.false ∙ sym (called_is _ _ _ c.if-number.true _ c.to_usize-index.ensures _ (sym c.find.ensures ∙ c.in-At.is))
 
 pub returns : goal.returns
 unfolding of_bits

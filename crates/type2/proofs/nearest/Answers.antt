@@ -7,15 +7,11 @@ use borrow.Author.Tests.{not-true}
 use Rattle.type2.specs.Whole.{came_back, came_near}
 use Rattle.type2.proofs.nearest.Goals as goal
 
--- what owning an `f64` tells: the format holds it
-held : (c : tie.Start) → T (fits binary64 c.args.v)
-held c = subst T (sym c.well-formed.0.1) tt
-
 pub returns-then-r-v : goal.returns-then-r-v
 unfolding of_bits neg
-returns-then-r-v c = came_back c.args.v (held c) c.if-v.true c.if-v-2.true c.if-r-v.true
+returns-then-r-v c = came_back c.args.v (let z : T (fits binary64 c.args.v) = subst T (sym c.well_formed.0.1) tt in z) c.if-v.true c.if-v-2.true c.if-r-v.true
 
 pub returns-then-r : goal.returns-then-r
 unfolding of_bits neg ne
 returns-then-r c =
-    came_near c.args.v (held c) c.if-v.true c.if-v-2.true _ refl c.if-d.true c.if-d-2.true (not-true _ c.if-r.true)
+    came_near c.args.v (let z : T (fits binary64 c.args.v) = subst T (sym c.well_formed.0.1) tt in z) c.if-v.true c.if-v-2.true _ refl c.if-d.true c.if-d-2.true (not-true _ c.if-r.true)

@@ -7,4 +7,4 @@ use Rattle.type2.specs.Pushes.{push-number_few}
 use Rattle.type2.proofs.push_number.Goals as goal
 
 pub overflow_cast-result : goal.overflow_cast-result
-overflow_cast-result c = Fits-under _ _ 19 (subst (λ (p : Push). p.number < 19) (sym c.push_far-d.ensures.0) (push-number_few _ _ _)) tt
+overflow_cast-result c = Fits-under _ _ 19 (subst (λ (p : Push). p.number < 19) (sym c.push_far-d.ensures.out_after) (push-number_few _ _ _)) tt

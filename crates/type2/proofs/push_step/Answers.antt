@@ -7,4 +7,4 @@ use Rattle.type2.proofs.push_step.Goals as goal
 pub returns : goal.returns
 returns c =
     let d = c.push_delta-d.ensures in
-    record { out_after = d.0; reached_value = ap (λ (x : Float). add binary64 c.args.from x) d.1 }
+    record { out_after = d.out_after; reached_value = ap (λ (x : Float). add binary64 c.args.from x) d.value_value }
