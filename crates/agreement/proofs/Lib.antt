@@ -1,2 +1,12 @@
-pub mod Locals
-pub mod EntryCallees
+pub mod Agreement
+pub mod Commands
+pub mod Converted
+pub mod Deltas
+pub mod FinishedLaws
+pub mod Folded
+pub mod Items
+pub mod Path
+pub mod Program
+pub mod Runs
+pub mod Strict
+pub mod Writes

@@ -18,7 +18,7 @@ use Rattle.type1_to_type2.specs.Nonzero.{finish_nonzero}
 use Rattle.type1_to_type2.specs.Entry.{Answers, ConvertsFrom}
 use Rattle.type2.specs.declared.Widths.{Widths}
 use Rattle.agreement.specs.Demand3.{Demand3}
-use Rattle.agreement.specs.Agreement.{demand3}
+use Rattle.agreement.proofs.Agreement.{demand3}
 use Rattle.agreement.specs.Finished.{refusal, with_len, with_program, finished, Finishes, glyph_in, ConvertsFinished}
 
 -- the program that converting left is the front of its output

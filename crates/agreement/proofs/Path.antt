@@ -18,7 +18,7 @@ use Rattle.type1_to_type2.specs.Emission.{kind_of, points_of, height_of, follow,
 use Rattle.agreement.specs.Demand3.{SamePoint}
 use Rattle.type1_to_type2.specs.Fine.{items_fine}
 use Rattle.agreement.specs.Simulation.{ListCoordinates, Bounded, PointsRun, effects, size, AllAccepted, entries_of, point_count, CommandCoordinates, masks_from, masks_of, CommandsRun}
-use Rattle.agreement.specs.Deltas.{one_delta, delta_meets}
+use Rattle.agreement.proofs.Deltas.{one_delta, delta_meets}
 
 bound_grows : (n : ℕ) (z u : ℤ) → T (in_range u) → zp z + zm z ≤ n * 2147483648 → zp (z +ℤ u) + zm (z +ℤ u) ≤ suc n * 2147483648
 bound_grows n z u r h =
