@@ -14,4 +14,4 @@ curve_by-requires c =
 
 pub returns : goal.returns
 returns c =
-    record { takes = curve_does _ _ _ _ _ _ _ _ c.curve_deltas-d.ensures _ _ c.cleared.ensures (not-false _ c.if-not-d.false) c.curve_by.ensures.0; space = clear_space c.args.st _ c.curve_by.result _ c.cleared.ensures c.curve_by.ensures.space }
+    record { takes = curve_does _ _ _ _ _ _ _ _ c.curve_deltas-d.ensures _ _ c.cleared.ensures (not-false _ c.if-not-d.false) c.curve_by.ensures.step; space = clear_space c.args.st _ c.curve_by.result _ c.cleared.ensures c.curve_by.ensures.space }

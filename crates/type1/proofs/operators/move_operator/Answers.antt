@@ -14,4 +14,4 @@ move_by-requires c =
 
 pub returns : goal.returns
 returns c =
-    record { takes = point-does _ _ _ _ _ _ _ _ _ c.point_delta-d.ensures _ _ c.cleared.ensures (not-false _ c.if-not-d.false) c.move_by.ensures.0; space = clear_space c.args.st _ c.move_by.result _ c.cleared.ensures c.move_by.ensures.space }
+    record { takes = point-does _ _ _ _ _ _ _ _ _ c.point_delta-d.ensures _ _ c.cleared.ensures (not-false _ c.if-not-d.false) c.move_by.ensures.step; space = clear_space c.args.st _ c.move_by.result _ c.cleared.ensures c.move_by.ensures.space }

@@ -13,4 +13,4 @@ returns-then-same c =
 
 pub returns : goal.returns
 returns c =
-    record { step = commits_new _ _ _ _ _ _ c.if-not-st.false c.if-same.false c.new_group.ensures.0; path = path_new _ _ _ c.if-not-st.false c.new_group.ensures.1.0.0 c.new_group.ensures.1.0.1; grown = c.new_group.ensures.grown }
+    record { step = commits_new _ _ _ _ _ _ (not-false _ c.if-not-st.false) c.if-same.false c.new_group.ensures.meets; path = path_new _ _ _ (not-false _ c.if-not-st.false) c.new_group.ensures.changed_value.0 c.new_group.ensures.changed_value.1; grown = c.new_group.ensures.grown }

@@ -67,7 +67,7 @@ unfolding of_bits
 returns-then-number-eq2 c = record {
   meets = others-collect _ _ _ _ _ _ _ _ c.if-n-lt2.false (taken_told _ _ _ c.arguments-a.ensures
       c.if-a-ne0.false).0 _ (taken_told _ _ _ c.arguments-a.ensures c.if-a-ne0.false).1 (taken_told _ _ _ c.arguments-a.ensures
-      c.if-a-ne0.false).2 _ c.to_i64-number.ensures c.to_i64-number.type_inv c.if-number-eq0.false c.if-number-eq1.false _ c.if-number-eq2.true c.collect.ensures.groups_value c.collect.ensures.0;
+      c.if-a-ne0.false).2 _ c.to_i64-number.ensures c.to_i64-number.type_inv c.if-number-eq0.false c.if-number-eq1.false _ c.if-number-eq2.true c.collect.ensures.groups_value c.collect.ensures.meets;
   space = λ n. absurd (n c.collect.ensures.groups_value);
 }
 
@@ -77,7 +77,7 @@ returns-then-number-eq3 c = record {
   meets = others_hints _ _ _ _ _ _ _ _ c.if-n-lt2.false (taken_told _ _ _ c.arguments-a.ensures
       c.if-a-ne0.false).0 _ (taken_told _ _ _ c.arguments-a.ensures
       c.if-a-ne0.false).1 (taken_told _ _ _ c.arguments-a.ensures c.if-a-ne0.false).2 _ c.to_i64-number.ensures
-      c.to_i64-number.type_inv c.if-number-eq0.false c.if-number-eq1.false c.if-number-eq2.false _ c.if-number-eq3.true c.hand_back.ensures.groups_value c.hand_back.ensures.0;
+      c.to_i64-number.type_inv c.if-number-eq0.false c.if-number-eq1.false c.if-number-eq2.false _ c.if-number-eq3.true c.hand_back.ensures.groups_value c.hand_back.ensures.meets;
   space = λ n. absurd (n c.hand_back.ensures.groups_value);
 }
 
@@ -87,6 +87,6 @@ returns c = record {
   meets = others_unknown _ _ _ _ _ _ _ _ c.if-n-lt2.false (taken_told _ _ _ c.arguments-a.ensures
       c.if-a-ne0.false).0 _ (taken_told _ _ _ c.arguments-a.ensures
       c.if-a-ne0.false).1 (taken_told _ _ _ c.arguments-a.ensures c.if-a-ne0.false).2 _ c.to_i64-number.ensures
-      c.to_i64-number.type_inv c.if-number-eq0.false c.if-number-eq1.false c.if-number-eq2.false _ c.if-number-eq3.false c.hand_back-2.ensures.groups_value c.hand_back-2.ensures.0;
+      c.to_i64-number.type_inv c.if-number-eq0.false c.if-number-eq1.false c.if-number-eq2.false _ c.if-number-eq3.false c.hand_back-2.ensures.groups_value c.hand_back-2.ensures.meets;
   space = λ n. absurd (n c.hand_back-2.ensures.groups_value);
 }
