@@ -1,6 +1,5 @@
 -- `type1_to_type2::finished_program` meets its contract: it is the output's front part.
 use mathlib.Core.Path.{sym, subst}
-use borrow.Author.Rules.{rules}
 use Rattle.type1_to_type2.specs.FinishAnswer.{Front}
 use Rattle.type1_to_type2.proofs.FinishingLaws.{front_of}
 use Rattle.type1_to_type2.proofs.finished_program.Goals as goal

@@ -1,5 +1,4 @@
 -- `type1_to_type2::checking::check_entry` meets its contract. Assumes nothing.
-use borrow.Author.Rules.{rules}
 use Rattle.type1_to_type2.proofs.CheckingLaws.{identity-finite}
 use Rattle.type1_to_type2.proofs.checking.check_entry.Goals as goal
 

@@ -1,5 +1,4 @@
 use Rattle.type1_to_type2.proofs.Coordinates.{pattern_good, finite-both, infinite_x}
-use borrow.Author.Rules.{rules}
 use Rattle.type1_to_type2.proofs.checking.check_point.Goals as goal
 
 pub float_from_bits-x : goal.float_from_bits-x

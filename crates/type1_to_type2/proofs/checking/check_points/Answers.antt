@@ -1,9 +1,7 @@
 use native.Mathlib.Omega.{arith}
-use borrow.Author.Tests.{not-true, not-false}
 use Rattle.folding.proofs.Folds.{six_1, six_2, six_3, six_4, six_5, six_6}
 use Rattle.type1_to_type2.proofs.Coordinates.{three_1, three_2, three_3, good_move, good_line, good_curve, good_flex, fine, fine_move, fine_line, fine_curve, fine_flex, fine-none}
 use mathlib.Core.Path.{sym, ◌∙◌}
-use borrow.Author.Rules.{rules}
 use Rattle.type1_to_type2.proofs.checking.check_points.Goals as goal
 
 pub check_point-requires : goal.check_point-requires

@@ -1,7 +1,4 @@
 use Rattle.type1_to_type2.proofs.CheckingLaws.{groups_none, groups_more, groups_all}
-use Rattle.type1_to_type2.specs.Entry.{group_count}
-use mathlib.Core.Path.{◌≡◌}
-use Prim.Native.Nat.{◌≤◌, ◌-◌}
 use native.Mathlib.Omega.{arith}
 use Rattle.type1_to_type2.proofs.checking.count_groups.Goals as goal
 

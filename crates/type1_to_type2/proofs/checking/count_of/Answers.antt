@@ -1,5 +1,4 @@
 use Rattle.type1_to_type2.proofs.Coordinates.{group_count_lem, no_count}
-use borrow.Author.Rules.{rules}
 use Rattle.type1_to_type2.proofs.checking.count_of.Goals as goal
 
 pub returns-then-commands-at-eq-GROUP : goal.returns-then-commands-at-eq-GROUP

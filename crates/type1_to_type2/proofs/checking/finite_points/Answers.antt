@@ -1,9 +1,4 @@
-use borrow.Author.Rules.{rules}
 use Rattle.type1_to_type2.proofs.CheckingLaws.{points_none, points_more, points_all}
-use Rattle.folding.specs.Folding.{folded_list, finite_list}
-use Rattle.outline.specs.Store.{drawn_in}
-use mathlib.Core.Path.{◌≡◌}
-use Prim.Native.Nat.{◌≤◌, ◌-◌}
 use native.Mathlib.Omega.{arith}
 use Rattle.type1_to_type2.proofs.checking.finite_points.Goals as goal
 

@@ -1,5 +1,4 @@
 use Rattle.type1_to_type2.proofs.Coordinates.{group_first, no_first}
-use borrow.Author.Rules.{rules}
 use Rattle.type1_to_type2.proofs.checking.first_of.Goals as goal
 
 pub returns-then-commands-at-eq-GROUP : goal.returns-then-commands-at-eq-GROUP

@@ -2,7 +2,6 @@
 use Rattle.type1_to_type2.specs.Collecting.{count_of}
 use mathlib.Core.Bool.{Bool, cond}
 use mathlib.Core.Path.{sym, ap, ◌∙◌}
-use borrow.Author.Rules.{rules}
 use Rattle.type1_to_type2.proofs.checking.mask_count.Goals as goal
 
 pub returns-then-masked : goal.returns-then-masked

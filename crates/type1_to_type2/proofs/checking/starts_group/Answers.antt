@@ -1,5 +1,4 @@
 use Rattle.type1_to_type2.proofs.CheckingLaws.{is_start, no_start}
-use borrow.Author.Rules.{rules}
 use Rattle.type1_to_type2.proofs.checking.starts_group.Goals as goal
 
 pub returns-then-commands-e-eq-GROUP : goal.returns-then-commands-e-eq-GROUP

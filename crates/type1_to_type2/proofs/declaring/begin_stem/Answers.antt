@@ -2,7 +2,6 @@
 use native.Mathlib.Omega.{arith}
 use lib.Ieee.{of_bits}
 use Rattle.type1_to_type2.proofs.StemTables.{next-operator}
-use borrow.Author.Rules.{rules}
 use Rattle.type1_to_type2.proofs.declaring.begin_stem.Goals as goal
 
 pub returns : goal.returns

@@ -3,7 +3,6 @@ use mathlib.Core.Path.{refl, ap, sym, ◌∙◌}
 use mathlib.Core.Bool.{Bool, cond}
 use lib.Ieee.{of_bits}
 use Rattle.type1_to_type2.proofs.StemTables.{front_written}
-use borrow.Author.Rules.{rules}
 use Rattle.type1_to_type2.proofs.declaring.write_front.Goals as goal
 
 pub returns-then-masked : goal.returns-then-masked

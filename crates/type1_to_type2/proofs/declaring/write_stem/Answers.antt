@@ -3,7 +3,6 @@ use native.Mathlib.Omega.{arith}
 use mathlib.Core.Path.{ap₂, ◌∙◌}
 use lib.Ieee.{binary64, add}
 use Rattle.type1_to_type2.proofs.StemTables.{stem-written, one_less}
-use borrow.Author.Rules.{rules}
 use Rattle.type1_to_type2.proofs.declaring.write_stem.Goals as goal
 
 pub returns : goal.returns

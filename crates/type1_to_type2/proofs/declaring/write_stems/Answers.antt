@@ -1,12 +1,7 @@
 -- `type1_to_type2::declaring::write_stems` meets its contract.
 use native.Mathlib.Omega.{arith}
-use Prim.Native.Nat.{ℕ, ◌-◌, ◌≤◌}
-use mathlib.Core.Path.{◌≡◌, refl, ◌∙◌}
-use lib.ListN.{length, drop}
+use mathlib.Core.Path.{refl, ◌∙◌}
 use lib.Ieee.{of_bits}
-use Rattle.type1_to_type2.specs.Streaming.{resumed, stems_written, Still}
-use Rattle.type1_to_type2.specs.Writing.{Written}
-use Rattle.type1_to_type2.specs.Table.{table_stems}
 use Rattle.type1_to_type2.proofs.StemTables.{stem_again, stems_full, stems_last}
 use Rattle.type1_to_type2.proofs.declaring.write_stems.Goals as goal
 

@@ -1,13 +1,10 @@
 -- `type1_to_type2::declaring::write_stems` meets its contract.
-use native.Mathlib.Omega.{arith}
 use Prim.Native.Nat.{ℕ, ◌-◌, ◌≤◌}
-use mathlib.Core.Path.{◌≡◌, refl, ◌∙◌}
+use mathlib.Core.Path.{◌≡◌}
 use lib.ListN.{length, drop}
-use lib.Ieee.{of_bits}
 use Rattle.type1_to_type2.specs.Streaming.{resumed, stems_written, Still}
 use Rattle.type1_to_type2.specs.Writing.{Written}
 use Rattle.type1_to_type2.specs.Table.{table_stems}
-use Rattle.type1_to_type2.proofs.StemTables.{stem_again, stems_full, stems_last}
 use Rattle.type1_to_type2.proofs.declaring.write_stems.Given as goal
 
 abbrev pub invariant-loop-i : goal.invariant-loop-i

@@ -2,7 +2,6 @@
 use Rattle.type1_to_type2.proofs.Entries.{begins_curve, begins_line, begins_flex, begins_none}
 use Rattle.type1_to_type2.proofs.Draws.{takes_few}
 use lib.Dec.{lit<}
-use borrow.Author.Rules.{rules}
 use Rattle.type1_to_type2.proofs.drawing.begin_entry.Goals as goal
 
 pub batch-requires : goal.batch-requires

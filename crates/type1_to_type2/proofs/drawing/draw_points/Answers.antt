@@ -1,8 +1,7 @@
 -- `type1_to_type2::drawing::draw_points` meets its contract: the points left are written by the turns left.
-use Rattle.type1_to_type2.proofs.Points.{PointsLeft, points-first, point_good, point-written, points-written}
+use Rattle.type1_to_type2.proofs.Points.{points-first, point_good, point-written, points-written}
 use borrow.Author.Rules.{rules}
 use native.Mathlib.Omega.{arith}
-use Prim.Native.Nat.{◌≤◌, ◌-◌}
 use Rattle.type1_to_type2.proofs.drawing.draw_points.Goals as goal
 
 pub loop-j-init : goal.loop-j-init
@@ -20,10 +19,6 @@ overflow_add-j c =
 pub read_point-p-requires : goal.read_point-p-requires
 read_point-p-requires c =
     record { entry_words_in_bounds = (c.requires.entry_words_in_bounds.0, omega (arith, c.requires.entry_words_in_bounds)); of_point = point_good _ _ _ _ _ c.loop-j-test.true c.loop-j.invariant.1 }
-
-pub overflow_add-j : goal.overflow_add-j
-overflow_add-j c =
-    omega (arith, c.requires.0)
 
 pub loop-j-preserved : goal.loop-j-preserved
 loop-j-preserved c =

@@ -1,7 +1,5 @@
 -- `type1_to_type2::drawing::draw_points` meets its contract: the points left are written by the turns left.
-use Rattle.type1_to_type2.proofs.Points.{PointsLeft, points-first, point_good, point-written, points-written}
-use borrow.Author.Rules.{rules}
-use native.Mathlib.Omega.{arith}
+use Rattle.type1_to_type2.proofs.Points.{PointsLeft}
 use Prim.Native.Nat.{◌≤◌, ◌-◌}
 use Rattle.type1_to_type2.proofs.drawing.draw_points.Given as goal
 

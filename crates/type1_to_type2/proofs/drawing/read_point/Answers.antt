@@ -1,6 +1,5 @@
 -- `type1_to_type2::drawing::read_point` meets its contract.
 use Rattle.type1_to_type2.proofs.Points.{no_nan-bits}
-use borrow.Author.Rules.{rules}
 use Rattle.type1_to_type2.proofs.drawing.read_point.Goals as goal
 
 pub float_from_bits-x : goal.float_from_bits-x

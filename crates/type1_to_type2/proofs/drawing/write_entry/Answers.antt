@@ -8,7 +8,6 @@ use Rattle.type1_to_type2.specs.Stems.{mask_of}
 use Rattle.type1_to_type2.proofs.StemBits.{mask-length}
 use mathlib.Core.Bool.{true}
 use mathlib.Core.List.{[]}
-use borrow.Author.Rules.{rules}
 use Rattle.type1_to_type2.proofs.drawing.write_entry.Goals as goal
 
 pub read_point-p-requires : goal.read_point-p-requires
@@ -21,7 +20,7 @@ returns-then-kind-eq-MOVE c =
 
 pub returns-then-masked : goal.returns-then-masked
 returns-then-masked c =
-    (λ ss g cs l h. mask-drawn _ _ _ (mask_of g ss) _ c.if-kind-eq-GROUP.true c.if-masked.true (c.write_mask.ensures.1 (mask_of g ss) (mask-length g ss ∙ l) (h c.if-masked.true)) ss g cs refl, c.write_mask.ensures.0)
+    (λ ss g cs l h. mask-drawn _ _ _ (mask_of g ss) _ c.if-kind-eq-GROUP.true c.if-masked.true (c.write_mask.ensures.masks (mask_of g ss) (mask-length g ss ∙ l) (h c.if-masked.true)) ss g cs refl, c.write_mask.ensures.out_len_unchanged)
 
 pub returns-then-kind-eq-GROUP : goal.returns-then-kind-eq-GROUP
 returns-then-kind-eq-GROUP c =

@@ -1,6 +1,5 @@
 use Rattle.type1_to_type2.proofs.CheckingLaws.{opened_refused, opened_front}
 use mathlib.Core.Path.{refl}
-use borrow.Author.Rules.{rules}
 use Rattle.type1_to_type2.proofs.entry.begin_program.Goals as goal
 
 pub returns-then-p-ne0 : goal.returns-then-p-ne0

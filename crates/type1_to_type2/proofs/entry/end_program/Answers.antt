@@ -4,7 +4,6 @@ use Rattle.type1_to_type2.proofs.CheckingLaws.{ended_refused, ended-written}
 use mathlib.Core.Bool.{false}
 use mathlib.Core.List.{[]}
 use lib.Ieee.{of_bits}
-use borrow.Author.Rules.{rules}
 use Rattle.type1_to_type2.proofs.entry.end_program.Goals as goal
 
 pub returns-then-v-ne0 : goal.returns-then-v-ne0

@@ -1,5 +1,4 @@
 use Rattle.type1_to_type2.proofs.CheckingLaws.{matrix_fine, matrix_not}
-use borrow.Author.Rules.{rules}
 use Rattle.type1_to_type2.proofs.entry.first_number.Goals as goal
 
 pub returns-then-finite_matrix : goal.returns-then-finite_matrix

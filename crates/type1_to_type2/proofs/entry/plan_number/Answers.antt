@@ -1,7 +1,6 @@
 use lib.Ieee.Scale.{finite}
 use mathlib.Core.Bool.{◌&&◌}
 use Rattle.type1_to_type2.proofs.CheckingLaws.{refused_already, all_fine_lem, not_fine}
-use borrow.Author.Rules.{rules}
 use Rattle.type1_to_type2.proofs.entry.plan_number.Goals as goal
 
 pub returns-then-number-ne0 : goal.returns-then-number-ne0

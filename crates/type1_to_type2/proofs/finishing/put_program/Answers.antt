@@ -1,8 +1,8 @@
 -- `type1_to_type2::finishing::put_program` meets its contract. The invariant: i bytes stand in the output.
 use mathlib.Core.Path.{◌≡◌, refl, ◌∙◌, ap}
-use Prim.Native.Nat.{◌+◌, ◌-◌, ◌≤◌}
+use Prim.Native.Nat.{◌+◌}
 use native.Mathlib.Omega.{arith}
-use lib.ListN.{length, get_or, length-set}
+use lib.ListN.{get_or, length-set}
 use lib.Seq.{paste, paste-zero}
 use Rattle.type1_to_type2.proofs.FinishingLaws.{stored_one}
 use Rattle.type1_to_type2.proofs.finishing.put_program.Goals as goal

@@ -1,10 +1,8 @@
 -- `type1_to_type2::finishing::put_program` meets its contract. The invariant: i bytes stand in the output.
-use mathlib.Core.Path.{◌≡◌, refl, ◌∙◌, ap}
-use Prim.Native.Nat.{◌+◌, ◌-◌, ◌≤◌}
-use native.Mathlib.Omega.{arith}
-use lib.ListN.{length, get_or, length-set}
-use lib.Seq.{paste, paste-zero}
-use Rattle.type1_to_type2.proofs.FinishingLaws.{stored_one}
+use mathlib.Core.Path.{◌≡◌}
+use Prim.Native.Nat.{◌-◌, ◌≤◌}
+use lib.ListN.{length}
+use lib.Seq.{paste}
 use Rattle.type1_to_type2.proofs.finishing.put_program.Given as goal
 
 abbrev pub invariant-loop-i : goal.invariant-loop-i

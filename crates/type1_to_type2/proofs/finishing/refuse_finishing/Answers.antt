@@ -3,7 +3,6 @@ use mathlib.Core.Path.{refl, ◌∙◌, ap}
 use Prim.Native.Nat.{ℕ}
 use native.Mathlib.Nat.{sub-zero}
 use lib.ListN.{length, replicate}
-use borrow.Author.Rules.{rules}
 use Rattle.type1_to_type2.proofs.finishing.refuse_finishing.Goals as goal
 
 pub returns : goal.returns

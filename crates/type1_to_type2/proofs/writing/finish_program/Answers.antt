@@ -1,7 +1,6 @@
 -- `type1_to_type2::writing::finish_program` meets its contract.
 use mathlib.Core.Path.{refl, ◌∙◌}
 use Rattle.type1_to_type2.proofs.Draws.{ended, finished}
-use borrow.Author.Rules.{rules}
 use Rattle.type1_to_type2.proofs.writing.finish_program.Goals as goal
 
 pub returns : goal.returns

@@ -2,7 +2,6 @@
 use Rattle.type1.specs.Run.{point_at}
 use mathlib.Core.Path.{refl, ap₂}
 use Rattle.type1_to_type2.proofs.Draws.{waiting, as_put, flushed_none}
-use borrow.Author.Rules.{rules}
 use Rattle.type1_to_type2.proofs.writing.flush.Goals as goal
 
 pub returns-then-k-eq0 : goal.returns-then-k-eq0

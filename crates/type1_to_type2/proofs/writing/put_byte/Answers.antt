@@ -6,7 +6,6 @@ use mathlib.Core.Path.{refl, ap, ◌∙◌}
 use Prim.Native.Nat.{ℕ, ◌+◌}
 use native.Mathlib.Omega.{arith}
 use lib.ListN.{length, length-set}
-use borrow.Author.Rules.{rules}
 use Rattle.type1_to_type2.proofs.writing.put_byte.Goals as goal
 
 pub returns-then-w-ne0 : goal.returns-then-w-ne0

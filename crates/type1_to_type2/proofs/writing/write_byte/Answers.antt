@@ -1,5 +1,4 @@
 -- `type1_to_type2::writing::write_byte` meets its contract.
-use borrow.Author.Rules.{rules}
 use mathlib.Core.Path.{refl}
 use Rattle.type1_to_type2.proofs.writing.write_byte.Goals as goal
 

@@ -1,14 +1,6 @@
 -- `type1_to_type2::writing::write_mask` meets its contract.
 use Rattle.type1_to_type2.proofs.Masking.{mask_step, mask_end}
-use Rattle.type1_to_type2.specs.Writing.{Written, put}
-use Rattle.type1_to_type2.specs.Streaming.{resumed, Still}
-use Rattle.type1_to_type2.specs.Places.{places_from, LeftFrom}
-use Rattle.type2.specs.Instruction.{mask_bytes}
-use lib.ListN.{length, take, drop}
-use Prim.Native.Nat.{ℕ, ◌-◌}
-use mathlib.Core.List.{List}
-use mathlib.Core.Bool.{Bool}
-use mathlib.Core.Path.{◌≡◌, refl, ◌∙◌}
+use mathlib.Core.Path.{refl, ◌∙◌}
 use borrow.Author.Rules.{Fits-under}
 use native.Mathlib.Omega.{arith}
 use Rattle.type1_to_type2.proofs.writing.write_mask.Goals as goal

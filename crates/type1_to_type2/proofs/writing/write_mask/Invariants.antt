@@ -1,5 +1,4 @@
 -- `type1_to_type2::writing::write_mask` meets its contract.
-use Rattle.type1_to_type2.proofs.Masking.{mask_step, mask_end}
 use Rattle.type1_to_type2.specs.Writing.{Written, put}
 use Rattle.type1_to_type2.specs.Streaming.{resumed, Still}
 use Rattle.type1_to_type2.specs.Places.{places_from, LeftFrom}
@@ -8,9 +7,7 @@ use lib.ListN.{length, take, drop}
 use Prim.Native.Nat.{ℕ, ◌-◌}
 use mathlib.Core.List.{List}
 use mathlib.Core.Bool.{Bool}
-use mathlib.Core.Path.{◌≡◌, refl, ◌∙◌}
-use borrow.Author.Rules.{Fits-under}
-use native.Mathlib.Omega.{arith}
+use mathlib.Core.Path.{◌≡◌}
 use Rattle.type1_to_type2.proofs.writing.write_mask.Given as goal
 
 abbrev pub invariant-loop-i : goal.invariant-loop-i
