@@ -36,15 +36,8 @@ returns-then-m-eq0 c = record {
 }
 
 pub end_flex-requires-then-number-eq0 : goal.end_flex-requires-then-number-eq0
-end_flex-requires-then-number-eq0 c = (
-  fewer_bounds c.args.st _ _ c.requires.0
-      (omega (
-        arith,
-        (taken_told _ _ _ c.arguments-a.ensures
-            c.if-a-ne0.false).2,
-      )),
-  (c.requires.1.0, (c.requires.1.1.operands _ (omega (arith, c.if-n-lt2.false)), c.requires.1.1.points)),
-)
+end_flex-requires-then-number-eq0 c =
+    record { bounds = fewer_bounds c.args.st _ _ c.requires.bounds (omega (arith, (taken_told _ _ _ c.arguments-a.ensures c.if-a-ne0.false).2)); stems_le_room = c.requires.stems_le_room; t = (c.requires.finite.operands _ (omega (arith, c.if-n-lt2.false)), c.requires.finite.points) }
 
 pub returns-then-number-eq0 : goal.returns-then-number-eq0
 unfolding of_bits
