@@ -1,5 +1,5 @@
 -- `type1::wipe` meets its contract.
-use mathlib.Core.Path.{refl, sym, ◌∙◌, ap}
+use mathlib.Core.Path.{sym, ◌∙◌, ap}
 use native.Mathlib.Omega.{arith}
 use lib.ListN.{length, length-set, replicate, length-replicate, get_or-replicate}
 use Rattle.outline.specs.Outline.{zero_stem}

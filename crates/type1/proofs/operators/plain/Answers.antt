@@ -1,5 +1,5 @@
 use Prim.Native.Nat.{◌≤◌}
-use Rattle.type1.proofs.Dispatch.{path_arm, bearing_arm, stems_arm, div_arm, pop_arm, other_arm, state_arm, rest_arm, closes, either, of_two, lines_of, move_no_pop, line_no_pop, curve_no_pop}
+use Rattle.type1.proofs.Dispatch.{path_arm, bearing_arm, stems_arm, div_arm, pop_arm, other_arm, state_arm, rest_arm, closes, of_two, lines_of, move_no_pop, line_no_pop, curve_no_pop}
 use Rattle.type1.proofs.Stacks.{cleared_holds}
 use Rattle.geometry.specs.declared.Point.{Point}
 use Rattle.type1.specs.declared.St.{St}
@@ -17,7 +17,6 @@ use mathlib.Core.Path.{refl, sym, ap, ◌∙◌, subst}
 use Rattle.type1.specs.Run.{move_by, line_by}
 use Rattle.type1.specs.Deltas.{axes_of, tangents_of, by_point, by_curve, stem_from}
 use Rattle.type1.specs.DeltaLaws.{moves, lines, curves, hstems, vstems}
-use borrow.Author.Rules.{rules}
 use Rattle.type1.proofs.operators.plain.Goals as goal
 use Rattle.type1.proofs.operators.plain.Goals.{in-8-1, in-4-1, in_default+else-op-lt3+else-op-lt8+else-op-lt21+else-op-lt23+else-op-lt30+then-op-lt32, in_default+else-op-lt3+else-op-lt8+else-op-lt21+then-op-lt23, in_default-via-then-op-lt3, in_default-via-else-op-lt3+else-op-lt8+then-op-lt21, in_default-via-else-op-lt3+else-op-lt8+else-op-lt21+else-op-lt23+then-op-lt30, in_default-via-else-op-lt3+else-op-lt8+else-op-lt21+else-op-lt23+else-op-lt30+else-op-lt32}
 use native.Mathlib.Omega.{arith}

@@ -1,14 +1,9 @@
 -- The cycle of calls {call_body, op, run}: each step is the run's, by `CycleLaws`.
-use Rattle.std.proofs.Common.{◌≡◌, ℕ, ◌+◌, ◌-◌, ◌<◌, length, List, Bool, not, ◌&&◌, take, drop, refl, sym, ap, ◌∙◌, subst, arith}
-use Prim.Native.Nat.{◌≤◌}
-use lib.Dec.{T, eqb, ltb}
+use Rattle.std.proofs.Common.{◌≡◌, ◌-◌, List, ◌&&◌, take, drop, refl, sym, ap, ◌∙◌, subst, arith}
+use lib.Dec.{ltb}
 use lib.Seq.{paste}
-use borrow.Author.Tests.{ne_eqb, eq-eqb}
+use Rattle.type1.proofs.Tests.{differ, agree, equal, bytes}
 use Rattle.std.proofs.lemmas.Bool.{le-ltb}
-use mir.Val.{Fits}
-use mir.Syntax.{w8}
-use lib.ListN.{get_or}
-use Rattle.charstring.specs.Cipher.{Bytes}
 use Rattle.outline.specs.declared.Stem.{Stem}
 use Rattle.outline.specs.Outline.{same_stems}
 use Rattle.type1.specs.Memory.{stems_at, kept}
@@ -16,19 +11,6 @@ use Rattle.type1.specs.Cycle.{mem_of, op_d, MeetsFrom}
 use Rattle.type1.proofs.Groups.{found_told}
 use Rattle.type1.proofs.CycleLaws.{finite_of, kept_same, kept_new, plained, call_refused, too_deep, ready_call, called, starts, ended, ready_token, token_stopped, op_stopped, op_went}
 use Rattle.type1.proofs.run.+call_body_op_run.Goals as goal
-
--- what a test says, as the laws take it
-differ : (a b : ℕ) → (a ≡ b → ⊥) → T (not (eqb a b))
-differ a b h = subst (λ (x : Bool). T (not x)) (sym (ne_eqb a b h)) tt
-
-agree : (a b : ℕ) → a ≡ b → T (not (not (eqb a b)))
-agree a b h = subst (λ (x : Bool). T (not (not x))) (sym (eq-eqb a b h)) tt
-
-equal : (a b : ℕ) → a ≡ b → T (eqb a b)
-equal a b h = subst T (sym (eq-eqb a b h)) tt
-
-bytes : (l : List ℕ) → ((i : ℕ) → Fits w8 (get_or l i 0)) → Bytes l
-bytes l h i = (h i).fits
 
 pub call_body-returns-then-f-ne0 : goal.call_body-returns-then-f-ne0
 call_body-returns-then-f-ne0 t c =

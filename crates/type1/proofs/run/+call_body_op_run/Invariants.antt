@@ -1,5 +1,5 @@
 -- The cycle of calls {call_body, op, run}. The measure is three times levels, one more for `op`, two more for `run`.
-use Rattle.std.proofs.Common.{length, ◌-◌, ◌≡◌, ℕ, ◌+◌}
+use Rattle.std.proofs.Common.{length, ◌-◌, ◌≡◌, ◌+◌}
 use Rattle.type1.specs.Cycle.{mem_of}
 use Rattle.type1.proofs.CycleLaws.{Onward}
 use Rattle.type1.proofs.run.+call_body_op_run.Given as goal

@@ -1,7 +1,6 @@
 -- `type1::stems::is_last` meets its contract.
-use mathlib.Core.Path.{◌≡◌, refl, sym, ◌∙◌, subst}
+use mathlib.Core.Path.{refl, sym, subst}
 use mathlib.Core.Bool.{Bool, not}
-use native.Mathlib.Omega.{arith}
 use lib.Dec.{T}
 use Rattle.type1.proofs.Hints.{last_room, last_found, last_not}
 use Rattle.type1.proofs.stems.is_last.Goals as goal

@@ -5,7 +5,6 @@ use lib.Ieee.{of_bits}
 use Rattle.type1.specs.declared.Ran.{Ran}
 use Rattle.type1.proofs.Stacks.{fewer_bounds}
 use Rattle.type1.proofs.OtherSubrs.{others-none, others_refused, others_flex, others-begin, others-collect, others_hints, others_unknown, height_none, height_first}
-use borrow.Author.Rules.{rules}
 use Rattle.type1.proofs.subroutines.callothersubr.Goals as goal
 
 pub returns-then-n-lt2 : goal.returns-then-n-lt2
