@@ -12,11 +12,11 @@ use Rattle.binary64.specs.Sums.{dist-mul, sub-rounded, amount_is, sub_sixteenths
 use Rattle.binary64.specs.Whole.{round_below}
 use Rattle.binary64.specs.Distance.{sub_near, gap, rnd, round_rnd, closest_near}
 use Rattle.type2.specs.Number.{quantized, zp, zm, in_range, Is, units}
-use Rattle.type2.specs.Quantize.{quantized-fixed, near}
+use Rattle.type2.proofs.QuantizeLaws.{quantized-fixed, near}
 use Rattle.type2.specs.Signed.{add_bal, one_sided}
 use Rattle.type2.specs.Bools.{and_both}
-use Rattle.type2.specs.Fixed.{is_multiple}
-use Rattle.type2.specs.Pushes.{quantized-written}
+use Rattle.type2.proofs.Fixed.{is_multiple}
+use Rattle.type2.proofs.Pushes.{quantized-written}
 use Rattle.type2.specs.Path.{delta}
 use Rattle.agreement.specs.Simulation.{Meets, Fixed, OneDelta}
 

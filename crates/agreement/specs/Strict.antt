@@ -1,7 +1,7 @@
 -- Laws: demand 3 of strict conversions (document 02, (c)). `Agreement.demand3` is over every reading, so over the strict one; a glyph that converts strictly has it in the present reading too.
---     strict-demand3    of a glyph that converts strictly, in the present reading
---     same-finished     an answer of the entry that converts and finishes that is not 22, its output and its stores are the present reading's
---     finished-22, finished-only-22    that entry answers 22 exactly where converting does
+--     strict_demand3    of a glyph that converts strictly, in the present reading
+--     same_finished     an answer of the entry that converts and finishes that is not 22, its output and its stores are the present reading's
+--     finished_22, finished_only_22    that entry answers 22 exactly where converting does
 use Rattle.std.specs.Prelude.{◌≡◌, refl, ◌⊎◌, ℕ, true, List}
 use Rattle.std.proofs.Common.{ap, ◌∙◌, inl, inr}
 use Rattle.std.proofs.lemmas.Bool.{eqb-false}
