@@ -23,7 +23,7 @@ use Rattle.type1_to_type2.specs.Strict.{convert-strict, converts_same, convert_2
 use Rattle.type2.specs.declared.Widths.{Widths}
 use Rattle.agreement.specs.Demand3.{Demand3}
 use Rattle.agreement.specs.Finished.{with_program, finished, ConvertsFinished}
-use Rattle.agreement.specs.Agreement.{demand3}
+use Rattle.agreement.proofs.Agreement.{demand3}
 
 module _ (x : Source) (len_iv : ℕ) (m : Matrix) (p : Widths) (r : Rooms) (room : ℕ) where
   -- demand 3, in the present reading, of a glyph that converts strictly

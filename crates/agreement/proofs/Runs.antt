@@ -11,7 +11,8 @@ use Rattle.type2.specs.Number.{Reading, no_number, number, read_from}
 use Rattle.type2.specs.Path.{Kind, moves, lines, curves, flexes}
 use Rattle.renderer.specs.Machine.{State, Step, fault, stop, on, failed, ended, push, joins, exactly, many, settle, after, stem, bits, none_set, mask, reach, all_small, draw, and_then, draws, across, upward, escape, operator, step, next, run}
 use Rattle.type2.specs.Bools.{choose}
-use Rattle.renderer.specs.Held.{Holds48, step_holds}
+use Rattle.renderer.specs.Held.{Holds48}
+use Rattle.renderer.proofs.HeldLaws.{step_holds}
 use Rattle.agreement.specs.Demand3.{reached, states}
 use Rattle.agreement.specs.Simulation.{Holding48, Stops}
 

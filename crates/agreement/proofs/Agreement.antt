@@ -29,13 +29,13 @@ use Rattle.agreement.specs.Finished.{with_program}
 use Rattle.type1_to_type2.specs.Finish.{width_for, first, finish}
 use Rattle.agreement.specs.Demand3.{SameDrawing, masks_for, left, unlimited_run, Demand3}
 use Rattle.agreement.specs.Simulation.{commands_of, Meets, ListCoordinates, point_count, masks_of, Ran, Folds}
-use Rattle.agreement.specs.Program.{program-run}
-use Rattle.agreement.specs.Runs.{states_hold, ends_at_14}
+use Rattle.agreement.proofs.Program.{program-run}
+use Rattle.agreement.proofs.Runs.{states_hold, ends_at_14}
 use Rattle.type1_to_type2.specs.Fine.{write_is}
-use Rattle.agreement.specs.Writes.{finish_is}
-use Rattle.agreement.specs.Commands.{commands-entries, commands-points, commands_coordinates, commands_masks}
-use Rattle.agreement.specs.Folded.{near_list, exact_list, folded-points, folded-length, folded_rising, folded_masks, few_stems_lem}
-use Rattle.agreement.specs.Converted.{ends_so, converts}
+use Rattle.agreement.proofs.Writes.{finish_is}
+use Rattle.agreement.proofs.Commands.{commands-entries, commands-points, commands_coordinates, commands_masks}
+use Rattle.agreement.proofs.Folded.{near_list, exact_list, folded-points, folded-length, folded_rising, folded_masks, few_stems_lem}
+use Rattle.agreement.proofs.Converted.{ends_so, converts}
 
 instructions_are : (m : Matrix) (s : State) → instructions m s ≡ program (left m s) (commands_of m s)
 instructions_are m s = unfold instructions in refl

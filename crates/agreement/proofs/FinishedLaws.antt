@@ -1,6 +1,6 @@
 -- Laws: what the entry that converts and finishes leaves, from what its parts leave.
-use Rattle.std.specs.Prelude.{◌≡◌, refl, ℕ, zero, suc, ◌+◌, ◌-◌, ◌≤◌, List, [], ◌∷◌, ◌++◌, length, replicate, take}
-use Rattle.std.proofs.Common.{sym, ◌∙◌, ap, ap₂, subst, arith}
+use Rattle.std.specs.Prelude.{◌≡◌, refl, ℕ, ◌-◌, List, ◌++◌, length, replicate, take}
+use Rattle.std.proofs.Common.{sym, ◌∙◌, ap, ap₂, subst}
 use Rattle.std.proofs.Math.Seq.{take-append_seam}
 use Rattle.charstring.specs.Cipher.{Bytes}
 use Rattle.geometry.specs.declared.Matrix.{Matrix}
@@ -18,7 +18,7 @@ use Rattle.type1_to_type2.specs.Nonzero.{finish_nonzero}
 use Rattle.type1_to_type2.specs.Entry.{Answers, ConvertsFrom}
 use Rattle.type2.specs.declared.Widths.{Widths}
 use Rattle.agreement.specs.Demand3.{Demand3}
-use Rattle.agreement.specs.Agreement.{demand3}
+use Rattle.agreement.proofs.Agreement.{demand3}
 use Rattle.agreement.specs.Finished.{refusal, with_len, with_program, finished, Finishes, glyph_in, ConvertsFinished}
 
 -- the program that converting left is the front of its output

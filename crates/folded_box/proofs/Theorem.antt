@@ -23,9 +23,9 @@ use Rattle.renderer.specs.Machine.{Entry}
 use Rattle.boxes.specs.declared.Bounds.{Bounds}
 use Rattle.boxes.specs.Box.{points}
 use Rattle.boxes.specs.Points.{IsBox}
-use Rattle.boxes.specs.Theorems.{boxed_says, refused_exactly}
+use Rattle.boxes.proofs.Theorems.{boxed_says, refused_exactly}
 use Rattle.agreement.specs.Demand3.{Near, SamePoint, SamePoints, SameDrawing}
-use Rattle.agreement.specs.Agreement.{demand3}
+use Rattle.agreement.proofs.Agreement.{demand3}
 use Rattle.folded_box.specs.FoldedBox.{all_points, BoxAround, FoldedInBox}
 
 -- ---- the points of two drawings that are the same

@@ -15,7 +15,8 @@ use Rattle.renderer.specs.Machine.{Entry, State, start, with_ops, with_stems, ru
 use Rattle.type2.specs.Number.{Is}
 use Rattle.type2.specs.Instruction.{Instr, instr, bytes, fine, all_fine}
 use Rattle.type2.specs.Bools.{and_both}
-use Rattle.renderer.specs.Operators.{Ready, settled_with, width_of, numbers-run, operands_run, stem-run}
+use Rattle.renderer.specs.Operators.{Ready, settled_with, width_of}
+use Rattle.renderer.proofs.InstructionLaws.{numbers-run, operands_run, stem-run}
 use Rattle.renderer.specs.Machine as Machine
 use Rattle.outline.specs.declared.Stem.{Stem}
 use Rattle.outline.specs.Outline.{plus_zero, origin}
@@ -25,8 +26,8 @@ use Rattle.type1_to_type2.specs.Finish.{first}
 use Rattle.agreement.specs.Demand3.{SamePoint, SameDrawing}
 use Rattle.type1_to_type2.specs.Fine.{pack-fine}
 use Rattle.agreement.specs.Simulation.{Meets, effects, StemsRun, entries_of, point_count, CommandCoordinates, Ran}
-use Rattle.agreement.specs.Items.{pack-run}
-use Rattle.agreement.specs.Path.{commands-run}
+use Rattle.agreement.proofs.Items.{pack-run}
+use Rattle.agreement.proofs.Path.{commands-run}
 
 -- ---- stems: the machine counts them all
 module _ (op : ℕ) (isStem : (eqb op 1 || eqb op 3 || eqb op 18 || eqb op 23) ≡ true) (no_number : (eqb op 28 || leb 32 op) ≡ false) where

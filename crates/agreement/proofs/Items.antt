@@ -1,5 +1,5 @@
 -- Laws: the machine runs the bytes of items. Each has its effect, and the run ends at the last byte.
-use Rattle.std.specs.Prelude.{◌≡◌, ℕ, suc, ◌+◌, ◌-◌, ◌*◌, ◌≤◌, Bool, ◌&&◌, length, T, leb, ℤ}
+use Rattle.std.specs.Prelude.{◌≡◌, ℕ, suc, ◌+◌, ◌*◌, ◌≤◌, Bool, ◌&&◌, length, T, leb, ℤ}
 use Rattle.std.proofs.Math.Path.{refl, ap, subst}
 use Rattle.std.proofs.Common.{sym, ◌∙◌, zero-mul, le_trans, arith, length-append, leb→le, lit≤}
 use mathlib.Core.List.{List, [], ◌∷◌, ◌++◌}
@@ -9,7 +9,8 @@ use Rattle.renderer.specs.Machine.{State, on, ended, with_mask, draws, run}
 use Rattle.type2.specs.Number.{in_range}
 use Rattle.type2.specs.Instruction.{Instr, instr, numbers, bytes, fine, mask_bytes}
 use Rattle.type2.specs.Bools.{choose, and_both}
-use Rattle.renderer.specs.Operators.{Ready, settled_with, operands_run, end_run, mask-run, acted, draws_snoc, move_run, flex_run, lines_run, curves_run}
+use Rattle.renderer.specs.Operators.{Ready, settled_with, acted}
+use Rattle.renderer.proofs.InstructionLaws.{operands_run, end_run, mask-run, draws_snoc, move_run, flex_run, lines_run, curves_run}
 use Rattle.type1_to_type2.specs.Emission.{move_of, Item, mask, go, Waiting, idle, held, code_of, same_kind, flush, join, pack}
 use Rattle.agreement.specs.Simulation.{effect, effects, size, Drawable, Accepted, AllAccepted, waits, Held, Waits, Flushed, ItemsRun}
 
