@@ -1,7 +1,7 @@
 #!/usr/bin/env bash
 # Builds target/bench/bench: stet's Rust, unchanged, and the archive of the crate board, in one program.
 # STET_SRC names the folder that holds stet's charstring.rs, geometry.rs and type1_to_type2.rs; their text is
-# copied to target/bench/ at each build and is never committed. ARCHIVE names the archive (rt staticlib board).
+# copied to target/bench/ at each build and is never committed. ARCHIVE names the archive (tools/build.sh archive).
 #
 #     bench/build.sh
 #     target/bench/bench [--rounds N] FONTS..        FONTS: Type 1 fonts, or folders of them

@@ -1,7 +1,7 @@
 #!/usr/bin/env bash
 # The size of each function of the archive, in bytes: its own code, its code with all that it calls (but memset), and the
 # read-only data that stays with it when a linker drops what is not used (--gc-sections); then that of all six, what the
-# archive needs from elsewhere, and its writable data. ARCHIVE names the archive (rt staticlib board).
+# archive needs from elsewhere, and its writable data. ARCHIVE names the archive (tools/build.sh archive).
 set -euo pipefail
 cd "$(dirname "$0")/.."
 . tools/need.sh

@@ -5,7 +5,7 @@
 #     bench/stack.sh --program PROGRAM ARGUMENTS..
 #
 # The first runs the functions on painted stacks (bench/src/stack.c) and then has the bound that their code gives for
-# every input (bench/stack_bound.py). ARCHIVE names the archive (rt staticlib board).
+# every input (bench/stack_bound.py). ARCHIVE names the archive (tools/build.sh archive).
 # The second finds the smallest `ulimit -s` under which the program ends as it does without one: the same exit status and
 # the same bytes on standard output. The kernel's part (arguments and environment) and the C library's are in it.
 set -euo pipefail

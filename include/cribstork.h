@@ -1,6 +1,6 @@
 /*
  * Cribstork: Type 1 charstrings made Type 2, for print boards.
- * C interface of the archive libboard.a (rt staticlib board), for x86-64.
+ * C interface of the archive libboard.a (tools/build.sh archive), for x86-64.
  *
  * Every function returns on every input, and returns a number: 0, or why it refused.
  *

@@ -6,7 +6,7 @@
 # CRIBSTORK names the program.
 program=${CRIBSTORK:-$(dirname "$0")/../target/bin/cribstork}
 if [ ! -x "$program" ]; then
-    echo "tools/cribstork.sh: $program is not there: rt check cribstork makes it, or CRIBSTORK names it" >&2
+    echo "tools/cribstork.sh: $program is not there: tools/build.sh program makes it, or CRIBSTORK names it" >&2
     exit 4
 fi
 said=$(mktemp) || exit 4

@@ -13,7 +13,7 @@ need_command() { # COMMAND WHAT TO INSTALL
 # The archive of the crate board, named by ARCHIVE; sets `archive`.
 need_archive() {
     archive=${ARCHIVE:-target/staticlib/libboard.a}
-    [ -f "$archive" ] || missing "there is no $archive: run 'rt staticlib board', or name the archive by ARCHIVE"
+    [ -f "$archive" ] || missing "there is no $archive: tools/build.sh makes it, or name the archive by ARCHIVE"
 }
 
 # stet's Rust, named by STET_SRC; sets `stet`.

@@ -1,4 +1,4 @@
-//! Links the archive libboard.a (rt staticlib board): the one that ARCHIVE names, or that of the repository.
+//! Links the archive libboard.a (tools/build.sh archive): the one that ARCHIVE names, or that of the repository.
 
 use std::env;
 use std::path::PathBuf;
@@ -12,7 +12,7 @@ fn main() {
         Ok(found) if found.ends_with("libboard.a") => found.with_file_name(""),
         _ => {
             let named = archive.display();
-            println!("cargo::error=there is no {named}: run 'rt staticlib board', or name libboard.a by ARCHIVE");
+            println!("cargo::error=there is no {named}: tools/build.sh makes it, or name libboard.a by ARCHIVE");
             exit(2);
         }
     };

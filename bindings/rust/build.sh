@@ -1,5 +1,5 @@
 #!/usr/bin/env bash
-# Builds target/bindings/libcribstork.rlib, which holds the archive too. ARCHIVE names the archive (rt staticlib board).
+# Builds target/bindings/libcribstork.rlib, which holds the archive too. ARCHIVE names the archive (tools/build.sh archive).
 #
 #     bindings/rust/build.sh
 #     rustc --edition 2024 --extern cribstork=target/bindings/libcribstork.rlib YOURS.rs

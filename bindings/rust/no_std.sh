@@ -1,6 +1,6 @@
 #!/usr/bin/env bash
 # Builds the wrapper and a program that uses it without std, without an allocator and without a C library, and runs it.
-# ARCHIVE names the archive (rt staticlib board).
+# ARCHIVE names the archive (tools/build.sh archive).
 set -euo pipefail
 cd "$(dirname "$0")/../.."
 . tools/need.sh

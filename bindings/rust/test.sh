@@ -1,6 +1,6 @@
 #!/usr/bin/env bash
 # Builds the wrapper's tests and runs them, by rustc and, where it is installed, by cargo; then a program without std
-# (no_std.sh). ARCHIVE names the archive (rt staticlib board).
+# (no_std.sh). ARCHIVE names the archive (tools/build.sh archive).
 set -euo pipefail
 cd "$(dirname "$0")/../.."
 . tools/need.sh

@@ -1,6 +1,6 @@
 #!/usr/bin/env bash
 # Builds target/examples/worked with the system's C compiler, runs it, and holds what it prints to the file expected.
-# ARCHIVE names the archive (rt staticlib board).
+# ARCHIVE names the archive (tools/build.sh archive).
 set -euo pipefail
 cd "$(dirname "$0")/../.."
 . tools/need.sh

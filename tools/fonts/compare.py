@@ -146,5 +146,5 @@ if __name__ == "__main__":
     try:
         sys.exit(main())
     except FileNotFoundError as missing:
-        print(f"tools/fonts/compare.py: there is no {missing.filename}; tools/fonts/build.sh and 'rt check cribstork' make the programs", file=sys.stderr)
+        print(f"tools/fonts/compare.py: there is no {missing.filename}; tools/fonts/build.sh and 'tools/build.sh program' make the programs", file=sys.stderr)
         sys.exit(2)

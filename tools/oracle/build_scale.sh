@@ -1,7 +1,7 @@
 #!/usr/bin/env bash
 # Builds target/scale/scale: stet's Rust and the archive of the crate board in one program, which gives both the same
 # cases and compares what they answer (tools/oracle/scale/main.rs).
-# STET_SRC names the folder that holds stet's files, ARCHIVE the archive (rt staticlib board).
+# STET_SRC names the folder that holds stet's files, ARCHIVE the archive (tools/build.sh archive).
 #
 #     tools/oracle/build_scale.sh
 #     target/scale/scale [--threads N] [--thousands N] [--tokens N] [--seed N] [--only PART] [FONTS..]

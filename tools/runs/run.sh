@@ -5,12 +5,12 @@
 #     tools/runs/run.sh             # exit 1 where something differs
 #     tools/runs/run.sh --record    # writes transcript.txt
 #
-# CRIBSTORK names the program (rt check cribstork). The runs are made in a copy of crates/cribstork/data, as nobody where this is root.
+# CRIBSTORK names the program (tools/build.sh program). The runs are made in a copy of crates/cribstork/data, as nobody where this is root.
 set -uo pipefail
 cd "$(dirname "$0")/../.."
 program=${CRIBSTORK:-target/bin/cribstork}
 if [ ! -x "$program" ]; then
-    echo "tools/runs/run.sh: $program is not there: rt check cribstork makes it, or CRIBSTORK names it" >&2
+    echo "tools/runs/run.sh: $program is not there: tools/build.sh program makes it, or CRIBSTORK names it" >&2
     exit 2
 fi
 recorded=$PWD/tools/runs/transcript.txt

@@ -1,2 +1,12 @@
-pub mod Locals
-pub mod EntryCallees
+pub mod Deltas
+pub mod Items
+pub mod Path
+pub mod Program
+pub mod Runs
+pub mod Writes
+pub mod Commands
+pub mod Folded
+pub mod Converted
+pub mod Agreement
+pub mod Strict
+pub mod FinishedLaws

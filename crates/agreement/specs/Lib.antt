@@ -1,15 +1,3 @@
 pub mod Demand3
 pub mod Simulation
-pub mod Deltas
-pub mod Items
-pub mod Path
-pub mod Program
-pub mod Runs
-pub mod Writes
-pub mod Commands
-pub mod Folded
-pub mod Converted
-pub mod Agreement
 pub mod Finished
-pub mod Strict
-pub mod FinishedLaws

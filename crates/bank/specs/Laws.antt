@@ -1,9 +1,9 @@
 -- Laws: the subroutine bank.
---     valid-is, is-valid, not_valid    the test is the layout, both ways
---     offset-last                      no offset of a valid bank is above the last
+--     valid_is, is_valid, not_valid    the test is the layout, both ways
+--     offset_last                      no offset of a valid bank is above the last
 --     found_within                     what is found lies within the bank, valid or not
 --     found-body                       in a valid bank, what is found is the body
---     body-some, body-none             body n exists exactly where n is below the count
+--     body_some, body-none             body n exists exactly where n is below the count
 --     body-length                      a body has at most the bank's bytes
 --     called-below, called_is          a call of a number below 0, and of any other
 use Rattle.std.specs.Prelude.{ℕ, zero, suc, ◌+◌, ◌-◌, ◌*◌, ◌<◌, ◌≤◌, Bool, ◌&&◌, List, pos, Float, leb, ltb}

@@ -13,7 +13,7 @@ use Rattle.type2.specs.Bools.{not_eq}
 use Rattle.renderer.specs.Machine.{Point, Entry, State, Result, failed, ended, start, run, machine, reach, last_of}
 use Rattle.renderer.specs.Reader.{Stands, first_reader, is_drawing, Taken, operands_of, settled_by, acted_each, acts, goes, Comes}
 use Rattle.renderer.specs.Operators.{acted}
-use Rattle.renderer.specs.ReaderLaws.{part_length, by_drawing, by_still, Splits, split_2, split_6, nil_of, possible_near}
+use Rattle.renderer.proofs.ReaderLaws.{part_length, by_drawing, by_still, Splits, split_2, split_6, nil_of, possible_near}
 use Rattle.renderer.specs.declared.Reader.{Reader}
 use Rattle.renderer.specs.declared.Operator.{Operator}
 use Rattle.boxes.specs.Box.{grow, box_from, points, box_of}

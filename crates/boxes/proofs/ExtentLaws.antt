@@ -16,9 +16,10 @@ use borrow.Author.Tests.{leb-true, leb-false}
 use Rattle.type2.specs.Number.{zp, zm}
 use Rattle.type2.specs.Bools.{is_le, not_le, is_lt, choose}
 use Rattle.type2.specs.Signed.{sub_bal}
-use Rattle.renderer.specs.Machine.{Point, small, reach, all_small}
+use Rattle.renderer.specs.Machine.{Point, reach, all_small}
 use Rattle.renderer.specs.Reader.{coordinate, point_at, is_near}
-use Rattle.renderer.specs.ReaderLaws.{Near, near_of, small_is, part, reach_more, reach_done}
+use Rattle.renderer.specs.Reader.{Near, part}
+use Rattle.renderer.proofs.ReaderLaws.{near_of, small_is, reach_more, reach_done}
 use Rattle.boxes.specs.Box.{lesser, greater, grow, box_from}
 use Rattle.boxes.specs.Window.{verdict_of}
 use Rattle.boxes.specs.Answers.{answer_of}

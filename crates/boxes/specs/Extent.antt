@@ -3,7 +3,7 @@ use Rattle.std.specs.Prelude.{◌≡◌, ℕ, ◌≤◌, ◌<◌, min, max, true
 use Rattle.std.proofs.Math.Option.{Option, none, some}
 use Rattle.renderer.specs.Machine.{reach, all_small}
 use Rattle.renderer.specs.Reader.{coordinate, point_at, is_near}
-use Rattle.renderer.specs.ReaderLaws.{Near, part}
+use Rattle.renderer.specs.Reader.{Near, part}
 use Rattle.boxes.specs.Box.{box_from}
 use Rattle.boxes.specs.declared.Bounds.{Bounds}
 use Rattle.boxes.specs.declared.Extent.{Extent}

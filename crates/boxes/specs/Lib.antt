@@ -3,7 +3,4 @@ pub mod Window
 pub mod Answers
 pub mod Points
 pub mod Order
-pub mod PointLaws
-pub mod Theorems
-pub mod Examples
 pub mod Extent

@@ -1,12 +1,12 @@
 -- Laws: the cipher and the cursor. A loop that reads by a cursor consumes the list `rest`, byte by byte.
---     part-wraps, step-parts         the key step by operations that each wrap
+--     part_wraps, step_parts         the key step by operations that each wrap
 --     step-key                       a key is below 65536
 --     rest-start                     the bytes still to come from a new cursor are the plain bytes
 --     rest-length, start-within      how many are to come; a new cursor is within the charstring
---     read_byte, read-end            what was read says of the bytes still to come and of the next cursor
---     read_first, read-last          the bytes still to come say what is read
+--     read_byte, read_end            what was read says of the bytes still to come and of the next cursor
+--     read_first, read_last          the bytes still to come say what is read
 --     read_more, read_none           the cursor's place says what is read
---     plain-not-encrypted, plain-none, plain-length    the strip of the first lenIV bytes
+--     plain_not_encrypted, plain-none, plain-length    the strip of the first lenIV bytes
 --     rest-bytes, plain-bytes        what is read are bytes
 use Rattle.std.specs.Prelude.{◌≡◌, ℕ, zero, suc, ◌+◌, ◌-◌, ◌*◌, ◌/◌, ◌%◌, ◌<◌, ◌≤◌, Bool, true, false, cond, ◌⊎◌, List, [], ◌∷◌, ◌++◌, length, take, drop, ◌==◌, ◌≢◌, nat_lt, slice_index}
 use Rattle.std.proofs.Math.Nat.{mod-add-mod, mul-add-mod_self_left}
@@ -172,7 +172,12 @@ unfolding plain
 plain-none len_iv bytes other h = rw (ne_eqb len_iv not_encrypted other) (drop_of_length-le (decrypt start_key bytes) {i = len_iv} (omega (arith, decrypt-length start_key bytes)))
 
 pub plain-length : (len_iv : ℕ) (bytes : List ℕ) → length (plain len_iv bytes) ≤ length bytes
-plain-length len_iv bytes = rw (← rest-start len_iv bytes) (omega (arith, rest-length (start len_iv bytes) bytes))
+unfolding plain
+plain-length len_iv bytes = by_mode (len_iv == not_encrypted)
+  where
+    by_mode : (b : Bool) → length (cond b bytes (drop len_iv (decrypt start_key bytes))) ≤ length bytes
+    by_mode true = omega arith
+    by_mode false = omega (arith, length-drop len_iv (decrypt start_key bytes), decrypt-length start_key bytes)
 
 pub step-key : (c r : ℕ) → step c r < 65536
 unfolding step

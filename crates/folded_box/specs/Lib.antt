@@ -1,2 +1,1 @@
 pub mod FoldedBox
-pub mod Theorem

@@ -1,9 +1,9 @@
 -- Laws: stems in arrays, one by one.
---     among-more, among-at       none of the first i is the stem, nor is the one at i; the one at i is
+--     among_more, among_at       none of the first i is the stem, nor is the one at i; the one at i is
 --     cut_below                  256 or fewer are not cut
---     force-at, force-none       what `in_force` is when the stems have been gone through
---     may-quiet, may_none, may-count       what `may_be_last` is, by its tests
---     group-number               16 or 17, by the two tests
+--     force_at, force_none       what `in_force` is when the stems have been gone through
+--     may_quiet, may_none, may_count       what `may_be_last` is, by its tests
+--     group_number_lem               16 or 17, by the two tests
 use Prim.Native.Nat.{ℕ, zero, suc, ◌+◌, ◌*◌, ◌≤◌, ◌<◌}
 use Rattle.std.proofs.Common.{pos_of_ne-zero, add-one, ◌∙◌, eqb-true, lt-ltb, le-ltb, ltb-false}
 use native.Mathlib.Omega.{arith}

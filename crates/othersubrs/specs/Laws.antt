@@ -1,10 +1,10 @@
 -- Laws: what callothersubr takes and hands back.
---     taken-few, taken-below, taken-above, taken-all      refused with 7, or not, by the tests
---     taken-told, not_taken                               what holds where it is not refused, and where it is
---     reverse-at                                          an element of the arguments in the other order
---     handed-more                                         one argument more is handed back
---     number-none, number-some, handed-none, handed-all   by whether there is room
---     whole-told                                          a flex that may be drawn runs, and has seven points
+--     taken_few, taken-below, taken-above, taken_all      refused with 7, or not, by the tests
+--     taken_told, not_taken                               what holds where it is not refused, and where it is
+--     reverse_at                                          an element of the arguments in the other order
+--     handed_more                                         one argument more is handed back
+--     number-none, number_some, handed-none, handed_all   by whether there is room
+--     whole_told                                          a flex that may be drawn runs, and has seven points
 use Rattle.std.specs.Prelude.{ℕ, suc, ◌+◌, ◌-◌, ◌≤◌, ◌<◌, ◌≡◌, refl, Bool, true, false, ◌&&◌, eqb, leb, pos, get_or, set, Float}
 use Rattle.std.proofs.Common.{add-one, arith, ap₂, ◌∙◌, subst, le-leb, leb-true, eqb-true}
 use Rattle.std.proofs.Math.Path.{sym, ap}

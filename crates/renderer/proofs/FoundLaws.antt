@@ -15,7 +15,7 @@ use Rattle.renderer.specs.Machine.{State, Step, fault, stop, on, with_ops, begin
 use Rattle.type2.specs.Path.{moves, lines, curves, flexes}
 use Rattle.type2.specs.Bools.{is_lt, not_lt, not_eq, choose}
 use Rattle.renderer.specs.Reader.{Taken, unit, held, exact_of, takes_of, is_code}
-use Rattle.renderer.specs.ReaderLaws.{held-length}
+use Rattle.renderer.proofs.ReaderLaws.{held-length}
 use Rattle.renderer.specs.Reads.{Gathers, escaped, plain, skip, skip_of, after_mask, not_found, does, found_goes, Finds}
 use Rattle.renderer.specs.declared.operators.Found.{Found}
 use Rattle.renderer.proofs.OperatorLaws.{held-drop, held-size, run-skip, run-operator}

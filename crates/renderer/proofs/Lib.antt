@@ -1,3 +1,7 @@
+pub mod Examples
+pub mod InstructionLaws
+pub mod HeldLaws
+pub mod ReaderLaws
 pub mod NumberLaws
 pub mod OperatorLaws
 pub mod MaskLaws

@@ -10,7 +10,7 @@ use Rattle.type2.specs.Path.{Kind, moves, lines, curves, flexes}
 use Rattle.type2.specs.Bools.{is_le, not_eq}
 use Rattle.renderer.specs.Machine.{State, fault, on, failed, with_ops, next, run, reach, last_of, all_small}
 use Rattle.renderer.specs.Reader.{operands_of, held, point_at, is_near, is_possible, Stands, no_operator, is_drawing, Taken, settled_by, acts, goes, acted_each, Comes}
-use Rattle.renderer.specs.ReaderLaws.{possible_near, part_length, by_drawing, by_still, Splits, draw_drew, draw_faults, split_2, split_6, each_drew, each_faults, each_drawn}
+use Rattle.renderer.proofs.ReaderLaws.{possible_near, part_length, by_drawing, by_still, Splits, draw_drew, draw_faults, split_2, split_6, each_drew, each_faults, each_drawn}
 use Rattle.renderer.specs.Reads.{after_found, Finds, does, Goes}
 use Rattle.renderer.specs.declared.Reader.{Reader}
 use Rattle.renderer.specs.declared.Operator.{Operator}

@@ -12,7 +12,7 @@ use Rattle.type2.specs.Bools.{is_lt, not_lt, not_le, not_eq, is_eq}
 use borrow.Author.Tests.{ltb-true, ltb-false}
 use Rattle.type2.specs.Signed.{sub_bal, sub_is}
 use Rattle.renderer.specs.Reader.{unit}
-use Rattle.renderer.specs.ReaderLaws.{cons_at}
+use Rattle.renderer.proofs.ReaderLaws.{cons_at}
 use Rattle.renderer.specs.Reads.{starts_number, Reads}
 
 pub sub_same : (P M Q N : ℕ) → P + N ≡ Q + M → sub_ℕ P M ≡ sub_ℕ Q N

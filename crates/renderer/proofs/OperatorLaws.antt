@@ -12,7 +12,7 @@ use Rattle.type2.specs.Number.{Reading, no_number, number, read_from}
 use Rattle.renderer.specs.Machine.{State, failed, with_ops, push, joins, operator, step, next, run}
 use Rattle.type2.specs.Bools.{is_lt, not_lt, not_eq}
 use Rattle.renderer.specs.Reader.{unit, held}
-use Rattle.renderer.specs.ReaderLaws.{cons_at, held-length}
+use Rattle.renderer.proofs.ReaderLaws.{cons_at, held-length}
 use Rattle.renderer.specs.Reads.{starts_number, Reads, Gathers, escaped}
 
 -- ---- the second byte of a flex

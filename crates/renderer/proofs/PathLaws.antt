@@ -5,9 +5,10 @@ use native.Mathlib.Omega.{arith}
 use mathlib.Core.Bool.{Bool, true, false, ◌&&◌, true≢false}
 use mathlib.Core.List.{List, ◌∷◌}
 use lib.ListN.{length, get_or}
-use Rattle.renderer.specs.Machine.{Point, small, reach, last_of, all_small}
+use Rattle.renderer.specs.Machine.{Point, reach, last_of, all_small}
 use Rattle.renderer.specs.Reader.{point_at, is_near}
-use Rattle.renderer.specs.ReaderLaws.{Near, near_of, small_is, part, reach_more, reach_done}
+use Rattle.renderer.specs.Reader.{Near, part}
+use Rattle.renderer.proofs.ReaderLaws.{near_of, small_is, reach_more, reach_done}
 use Rattle.renderer.specs.Reads.{Arrives, Goes}
 use Rattle.renderer.specs.declared.path.Reached.{Reached}
 

@@ -19,6 +19,10 @@ unfoldable pub held : List ℕ → List ℤ
 held [] = []
 held (n ∷ l) = unit n ∷ held l
 
+-- the operands from `i` to before `end`
+abbrev pub part : ℕ → ℕ → List ℕ → List ℤ
+part i end o = held (drop i (take end o))
+
 -- a coordinate, and the point of two
 abbrev pub coordinate : ℕ → ℤ
 coordinate n = sub_ℕ n 2305843009213693952
@@ -29,6 +33,10 @@ point_at x y = record { x = coordinate x; y = coordinate y }
 -- not "a coordinate beyond 2^60 units either way"
 abbrev pub is_near : ℕ → Bool
 is_near n = leb 1152921504606846976 n && leb n 3458764513820540928
+
+pub record Near (n : ℕ) : Type 0 where
+  pub above : 1152921504606846976 ≤ n
+  pub below : n ≤ 3458764513820540928
 
 -- ---- the reader
 

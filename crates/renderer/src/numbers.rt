@@ -6,6 +6,9 @@ ghost use Rattle.renderer.specs.Reads.{starts_number, Reads, Gathers};
 // An operand of 0.
 pub(crate) const ZERO: u32 = 2147483648;
 
+// How many operands the machine holds at most.
+const MOST: usize = 48;
+
 pub(crate) fn wide(b: u8) -> u32
     ensures { (result ≡ b) × (result < 256) }
 {
@@ -131,7 +134,7 @@ pub(crate) fn operands(program: &[u8], from: usize, ops: &mut [u32; 48]) -> Numb
         if r.next == 0 {
             return no_operator();
         }
-        if 48 <= n {
+        if MOST <= n {
             return no_operator();
         }
         ops[n] = r.value;

@@ -121,6 +121,9 @@ fn first_operand(code: u32, count: usize, begun: bool) -> usize
     skipped(count - k, begun)
 }
 
+// How many stems the machine declares at most.
+const MOST_STEMS: usize = 96;
+
 const POWERS: [u32; 8] = [1, 2, 4, 8, 16, 32, 64, 128];
 
 // The place after a mask of so many stems, 0 where its bytes are cut or a spare bit is set.
@@ -188,7 +191,7 @@ pub(crate) fn find(
     }
     if code == HSTEM {
         let all = stems + (count - first) / 2;
-        if 96 < all {
+        if MOST_STEMS < all {
             return fault();
         }
         return Found {

@@ -3,7 +3,7 @@
 --     run-finite    every number and point is finite
 --     run-whole     if no div ran, every number and point is whole
 --     run-placed    the groups' numbers rise strictly and are below the number of entries drawn
---     run-not-returning    a run goes on to its end, ends the glyph, or is refused
+--     run_not_returning    a run goes on to its end, ends the glyph, or is refused
 use Rattle.std.specs.Prelude.{ℕ, suc, ◌+◌, ◌*◌, ◌/◌, ◌^◌, ◌≤◌, ◌≡◌, refl, Bool, true, false, List, leb, length, ℤ, pos, negsuc, nat_abs, Float}
 use Rattle.std.proofs.Common.{le_trans, mul-one, mul_right_comm, mul-div_cancel, arith, sym, ap, ◌∙◌, subst, true≢false, lit≤}
 use Rattle.std.specs.Float.{nan, inf, fin, binary64, Format}

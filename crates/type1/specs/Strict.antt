@@ -2,9 +2,9 @@
 --     operate-strictly    no operator but pop looks at the limit of operands
 --     strict-run          the strict run is the present one, but 22 where that comes to hold a 25th operand
 --     strict-answer       a strict answer is 22 or the present reading's answer
---     refused-22, only-22    it is 22 exactly where 2 does not come first and the present run holds a 25th operand
---     present-not-22      the present reading is never refused with 22
---     strict-15           15 is then met by the PostScript stack alone
+--     refused_22, only_22    it is 22 exactly where 2 does not come first and the present run holds a 25th operand
+--     present_not_22      the present reading is never refused with 22
+--     strict_15           15 is then met by the PostScript stack alone
 --     strict-unlimited    the run of demand 3 is the same in both readings
 use Prim.Native.Nat.{ℕ, zero, suc, ◌+◌, ◌-◌, ◌*◌, ◌≤◌}
 use native.Mathlib.Omega.{arith}

@@ -24,8 +24,8 @@ use Rattle.outline.specs.Outline.{Command, move, line, curve, flex, plus_zero, p
 use Rattle.type1.specs.Run.{point_at}
 use Rattle.type2.specs.Number.{quantized, units, zp, zm, gave, push_number}
 use Rattle.type2.specs.Signed.{one_sided}
-use Rattle.type2.specs.Fixed.{units-quantized}
-use Rattle.type2.specs.Pushes.{rounded_is}
+use Rattle.type2.proofs.Fixed.{units-quantized}
+use Rattle.type2.proofs.Pushes.{rounded_is}
 use Rattle.type2.specs.Instruction.{Instr, instr, is_zero, move_instr}
 use Rattle.type2.specs.Path.{Kind, lines, curves, reaches, most, takes}
 use Rattle.type1_to_type2.proofs.Writes.{refused_stays, not_before, put_cons, pair_refused, pair-pushed}

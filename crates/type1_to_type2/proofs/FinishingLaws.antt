@@ -15,7 +15,7 @@ use lib.Ieee.Fits.{sub-fits}
 use Rattle.type2.specs.Number as Number
 use Rattle.type2.specs.Number.{quantized, units, in_range, number_bytes, Push, gave, push_number}
 use Rattle.type2.specs.Width.{push_width}
-use Rattle.type2.specs.Fixed.{units-quantized}
+use Rattle.type2.proofs.Fixed.{units-quantized}
 use Rattle.type2.specs.Bools.{is_le, not_le}
 use Rattle.type1_to_type2.specs.declared.Finished.{Finished}
 use Rattle.type1_to_type2.specs.Writing.{Written, refused, wrote, then_write, put, put_numbers}

@@ -11,7 +11,7 @@ use Rattle.outline.specs.declared.Stem.{Stem}
 use Rattle.outline.specs.Outline.{Command, move, line, curve, flex, Group, plus_zero, origin}
 use Rattle.type2.specs.Path.{Kind, moves, lines, curves, flexes, delta, most}
 use Rattle.type2.specs.Number.{quantized, units, number_bytes, in_range}
-use Rattle.type2.specs.Casts.{in_range-finite}
+use Rattle.type2.proofs.Casts.{in_range-finite}
 use Rattle.type2.specs.Instruction.{Instr, instr, numbers, bytes, fine, all_fine, is_zero}
 use Rattle.type2.specs.Bools.{choose, and_both}
 use Rattle.type2.specs.Signed.{zero_is}

@@ -1,9 +1,9 @@
--- Laws: converting in the strict reading (document 02, (c)), of every source, lenIV, matrix and rooms.
+-- Laws: converting in the strict reading (document 02, (c)), of every source, len_iv, matrix and rooms.
 --     convert-strict     it is refused with 22, or gives what the present reading gives: number, program, width and count
---     converts-same      a glyph that converts strictly converts to the same glyph
+--     converts_same      a glyph that converts strictly converts to the same glyph
 --     same_left          an answer that is not 22, the output and the stores are the present reading's
---     convert-22, convert-only-22    22 exactly where 1 and 2 do not come first and the present run, in the same stores, comes to hold a 25th operand
---     convert-not-22     the present reading is never refused with 22
+--     convert_22, convert_only_22    22 exactly where 1 and 2 do not come first and the present run, in the same stores, comes to hold a 25th operand
+--     convert_not_22     the present reading is never refused with 22
 use Rattle.std.specs.Prelude.{◌≡◌, ◌⊎◌, ℕ, Bool, List}
 use Rattle.std.proofs.Math.Path.{refl, ap}
 use Rattle.std.proofs.Common.{sym, ◌∙◌, subst}

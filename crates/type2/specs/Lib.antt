@@ -5,11 +5,7 @@ pub mod Width
 pub mod Examples
 pub mod Bools
 pub mod Signed
-pub mod Quantize
 pub mod Whole
-pub mod Fixed
 pub mod ReadBack
-pub mod Casts
 pub mod Put
 pub mod Forms
-pub mod Pushes

@@ -5,7 +5,7 @@ use lib.Dec.{T}
 use lib.Ieee.{binary64, fits, of_bits, neg, lt, eq, add, sub}
 use borrow.Author.Rules.{rules}
 use Rattle.type2.specs.Whole.{middle}
-use Rattle.type2.specs.Casts.{byte_top, byte_bottom, short_cast, short-value, short-pushed}
+use Rattle.type2.proofs.Casts.{byte_top, byte_bottom, short_cast, short-value, short-pushed}
 use Rattle.type2.proofs.push_delta.Goals as goal
 
 pub float_to_int-v : goal.float_to_int-v

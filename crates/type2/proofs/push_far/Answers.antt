@@ -7,9 +7,9 @@ use lib.Ieee.{Float, binary64, fits, of_bits, neg, lt, eq, add, sub, in_unsigned
 use borrow.Author.Rules.{rules}
 use Rattle.binary64.specs.Scaling.{two}
 use Rattle.type2.specs.Number.{units, in_range}
-use Rattle.type2.specs.Fixed.{top, bottom, range_tests}
+use Rattle.type2.proofs.Fixed.{top, bottom, range_tests}
 use Rattle.type2.specs.Whole.{middle}
-use Rattle.type2.specs.Casts.{above, raised_by, bounds, whole-bounds, accepted, refused, delta-value, whole-value, whole_cast}
+use Rattle.type2.proofs.Casts.{above, raised_by, bounds, whole-bounds, accepted, refused, delta-value, whole-value, whole_cast}
 use Rattle.type2.proofs.push_far.Goals as goal
 use Rattle.type2.proofs.push_far.Goals.{then-v+else-v-2, else-v}
 

@@ -3,7 +3,7 @@ use mathlib.Core.Path.{sym, subst}
 use Prim.Native.Nat.{◌<◌}
 use borrow.Author.Rules.{rules, Fits-under}
 use Rattle.type2.specs.Number.{Push}
-use Rattle.type2.specs.Pushes.{push-number_few}
+use Rattle.type2.proofs.Pushes.{push-number_few}
 use Rattle.type2.proofs.push_number.Goals as goal
 
 pub overflow_cast-result : goal.overflow_cast-result

@@ -1,0 +1,4 @@
+pub mod QuantizeLaws
+pub mod Fixed
+pub mod Casts
+pub mod Pushes
