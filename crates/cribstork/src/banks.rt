@@ -65,7 +65,7 @@ fn say_column(page: &mut [u8], c: usize) {
 }
 
 // A line: its cells stand from `at` to `end`, and the next line from `next` on. Its number counts from 1.
-#[derive(Drop)]
+#[derive(Clone, Copy)]
 struct Line {
     at: usize,
     end: usize,
@@ -208,7 +208,7 @@ fn field<'a>(header: &[u8], row: &'a [u8], c: usize) -> &'a [u8] {
 }
 
 // What is wrong with the file, and in which line and column; 0 where nothing is.
-#[derive(Drop)]
+#[derive(Clone, Copy)]
 pub(crate) struct Fault {
     pub what: usize,
     pub line: usize,
@@ -437,7 +437,7 @@ pub(crate) fn check(v: &[u8]) -> Fault {
 }
 
 // A bank: its stores, its matrix and its window if it has them, and whether its reading is strict if it says so.
-#[derive(Drop)]
+#[derive(Clone, Copy)]
 pub(crate) struct Bank {
     pub stems: usize,
     pub commands: usize,

@@ -6,7 +6,7 @@ use crate::page;
 const WHOLE: f64 = 9007199254740992.0;
 
 // A double below WHOLE, to five places: its sign, whole part and hundred thousandths.
-#[derive(Drop)]
+#[derive(Clone, Copy)]
 struct Fixed {
     negative: bool,
     whole: u64,
@@ -115,7 +115,7 @@ pub(crate) fn units(page: &mut [u8], x: i64) {
 }
 
 // How often a double is halved until it is below WHOLE, and what is left.
-#[derive(Drop)]
+#[derive(Clone, Copy)]
 struct Halved {
     times: usize,
     left: f64,

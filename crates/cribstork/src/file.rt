@@ -4,7 +4,7 @@ use crate::number::{hex_value, is_hex};
 use crate::trouble;
 
 // How many bytes a file has, or what is wrong with it.
-#[derive(Drop)]
+#[derive(Clone, Copy)]
 pub(crate) struct Loaded {
     pub what: usize,
     pub len: usize,
@@ -108,7 +108,7 @@ fn segment_length(v: &[u8], at: usize) -> usize {
 }
 
 // The text of a file's segments: what is wrong and where, the place of the next segment, the text's length.
-#[derive(Drop)]
+#[derive(Clone, Copy)]
 pub(crate) struct Joined {
     pub what: usize,
     pub at: usize,
@@ -191,7 +191,7 @@ fn two_digits(high: u8, low: u8) -> u8 {
 }
 
 // The end of the bytes so far, and the digit that waits for the next, or 16.
-#[derive(Drop)]
+#[derive(Clone, Copy)]
 struct Half {
     to: usize,
     high: u8,
@@ -214,7 +214,7 @@ fn take_digit(v: &mut [u8], at: usize, h: Half) -> Half {
 }
 
 // The end of a private part, and the place of the byte that cuts its hexadecimal digits, or the file's end.
-#[derive(Drop)]
+#[derive(Clone, Copy)]
 pub(crate) struct Private {
     pub end: usize,
     pub stop: usize,
@@ -298,7 +298,7 @@ pub(crate) fn open_private(v: &mut [u8], from: usize, end: usize) -> Private {
 
 // A walk along a file: the place, the bytes left of its segment, and the bytes and the hexadecimal digits
 // of its text before it.
-#[derive(Drop)]
+#[derive(Clone, Copy)]
 struct Walk {
     at: usize,
     left: usize,

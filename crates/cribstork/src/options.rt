@@ -8,7 +8,7 @@ use geometry::Matrix;
 // What the arguments ask. `fault` says what is wrong, `wrong` is the place of the option, and `value` that of
 // the value that is wrong. `matrix`, `window`, `banks` and `need` are the places of these options; each is 0
 // where there is none. `first` is the first option that does not go with --banks.
-#[derive(Drop)]
+#[derive(Clone, Copy)]
 pub(crate) struct Options {
     pub fault: usize,
     pub wrong: usize,

@@ -50,7 +50,7 @@ fn refusal_list() -> [u64; 32]
 }
 
 // How many fonts and rows there were: rows that print, that do not, and that cannot be read.
-#[derive(Drop)]
+#[derive(Clone, Copy)]
 pub(crate) struct Totals {
     pub fonts: usize,
     pub yes: usize,

@@ -7,7 +7,7 @@ use crate::{banks, converting, doubles, names, page, table, window};
 
 // What a bank makes of a font: how many needed glyphs fail, the bytes of all finished glyphs, what the
 // needed glyphs need of the stores, and the widths.
-#[derive(Drop)]
+#[derive(Clone, Copy)]
 struct Sums {
     failing: usize,
     bytes: usize,

@@ -9,7 +9,7 @@ use boxes::Bounds;
 
 // What a font's glyphs add up to: how many there are, are shown and convert, the largest stores that one
 // needs, and how many lie how to the window.
-#[derive(Drop)]
+#[derive(Clone, Copy)]
 pub(crate) struct Totals {
     pub glyphs: usize,
     pub shown: usize,

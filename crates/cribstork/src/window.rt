@@ -16,7 +16,7 @@ pub(crate) const OUTSIDE: usize = 3;
 pub(crate) const NO_POINT: usize = 4;
 
 // That, and the glyph's box.
-#[derive(Drop)]
+#[derive(Clone, Copy)]
 pub(crate) struct Judged {
     pub what: usize,
     pub bounds: Bounds,

@@ -9,14 +9,14 @@ use libc::STDOUT_FILENO;
 const LONGEST: usize = 8192;
 
 // How many vectors were compared, and how many differ.
-#[derive(Drop)]
+#[derive(Clone, Copy)]
 pub(crate) struct Tally {
     pub(crate) compared: u64,
     pub(crate) different: u64,
 }
 
 // What the next vector of a file is.
-#[derive(Drop)]
+#[derive(Clone, Copy)]
 enum Turn {
     Same,
     Different,
