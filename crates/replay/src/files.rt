@@ -125,14 +125,19 @@ pub(crate) fn print(rt: &HostRuntime, name: &str, t: Tally) -> io::Result<()> {
     println!(rt; "{name}: {compared} compared, {different} different")
 }
 
-// Says on standard error why a file cannot be opened, in the system's words.
+// The system's words for an error, without its number.
+fn words(text: &str) -> &str {
+    match text.split_once(" (os error ") {
+        Some((words, _)) => words,
+        None => text,
+    }
+}
+
+// Says on standard error why a file cannot be opened.
 fn say_not_opened(rt: &HostRuntime, file: &str, error: io::Error) -> io::Result<()> {
     let text = format!(in rt.alloc(); "{error}")?;
-    let words = match text.split_once(" (os error ") {
-        Some((words, _)) => words,
-        None => text.as_str(),
-    };
-    eprintln!(rt; "{file}: {words}")
+    let why = words(text.as_str());
+    eprintln!(rt; "{file}: {why}")
 }
 
 // A file that cannot be opened counts as one vector that differs.
