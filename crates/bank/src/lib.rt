@@ -6,7 +6,7 @@ ghost use Rattle.bank.specs.Bank.{be16, be32, rises_from, valid, found, bytes_at
 ghost use Rattle.bank.specs.Call.{max_depth, refused_with, called, refused_before};
 
 // Where a body starts and ends in the bank, or that there is none.
-#[derive(Drop)]
+#[derive(Clone, Copy)]
 pub enum Found {
     At(usize, usize),
     Nothing,
@@ -144,7 +144,7 @@ pub fn body(bank: &[u8], n: usize) -> &[u8]
 }
 
 // A subroutine to call: document 01's number (0 where it is not refused), which body, and the bytes run with the body's.
-#[derive(Drop)]
+#[derive(Clone, Copy)]
 pub struct Callee {
     pub number: u8,
     pub index: usize,

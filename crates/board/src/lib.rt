@@ -1,5 +1,5 @@
 //! The C interface of the board: each function wraps one entry, has its contract, writes what the entry
-//! answers to lent words and returns the number. `include/cribstork.h` declares them.
+//! answers to lent words and returns the number. Crate `board_c` exports them to C.
 #![tactic(auto)]
 
 ghost use Rattle.std.specs.Prelude.{◌≡◌, length, replicate, T};
@@ -64,8 +64,7 @@ fn put_glyph(g: Type2Glyph, answer: &mut [u64; 4]) -> u64
 }
 
 // `type1_to_type2::convert_charstring_transformed`. The answer: number, length, the width's bits, bytes run.
-#[unsafe(no_mangle)]
-pub extern "C" fn cribstork_convert(
+pub fn cribstork_convert(
     charstring: &[u8],
     bank: &[u8],
     len_iv: usize,
@@ -93,8 +92,7 @@ pub extern "C" fn cribstork_convert(
 }
 
 // `Type2Glyph::charstring` of a glyph with this width and program. The answer: number, length.
-#[unsafe(no_mangle)]
-pub extern "C" fn cribstork_finish(
+pub fn cribstork_finish(
     width: f64,
     program: &[u8],
     default_width: f64,
@@ -119,8 +117,7 @@ pub extern "C" fn cribstork_finish(
 
 // `agreement::convert_finished`. `program` is a working store for the program. The answer: number, length,
 // the width's bits, bytes run. Where the number is 0, demand 3 holds of the bytes in the output.
-#[unsafe(no_mangle)]
-pub extern "C" fn cribstork_convert_finished(
+pub fn cribstork_convert_finished(
     charstring: &[u8],
     bank: &[u8],
     len_iv: usize,
@@ -153,12 +150,7 @@ pub extern "C" fn cribstork_convert_finished(
 }
 
 // `widths::choose_widths`. The pair: the default and the nominal width, 0 and 0 on a refusal.
-#[unsafe(no_mangle)]
-pub extern "C" fn cribstork_choose_widths(
-    widths: &[f64],
-    scratch: &mut [f64],
-    pair: &mut [f64; 2],
-) -> u64
+pub fn cribstork_choose_widths(widths: &[f64], scratch: &mut [f64], pair: &mut [f64; 2]) -> u64
     ensures value { result ≡ (chosen widths.now (length scratch.old)).number }
     ensures pair_after { pair.new ≡ pair_of (chosen widths.now (length scratch.old)) }
     ensures scratch_after { scratch.new ≡ replicate (length scratch.old) zero_width }
@@ -169,13 +161,7 @@ pub extern "C" fn cribstork_choose_widths(
 }
 
 // `charstring::decrypt_charstring`. The answer: number, length.
-#[unsafe(no_mangle)]
-pub extern "C" fn cribstork_decrypt(
-    data: &[u8],
-    len_iv: usize,
-    out: &mut [u8],
-    answer: &mut [u64; 2],
-) -> u64
+pub fn cribstork_decrypt(data: &[u8], len_iv: usize, out: &mut [u8], answer: &mut [u64; 2]) -> u64
     ensures value { result ≡ (decrypted len_iv «data».now (length out.old)).number }
     ensures answer_after { answer.new ≡ decrypted_words (decrypted len_iv «data».now (length out.old)) }
     ensures out_after { out.new ≡ written len_iv «data».now (length out.old) }
@@ -245,8 +231,7 @@ fn put_bounds(b: Bounds, bounds: &mut [i64; 4])
 
 // `boxes::glyph_box` of a finished charstring. The box: least x, least y, greatest x, greatest y. The answer: number,
 // then 1 within, 2 crossing, 3 outside.
-#[unsafe(no_mangle)]
-pub extern "C" fn cribstork_box(
+pub fn cribstork_box(
     program: &[u8],
     window: &[i64; 4],
     bounds: &mut [i64; 4],

@@ -12,7 +12,7 @@ ghost use Rattle.boxes.specs.Extent.{no_extent, extent_with, SmallFrom, Extends,
 use renderer::{END, FAULT, Reader, is_drawing};
 
 // The least x, the least y, the greatest x and the greatest y of a box or of a window, in units of 1/65536.
-#[derive(Drop)]
+#[derive(Clone, Copy)]
 pub struct Bounds {
     pub left: i64,
     pub bottom: i64,
@@ -21,7 +21,7 @@ pub struct Bounds {
 }
 
 // How a box lies to a window.
-#[derive(Drop)]
+#[derive(Clone, Copy)]
 pub enum Verdict {
     Within,
     Crossing,
@@ -29,7 +29,7 @@ pub enum Verdict {
 }
 
 // The answer: refused, or the box and how it lies to the window.
-#[derive(Drop)]
+#[derive(Clone, Copy)]
 pub enum Answer {
     Refused,
     Boxed(Bounds, Verdict),
@@ -37,7 +37,7 @@ pub enum Answer {
 
 // The least and the greatest coordinates of the points so far, each as its units and 2 ^ 61. Before the first point
 // the least are above the greatest.
-#[derive(Drop)]
+#[derive(Clone, Copy)]
 struct Extent {
     left: u64,
     bottom: u64,

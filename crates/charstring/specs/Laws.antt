@@ -178,13 +178,13 @@ pub step-key : (c r : ℕ) → step c r < 65536
 unfolding step
 step-key c r = omega arith
 
-plain_byte : (c r : ℕ) → c < 256 → r < 65536 → plain_byte c r < 256
+plain_byte_lem : (c r : ℕ) → c < 256 → r < 65536 → plain_byte c r < 256
 unfolding plain_byte
-plain_byte c r hc hr = xor_lt 8 c (r / 256) hc (omega arith)
+plain_byte_lem c r hc hr = xor_lt 8 c (r / 256) hc (omega arith)
 
 pub decrypt-bytes : (r : ℕ) (l : List ℕ) → r < 65536 → Bytes l → Bytes (decrypt r l)
 decrypt-bytes r [] h all i = all i
-decrypt-bytes r (c ∷ l) h all zero = plain_byte c r (all 0) h
+decrypt-bytes r (c ∷ l) h all zero = plain_byte_lem c r (all 0) h
 decrypt-bytes r (c ∷ l) h all (suc i) = decrypt-bytes (step c r) l (step-key c r) (λ j. all (suc j)) i
 
 pub rest-bytes : (k : Cursor) (code : List ℕ) → k.key < 65536 → Bytes code → Bytes (rest k code)

@@ -57,7 +57,7 @@ pub fn byte_of(c: u8, key: u16, encrypted: bool) -> u8
 }
 
 // A place in a charstring, with the key there.
-#[derive(Drop)]
+#[derive(Clone, Copy)]
 pub struct Cursor {
     pub at: usize,
     pub key: u16,
@@ -65,7 +65,7 @@ pub struct Cursor {
 }
 
 // What a cursor reads: a plain byte and the cursor after it, or the end.
-#[derive(Drop)]
+#[derive(Clone, Copy)]
 pub enum Read {
     Byte(u8, Cursor),
     End,
@@ -158,7 +158,7 @@ fn copy_rest(code: &[u8], cursor: Cursor, out: &mut [u8]) -> usize
     }
 }
 
-#[derive(Drop)]
+#[derive(Clone, Copy)]
 pub struct Decrypted {
     pub number: u64,
     pub length: usize,

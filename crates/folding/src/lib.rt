@@ -52,7 +52,7 @@ fn is_identity(m: Matrix) -> bool
 }
 
 // A matrix, and whether it is the identity, which leaves points and stems alone.
-#[derive(Drop)]
+#[derive(Clone, Copy)]
 pub struct Fold {
     pub matrix: Matrix,
     pub identity: bool,

@@ -5,7 +5,7 @@ ghost use Rattle.std.specs.Prelude.{◌≡◌, length};
 ghost use Rattle.othersubrs.specs.OtherSubrs.{taken, hand_number, handed_back, whole_flex, is_move};
 
 // How many arguments a callothersubr takes, with document 01's number: 0, or 7 where it is refused.
-#[derive(Drop)]
+#[derive(Clone, Copy)]
 pub struct Taken {
     pub number: u8,
     pub count: usize,

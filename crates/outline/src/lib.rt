@@ -6,7 +6,7 @@ ghost use Rattle.outline.specs.Outline.{same_stem, zero_stem};
 
 // A stem hint in absolute character-space coordinates, in C's layout.
 #[repr(C)]
-#[derive(Drop)]
+#[derive(Clone, Copy)]
 pub struct Stem {
     // A horizontal stem (`hstem`), which constrains y.
     pub horizontal: bool,

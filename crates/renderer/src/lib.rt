@@ -22,7 +22,7 @@ pub const END: u32 = 14;
 
 // Where a reader stands between two operators: the place in the program, whether an operator has run, how many
 // stems are declared, and the point, each coordinate as its units of 1/65536 and 2 ^ 61.
-#[derive(Drop)]
+#[derive(Clone, Copy)]
 pub struct Reader {
     pub at: usize,
     pub begun: bool,
@@ -34,7 +34,7 @@ pub struct Reader {
 // What comes: 0 a fault, 1 stems, 19 a mask, 21 a move, 5 lines, 8 curves, 12 a flex, 14 the end. Its operands
 // stand in the lent array from `first` to before `end`, each as its units of 1/65536 and 2 ^ 31; where `first` is 1,
 // the width stands at 0. Every move has two operands. A mask's bytes end where the reader then stands.
-#[derive(Drop)]
+#[derive(Clone, Copy)]
 pub struct Operator {
     pub code: u32,
     pub first: usize,

@@ -20,7 +20,7 @@ fn starts_number(b: u32) -> bool
 }
 
 // A number's value, and the place after it; 0 where there is no complete number.
-#[derive(Drop)]
+#[derive(Clone, Copy)]
 struct Value {
     value: u32,
     next: usize,
@@ -95,7 +95,7 @@ fn number(program: &[u8], at: usize, b: u32) -> Value
 }
 
 // The numbers up to an operator: the operator's first byte, 0 where there is none; how many numbers; the place after that byte.
-#[derive(Drop)]
+#[derive(Clone, Copy)]
 pub(crate) struct Numbers {
     pub(crate) byte: u32,
     pub(crate) count: usize,

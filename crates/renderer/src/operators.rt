@@ -144,7 +144,7 @@ fn after_mask(program: &[u8], at: usize, stems: usize) -> usize
 
 // What was found: 0 a fault, 1 stems, 19 a mask, 21 a move, 5 lines, 8 curves, 12 a flex, 14 the end. Its operands stand in `ops` from `first` to
 // before `end`; where `first` is 1, the width stands at 0. A move has two operands. `next` is the place after it, `stems` how many are declared.
-#[derive(Drop)]
+#[derive(Clone, Copy)]
 pub(crate) struct Found {
     pub(crate) code: u32,
     pub(crate) first: usize,

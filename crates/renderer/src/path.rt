@@ -23,7 +23,7 @@ fn wide(x: u32) -> u64
 }
 
 // The point reached; `ok` is false once a coordinate was beyond 2 ^ 60 units.
-#[derive(Drop)]
+#[derive(Clone, Copy)]
 pub(crate) struct Reached {
     pub(crate) ok: bool,
     pub(crate) x: u64,

@@ -404,6 +404,6 @@ module _ (bank : List ℕ) (reading : Reading) (levels : ℕ) where
                 ready = record { fit = J.fit; sound = held_sound r.st m₂ u J (subst SoundOut is sounds) };
                 left = λ s K.
                     let (v, L, all) = whole_is s K in
-                    let (w, N, going) = goes (did.does v) r m₂ (e v L) zero' in
-                    (w, N, sym (all ∙ ap (λ (o : Outcome). and_then o then) going));
+                    let (w, N, went) = goes (did.does v) r m₂ (e v L) zero' in
+                    (w, N, sym (all ∙ ap (λ (o : Outcome). and_then o then) went));
               }

@@ -27,7 +27,7 @@ use states::made;
 use stems::clear;
 
 // How a charstring and its subroutines are read.
-#[derive(Drop)]
+#[derive(Clone, Copy)]
 pub struct Reading {
     // plain bytes dropped at the start of each; `charstring::NOT_ENCRYPTED`: they are not encrypted
     pub len_iv: usize,
@@ -50,7 +50,7 @@ impl Reading {
 // What of the state is small. The rest is in arrays: the operands and the PostScript stack, each
 // bottom first; `cells`: the points of a flex, the side bearing and the width; `edges` and `across`:
 // the stems in force.
-#[derive(Drop)]
+#[derive(Clone, Copy)]
 struct St {
     // operands held, and numbers on the PostScript stack
     operands: usize,
@@ -81,7 +81,7 @@ struct St {
 
 // A step's or a run's state and flow: 0 goes on, 1 returns from a body, 2 ends the glyph, and any
 // other is document 01's number of a refusal.
-#[derive(Drop)]
+#[derive(Clone, Copy)]
 struct Ran {
     st: St,
     flow: u8,
@@ -95,7 +95,7 @@ const BEARING_Y: usize = 15;
 const WIDTH: usize = 16;
 
 // What stands at a place of a charstring, after the numbers before it were pushed.
-#[derive(Drop)]
+#[derive(Clone, Copy)]
 struct Tok {
     st: St,
     next: usize,
@@ -107,7 +107,7 @@ struct Tok {
 }
 
 // A number of a charstring, and where the bytes after it begin.
-#[derive(Drop)]
+#[derive(Clone, Copy)]
 struct Num {
     x: f64,
     next: usize,
@@ -116,7 +116,7 @@ struct Num {
 }
 
 // The delta of a move or a line, and whether there were operands enough.
-#[derive(Drop)]
+#[derive(Clone, Copy)]
 struct Delta {
     dx: f64,
     dy: f64,
@@ -124,7 +124,7 @@ struct Delta {
 }
 
 // The three deltas of a curve, likewise.
-#[derive(Drop)]
+#[derive(Clone, Copy)]
 struct Deltas {
     dx1: f64,
     dy1: f64,
@@ -136,7 +136,7 @@ struct Deltas {
 }
 
 // Whether an entry was listed, and the point after it.
-#[derive(Drop)]
+#[derive(Clone, Copy)]
 struct Drawn {
     x: f64,
     y: f64,
@@ -144,7 +144,7 @@ struct Drawn {
 }
 
 // A call about to be made: which body.
-#[derive(Drop)]
+#[derive(Clone, Copy)]
 struct Called {
     st: St,
     flow: u8,
@@ -152,7 +152,7 @@ struct Called {
 }
 
 // The place and the key at which a charstring's plain bytes begin.
-#[derive(Drop)]
+#[derive(Clone, Copy)]
 struct Begun {
     at: usize,
     key: u16,
@@ -161,7 +161,7 @@ struct Begun {
 
 // What a run leaves: document 01's number, and where it is 0 the width, the bytes run, and how many
 // entries and records the stores hold.
-#[derive(Drop)]
+#[derive(Clone, Copy)]
 pub struct Interpreted {
     pub number: u64,
     pub width: f64,

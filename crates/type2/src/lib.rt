@@ -49,7 +49,7 @@ pub fn quantize(v: f64) -> f64
 }
 
 // What a push gave: document 01's number, 0 if none, and the place after the bytes, 0 on a refusal.
-#[derive(Drop)]
+#[derive(Clone, Copy)]
 pub struct Pushed {
     pub number: u32,
     pub next: usize,
@@ -171,7 +171,7 @@ fn push_units(out: &mut [u8], at: usize, n: u64) -> Pushed
 }
 
 // What a pushed delta gave: a push's number and place, and the delta that the bytes stand for.
-#[derive(Drop)]
+#[derive(Clone, Copy)]
 struct Delta {
     number: u64,
     next: usize,
@@ -247,7 +247,7 @@ pub fn push_number(out: &mut [u8], at: usize, v: f64) -> Pushed
 // ---- the path
 
 // What a pushed step gave: a push's number and place, and the coordinate that the renderer will have reached.
-#[derive(Drop)]
+#[derive(Clone, Copy)]
 pub struct Step {
     pub number: u64,
     pub next: usize,
@@ -285,7 +285,7 @@ pub fn takes_curve(held: usize) -> bool
 // ---- the width
 
 // A font's default and nominal width.
-#[derive(Drop)]
+#[derive(Clone, Copy)]
 pub struct Widths {
     pub default_width_x: f64,
     pub nominal_width_x: f64,

@@ -1,0 +1,7 @@
+-- `charstring::key_part` meets its contract. Assumes nothing.
+use Rattle.std.proofs.Common.{rules}
+use Rattle.charstring.specs.Laws.{part_wraps}
+use Rattle.charstring.proofs.key_part.Goals as goal
+
+pub returns : goal.returns
+returns c = cc (part_wraps c.args.c)

@@ -1,0 +1,7 @@
+-- `charstring::next_key` meets its contract. Assumes nothing.
+use Rattle.std.proofs.Common.{rules}
+use Rattle.charstring.specs.Laws.{step_parts}
+use Rattle.charstring.proofs.next_key.Goals as goal
+
+pub returns : goal.returns
+returns c = cc (step_parts c.args.c c.args.key)
