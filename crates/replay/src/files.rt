@@ -4,8 +4,8 @@ ghost use Rattle.std.specs.Prelude.{◌≡◌, length};
 use crate::compare;
 use crate::vector::{big_endian, part, sum};
 use std::fs::File;
-use std::io;
-use std::io::Read;
+use std::io::{Cursor, Read, Write};
+use std::{io, str};
 
 // The most bytes of a payload.
 const LONGEST: usize = 8192;
@@ -125,18 +125,20 @@ pub(crate) fn print(rt: &HostRuntime, name: &str, t: Tally) -> io::Result<()> {
     println!(rt; "{name}: {compared} compared, {different} different")
 }
 
-// The system's words for an error, without its number.
+// The system's words of an error's text, without its number and what is left of a buffer.
 fn words(text: &str) -> &str {
     match text.split_once(" (os error ") {
         Some((words, _)) => words,
-        None => text,
+        None => text.trim_end_matches('\0'),
     }
 }
 
 // Says on standard error why a file cannot be opened.
 fn say_not_opened(rt: &HostRuntime, file: &str, error: io::Error) -> io::Result<()> {
-    let text = format!(in rt.alloc(); "{error}")?;
-    let why = words(text.as_str());
+    let mut text = Cursor::new([0u8; 256]);
+    write!(text, "{error}")?;
+    let text = text.into_inner();
+    let why = words(str::from_utf8(&text).unwrap_or(""));
     eprintln!(rt; "{file}: {why}")
 }
 
