@@ -33,8 +33,8 @@ fn not_opened(error: io::Error) -> usize {
     }
 }
 
-// Why a read failed.
-fn not_read(error: io::Error) -> usize {
+// Why nothing was read, where a read failed.
+fn nothing_read(error: io::Error) -> usize {
     match error.raw_os_error() {
         Some(EISDIR) => trouble::DIRECTORY,
         _ => trouble::NOT_READ,
@@ -66,7 +66,7 @@ fn read_full(file: &mut File, store: &mut [u8]) -> Loaded {
             Ok(n) => done += n,
             Err(e) => {
                 return Loaded {
-                    what: not_read(e),
+                    what: nothing_read(e),
                     len: done,
                 };
             }

@@ -8,16 +8,16 @@ use crate::bytes::{byte, copy, less, low_byte, part, place, put, smaller, wide};
 const HEAD: usize = 6;
 
 // Where bytes go: standard output, and standard error.
-const OUTPUT: u8 = 1;
+const TO_OUTPUT: u8 = 1;
 
-const ERRORS: u8 = 2;
+const TO_ERRORS: u8 = 2;
 
 // A page for standard output, and a smaller one for standard error.
 pub(crate) fn output() -> [u8; 65536]
     ensures { 65536 ≡ length result }
 {
     let mut page = [0u8; 65536];
-    page[4] = OUTPUT;
+    page[4] = TO_OUTPUT;
     page
 }
 
@@ -25,7 +25,7 @@ pub(crate) fn errors() -> [u8; 4096]
     ensures { 4096 ≡ length result }
 {
     let mut page = [0u8; 4096];
-    page[4] = ERRORS;
+    page[4] = TO_ERRORS;
     page
 }
 
@@ -47,7 +47,7 @@ fn failed(before: u8, written: bool) -> u8 {
 
 // Writes bytes, or stops at the first write that fails; the answer is whether all were written.
 fn write(rt: &HostRuntime, to: u8, bytes: &[u8]) -> bool {
-    let written = if to == ERRORS {
+    let written = if to == TO_ERRORS {
         rt.stderr().write_all(bytes)
     } else {
         rt.stdout().write_all(bytes)
@@ -58,7 +58,7 @@ fn write(rt: &HostRuntime, to: u8, bytes: &[u8]) -> bool {
 // Clears the line of standard error, where that is asked.
 pub(crate) fn clear_line(rt: &HostRuntime, asked: bool) {
     if asked {
-        write(rt, ERRORS, b"\r\x1b[K");
+        write(rt, TO_ERRORS, b"\r\x1b[K");
     }
 }
 
