@@ -2,7 +2,7 @@
 use mathlib.Core.Path.{refl, sym, subst}
 use lib.Dec.{T}
 use lib.Ieee.{binary64, fits}
-use Rattle.type2.specs.Fixed.{units-quantized}
+use Rattle.type2.proofs.Fixed.{units-quantized}
 use Rattle.type1_to_type2.proofs.Writes.{refused_stays, not_before, pushed}
 use borrow.Author.Rules.{rules}
 use Rattle.type1_to_type2.proofs.writing.put_number.Goals as goal
