@@ -54,8 +54,9 @@ fn is_column(w: &[u8], c: usize) -> bool {
     )
 }
 
-fn say_column(page: &mut [u8], c: usize) {
+fn say_column(rt: &HostRuntime, page: &mut [u8], c: usize) {
     page::text(
+        rt,
         page,
         line(
             b"name\nstems\ncommands\noutput\na\nb\nc\nd\ntx\nty\nx0\ny0\nx1\ny1\nstrict",
@@ -65,7 +66,7 @@ fn say_column(page: &mut [u8], c: usize) {
 }
 
 // A line: its cells stand from `at` to `end`, and the next line from `next` on. Its number counts from 1.
-#[derive(Drop)]
+#[derive(Clone, Copy)]
 struct Line {
     at: usize,
     end: usize,
@@ -208,7 +209,7 @@ fn field<'a>(header: &[u8], row: &'a [u8], c: usize) -> &'a [u8] {
 }
 
 // What is wrong with the file, and in which line and column; 0 where nothing is.
-#[derive(Drop)]
+#[derive(Clone, Copy)]
 pub(crate) struct Fault {
     pub what: usize,
     pub line: usize,
@@ -437,7 +438,7 @@ pub(crate) fn check(v: &[u8]) -> Fault {
 }
 
 // A bank: its stores, its matrix and its window if it has them, and whether its reading is strict if it says so.
-#[derive(Drop)]
+#[derive(Clone, Copy)]
 pub(crate) struct Bank {
     pub stems: usize,
     pub commands: usize,
@@ -503,13 +504,14 @@ pub(crate) fn bank_at(v: &[u8], k: usize) -> Bank {
 }
 
 // Its name.
-pub(crate) fn say_name(page: &mut [u8], v: &[u8], k: usize) {
+pub(crate) fn say_name(rt: &HostRuntime, page: &mut [u8], v: &[u8], k: usize) {
     let header = cells(v, first_line(v));
-    page::name(page, name_of(header, cells(v, bank_line(v, k))));
+    page::name(rt, page, name_of(header, cells(v, bank_line(v, k))));
 }
 
-fn reason(page: &mut [u8], what: usize) {
+fn reason(rt: &HostRuntime, page: &mut [u8], what: usize) {
     page::text(
+        rt,
         page,
         line(
             b"\nno bank\nno column \nno value for \n is no whole number for \n is more than the program lends for \n is no finite number for \nmore cells than the header has\na bank before has the same name, \n is not -140737488355328 to below 140737488355328 once rounded, for \n is neither yes nor no for ",
@@ -519,10 +521,10 @@ fn reason(page: &mut [u8], what: usize) {
 }
 
 // The cell that is wrong, in quotes.
-fn quoted(page: &mut [u8], w: &[u8]) {
-    page::text(page, b"'");
-    page::name(page, w);
-    page::text(page, b"'");
+fn quoted(rt: &HostRuntime, page: &mut [u8], w: &[u8]) {
+    page::text(rt, page, b"'");
+    page::name(rt, page, w);
+    page::text(rt, page, b"'");
 }
 
 // The line of a number, or the end.
@@ -540,8 +542,9 @@ fn numbered(v: &[u8], number: usize) -> Line {
 }
 
 // The cell where a fault is.
-fn say_cell(page: &mut [u8], v: &[u8], f: Fault) {
+fn say_cell(rt: &HostRuntime, page: &mut [u8], v: &[u8], f: Fault) {
     quoted(
+        rt,
         page,
         field(
             cells(v, first_line(v)),
@@ -557,42 +560,42 @@ fn is_of_cell(what: usize) -> bool {
 }
 
 // What stands after the words.
-fn say_rest(page: &mut [u8], v: &[u8], f: Fault) {
+fn say_rest(rt: &HostRuntime, page: &mut [u8], v: &[u8], f: Fault) {
     if f.what == TOO_MANY {
-        say_column(page, f.column);
-        page::text(page, b", ");
-        page::count(page, limit(f.column));
+        say_column(rt, page, f.column);
+        page::text(rt, page, b", ");
+        page::count(rt, page, limit(f.column));
         return;
     }
     if f.what == SAME_NAME {
-        say_cell(page, v, f);
+        say_cell(rt, page, v, f);
         return;
     }
     if f.what == NO_BANK || f.what == MANY_CELLS {
         return;
     }
-    say_column(page, f.column);
+    say_column(rt, page, f.column);
 }
 
-fn say_cell_if(page: &mut [u8], wanted: bool, v: &[u8], f: Fault) {
+fn say_cell_if(rt: &HostRuntime, page: &mut [u8], wanted: bool, v: &[u8], f: Fault) {
     if wanted {
-        say_cell(page, v, f);
+        say_cell(rt, page, v, f);
     }
 }
 
 // The line where a fault is, if it is in one.
-fn say_line(page: &mut [u8], line: usize) {
+fn say_line(rt: &HostRuntime, page: &mut [u8], line: usize) {
     if line != 0 {
-        page::text(page, b"line ");
-        page::count(page, line);
-        page::text(page, b": ");
+        page::text(rt, page, b"line ");
+        page::count(rt, page, line);
+        page::text(rt, page, b": ");
     }
 }
 
 // What is wrong with a file of banks, in words.
-pub(crate) fn say(page: &mut [u8], v: &[u8], f: Fault) {
-    say_line(page, f.line);
-    say_cell_if(page, is_of_cell(f.what), v, f);
-    reason(page, f.what);
-    say_rest(page, v, f);
+pub(crate) fn say(rt: &HostRuntime, page: &mut [u8], v: &[u8], f: Fault) {
+    say_line(rt, page, f.line);
+    say_cell_if(rt, page, is_of_cell(f.what), v, f);
+    reason(rt, page, f.what);
+    say_rest(rt, page, v, f);
 }

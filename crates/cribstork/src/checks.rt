@@ -26,7 +26,7 @@ fn shortest(len_iv: usize) -> usize {
 
 // Where a charstring stands in a number's bytes: how many of them are still to come, the number, and whether
 // an escape stands before the next byte.
-#[derive(Drop)]
+#[derive(Clone, Copy)]
 struct Scan {
     left: usize,
     number: u8,

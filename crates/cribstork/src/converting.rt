@@ -29,7 +29,7 @@ fn width_scratch() -> [f64; GLYPHS]
 
 // What converting goes by: the bytes a charstring drops, the matrix, and the sizes of the stores; the window
 // that the finished glyphs are held to, if there is one; and whether the reading is strict.
-#[derive(Drop)]
+#[derive(Clone, Copy)]
 pub(crate) struct Setup {
     pub len_iv: usize,
     pub matrix: Matrix,
@@ -218,7 +218,7 @@ pub(crate) fn choose(
 
 // What a glyph gives with the stores that are asked: number, length, width, bytes run; and what it needs of
 // the stores, whichever are asked. A need over what the program lends is one more than that.
-#[derive(Drop)]
+#[derive(Clone, Copy)]
 pub(crate) struct Measured {
     pub number: u64,
     pub len: usize,

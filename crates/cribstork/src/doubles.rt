@@ -6,7 +6,7 @@ use crate::page;
 const WHOLE: f64 = 9007199254740992.0;
 
 // A double below WHOLE, to five places: its sign, whole part and hundred thousandths.
-#[derive(Drop)]
+#[derive(Clone, Copy)]
 struct Fixed {
     negative: bool,
     whole: u64,
@@ -71,24 +71,25 @@ fn cut(fraction: u64, places: usize) -> u64 {
     }
 }
 
-fn fixed_text(page: &mut [u8], f: Fixed) {
-    page::text_if(page, f.negative, b"-");
-    page::whole(page, f.whole);
-    fraction_text(page, f);
+fn fixed_text(rt: &HostRuntime, page: &mut [u8], f: Fixed) {
+    page::text_if(rt, page, f.negative, b"-");
+    page::whole(rt, page, f.whole);
+    fraction_text(rt, page, f);
 }
 
 // The point and the places after it, if there are any.
-fn fraction_text(page: &mut [u8], f: Fixed) {
+fn fraction_text(rt: &HostRuntime, page: &mut [u8], f: Fixed) {
     if f.places == 0 {
         return;
     }
     let shown = cut(f.fraction, f.places);
-    page::text(page, b".");
+    page::text(rt, page, b".");
     page::text(
+        rt,
         page,
         part(b"00000", 0, less(f.places, page::digits_of(shown))),
     );
-    page::whole(page, shown);
+    page::whole(rt, page, shown);
 }
 
 // A signed number that is not negative; else 0.
@@ -108,14 +109,14 @@ fn size(x: i64) -> u64 {
 }
 
 // A number of 1/65536s, to five places: no two print alike.
-pub(crate) fn units(page: &mut [u8], x: i64) {
+pub(crate) fn units(rt: &HostRuntime, page: &mut [u8], x: i64) {
     let n = size(x);
     let fraction = (n % 65536 * 100000 + 32768) / 65536;
-    fixed_text(page, fixed_of(x < 0, n / 65536, fraction));
+    fixed_text(rt, page, fixed_of(x < 0, n / 65536, fraction));
 }
 
 // How often a double is halved until it is below WHOLE, and what is left.
-#[derive(Drop)]
+#[derive(Clone, Copy)]
 struct Halved {
     times: usize,
     left: f64,
@@ -193,47 +194,47 @@ fn length(digits: &[u8]) -> usize {
     0
 }
 
-fn spelled(page: &mut [u8], digits: &[u8]) {
+fn spelled(rt: &HostRuntime, page: &mut [u8], digits: &[u8]) {
     let mut n = length(digits);
     while n > 0 {
         n -= 1;
-        page::count(page, byte(digits, n) as usize);
+        page::count(rt, page, byte(digits, n) as usize);
     }
 }
 
 // A double of WHOLE or more, in all its digits.
-fn large(page: &mut [u8], x: f64) {
+fn large(rt: &HostRuntime, page: &mut [u8], x: f64) {
     let mut digits = [0u8; 320];
     let h = halve(x);
     spell(binary64::to_usize(h.left) as u64, &mut digits);
     double_times(&mut digits, h.times);
-    spelled(page, &digits);
+    spelled(rt, page, &digits);
 }
 
-fn signed_large(page: &mut [u8], x: f64) {
-    page::text_if(page, x < 0.0, b"-");
-    large(page, binary64::abs(x));
+fn signed_large(rt: &HostRuntime, page: &mut [u8], x: f64) {
+    page::text_if(rt, page, x < 0.0, b"-");
+    large(rt, page, binary64::abs(x));
 }
 
 // A double to five places, with no zeros at its end.
-pub(crate) fn text(page: &mut [u8], x: f64) {
+pub(crate) fn text(rt: &HostRuntime, page: &mut [u8], x: f64) {
     if !binary64::is_finite(x) {
-        page::text(page, b"not finite");
+        page::text(rt, page, b"not finite");
         return;
     }
     if binary64::abs(x) < WHOLE {
-        fixed_text(page, to_fixed(x));
+        fixed_text(rt, page, to_fixed(x));
         return;
     }
-    signed_large(page, x);
+    signed_large(rt, page, x);
 }
 
-pub(crate) fn right(page: &mut [u8], x: f64, width: usize) {
+pub(crate) fn right(rt: &HostRuntime, page: &mut [u8], x: f64, width: usize) {
     let used = if binary64::abs(x) < WHOLE {
         fixed_length(to_fixed(x))
     } else {
         width
     };
-    page::spaces(page, larger(1, less(width, used)));
-    text(page, x);
+    page::spaces(rt, page, larger(1, less(width, used)));
+    text(rt, page, x);
 }

@@ -4,7 +4,7 @@ use crate::tokens::Token;
 use crate::{names, tokens, trouble};
 
 // Binary bytes in a text: a length, a word that reads them, one space, the bytes.
-#[derive(Drop)]
+#[derive(Clone, Copy)]
 struct Binary {
     what: usize,
     at: usize,
@@ -68,7 +68,7 @@ fn read_binary(v: &[u8], from: usize, reads: u64) -> Binary {
 // A walk through entries: what is wrong and where, the next place, how many were found and how many of them
 // again; the words that read and store the first one, whether the last one still waits to be stored, and how
 // many words stand after its bytes.
-#[derive(Drop)]
+#[derive(Clone, Copy)]
 pub(crate) struct Entries {
     pub what: usize,
     pub at: usize,

@@ -2,9 +2,12 @@
 use crate::bytes::{byte, copy, is_space, less, place, put, smaller, starts, wide};
 use crate::number::{hex_value, is_hex};
 use crate::trouble;
+use std::fs::File;
+use std::io::Read;
+use std::{io, str};
 
 // How many bytes a file has, or what is wrong with it.
-#[derive(Drop)]
+#[derive(Clone, Copy)]
 pub(crate) struct Loaded {
     pub what: usize,
     pub len: usize,
@@ -14,44 +17,81 @@ fn not_loaded(what: usize) -> Loaded {
     Loaded { what, len: 0 }
 }
 
+// The system's numbers of errors: no such file, no permission, a directory.
+const ENOENT: i32 = 2;
+
+const EACCES: i32 = 13;
+
+const EISDIR: i32 = 21;
+
 // Why a file could not be opened.
-fn not_opened(error: i32) -> usize {
-    if error == libc::ENOENT {
-        return trouble::MISSING;
+fn not_opened(error: io::Error) -> usize {
+    match error.raw_os_error() {
+        Some(ENOENT) => trouble::MISSING,
+        Some(EACCES) => trouble::NO_PERMISSION,
+        _ => trouble::NOT_OPENED,
     }
-    if error == libc::EACCES {
-        return trouble::NO_PERMISSION;
-    }
-    trouble::NOT_OPENED
 }
 
-// Why nothing was read.
-fn nothing_read(error: i32) -> usize {
-    if error == libc::EISDIR {
-        return trouble::DIRECTORY;
+// Why nothing was read, where a read failed.
+fn nothing_read(error: io::Error) -> usize {
+    match error.raw_os_error() {
+        Some(EISDIR) => trouble::DIRECTORY,
+        _ => trouble::NOT_READ,
     }
-    if error == 0 {
-        return trouble::EMPTY;
+}
+
+// Opens a file for reading, or says what is wrong. A path that is not UTF-8 cannot be opened.
+fn open(rt: &HostRuntime, path: &[u8]) -> Result<File, usize> {
+    let Ok(path) = str::from_utf8(path) else {
+        return Err(trouble::NOT_OPENED);
+    };
+    match File::open(rt, path) {
+        Ok(file) => Ok(file),
+        Err(e) => Err(not_opened(e)),
     }
-    trouble::NOT_READ
+}
+
+// Reads until the store is full, the file ends or a read fails: how many bytes are at the store's start, and why nothing more was read.
+fn read_full(file: &mut File, store: &mut [u8]) -> Loaded {
+    let mut done: usize = 0;
+    while done < store.len() {
+        match file.read(&mut store[done..]) {
+            Ok(0) => {
+                return Loaded {
+                    what: trouble::EMPTY,
+                    len: done,
+                };
+            }
+            Ok(n) => done += n,
+            Err(e) => {
+                return Loaded {
+                    what: nothing_read(e),
+                    len: done,
+                };
+            }
+        }
+    }
+    Loaded { what: 0, len: done }
 }
 
 // Reads a file into a store. The file is too large where it fills the store.
-pub(crate) fn load(path: &[u8], store: &mut [u8]) -> Loaded {
-    let fd = os::open_read(path);
-    if fd < 0 {
-        return not_loaded(not_opened(os::errno()));
+pub(crate) fn load(rt: &HostRuntime, path: &[u8], store: &mut [u8]) -> Loaded {
+    let mut file = match open(rt, path) {
+        Ok(file) => file,
+        Err(what) => return not_loaded(what),
+    };
+    let l = read_full(&mut file, store);
+    if l.len == 0 {
+        return not_loaded(l.what);
     }
-    let n = io::read_full(fd, store);
-    let error = os::errno();
-    libc::close(fd);
-    if n == 0 {
-        return not_loaded(nothing_read(error));
-    }
-    if n >= store.len() {
+    if l.len >= store.len() {
         return not_loaded(trouble::TOO_LARGE);
     }
-    Loaded { what: 0, len: n }
+    Loaded {
+        what: 0,
+        len: l.len,
+    }
 }
 
 // The kinds of files that are no Type 1 font, in the order of say's words; 0 for any other.
@@ -108,7 +148,7 @@ fn segment_length(v: &[u8], at: usize) -> usize {
 }
 
 // The text of a file's segments: what is wrong and where, the place of the next segment, the text's length.
-#[derive(Drop)]
+#[derive(Clone, Copy)]
 pub(crate) struct Joined {
     pub what: usize,
     pub at: usize,
@@ -191,7 +231,7 @@ fn two_digits(high: u8, low: u8) -> u8 {
 }
 
 // The end of the bytes so far, and the digit that waits for the next, or 16.
-#[derive(Drop)]
+#[derive(Clone, Copy)]
 struct Half {
     to: usize,
     high: u8,
@@ -214,7 +254,7 @@ fn take_digit(v: &mut [u8], at: usize, h: Half) -> Half {
 }
 
 // The end of a private part, and the place of the byte that cuts its hexadecimal digits, or the file's end.
-#[derive(Drop)]
+#[derive(Clone, Copy)]
 pub(crate) struct Private {
     pub end: usize,
     pub stop: usize,
@@ -298,7 +338,7 @@ pub(crate) fn open_private(v: &mut [u8], from: usize, end: usize) -> Private {
 
 // A walk along a file: the place, the bytes left of its segment, and the bytes and the hexadecimal digits
 // of its text before it.
-#[derive(Drop)]
+#[derive(Clone, Copy)]
 struct Walk {
     at: usize,
     left: usize,

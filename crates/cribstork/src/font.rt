@@ -10,7 +10,7 @@ use geometry::Matrix;
 // CharStrings, 0 where there is none; lenIV; how many subroutines and glyphs are declared and are there, and
 // how many glyphs were defined again; whether FontType was defined, how many subroutines were defined again,
 // and the word that reads them.
-#[derive(Drop)]
+#[derive(Clone, Copy)]
 pub(crate) struct Font {
     pub what: usize,
     pub at: usize,
@@ -381,7 +381,7 @@ fn read_private(
 }
 
 // 1000 times the number of the matrix at a place, and the place after it.
-#[derive(Drop)]
+#[derive(Clone, Copy)]
 struct Item {
     value: f64,
     next: usize,

@@ -8,6 +8,7 @@ ghost use Rattle.type1_to_type2.specs.Convert.{rooms_with, convert};
 ghost use Rattle.type1_to_type2.specs.Entry.{Answers};
 ghost use Rattle.cribstork.specs.Ran.{Runs};
 
+mod arguments;
 mod banks;
 mod bytes;
 mod checks;
@@ -32,6 +33,7 @@ mod window;
 use bytes::{part, place};
 use geometry::Matrix;
 use options::Options;
+use std::io::IsTerminal;
 use type1::Reading;
 use type1_to_type2::Type2Glyph;
 
@@ -119,6 +121,7 @@ fn convert(
 
 // The font that the argument at a place names; an option is passed over.
 fn do_argument(
+    rt: &HostRuntime,
     page: &mut [u8],
     i: usize,
     o: Options,
@@ -127,22 +130,23 @@ fn do_argument(
     progress: bool,
     t: report::Totals,
 ) -> report::Totals {
-    if !options::is_font(i) {
+    if !options::is_font(rt, i) {
         return t;
     }
-    let mut buf = io::buffer();
-    let n = os::arg(i, &mut buf);
-    report::do_font(page, &buf[..n], o, banks, names, progress, t)
+    let mut buf = arguments::buffer();
+    let n = arguments::read(rt, i, &mut buf);
+    report::do_font(rt, page, &buf[..n], o, banks, names, progress, t)
 }
 
 fn do_arguments(
+    rt: &HostRuntime,
     page: &mut [u8],
     o: Options,
     banks: &[u8],
     names: &[u8],
     progress: bool,
 ) -> report::Totals {
-    let n = os::arg_count();
+    let n = arguments::count(rt);
     let mut t = report::no_rows();
     let mut i: usize = 1;
     let mut turns = n;
@@ -151,80 +155,87 @@ fn do_arguments(
         if i >= n {
             return t;
         }
-        t = do_argument(page, i, o, banks, names, progress, t);
-        i = options::after(i);
+        t = do_argument(rt, page, i, o, banks, names, progress, t);
+        i = options::after(rt, i);
     }
     t
 }
 
-fn say_not_written() {
+fn say_not_written(rt: &HostRuntime) {
     let mut e = page::errors();
-    page::text(&mut e, b"cribstork: standard output cannot be written\n");
-    page::flush(&mut e);
+    page::text(
+        rt,
+        &mut e,
+        b"cribstork: standard output cannot be written\n",
+    );
+    page::flush(rt, &mut e);
 }
 
 // Writes what is left, and the totals.
-fn finish(page: &mut [u8], t: report::Totals, banks: usize, progress: bool) {
-    page::flush(page);
+fn finish(rt: &HostRuntime, page: &mut [u8], t: report::Totals, banks: usize, progress: bool) {
+    page::flush(rt, page);
     if page::has_failed(page) {
-        say_not_written();
+        say_not_written(rt);
         return;
     }
-    report::say_totals(t, banks, progress);
+    report::say_totals(rt, t, banks, progress);
 }
 
 // What is wrong with the arguments, and how the program is called.
-fn say_fault(o: Options) {
+fn say_fault(rt: &HostRuntime, o: Options) {
     let mut e = page::errors();
-    options::say(&mut e, o);
+    options::say(rt, &mut e, o);
     page::text(
+        rt,
         &mut e,
         b"\nusage: cribstork FONT.. or cribstork --banks BANKS [--need NAMES] FONT..; --help says more\n",
     );
-    page::flush(&mut e);
+    page::flush(rt, &mut e);
 }
 
 // Where standard error is a terminal, a line tells which of several fonts is read.
-fn shows_progress(o: Options) -> bool {
-    o.fonts > 1 && libc::isatty(libc::STDERR_FILENO) == 1
+fn shows_progress(rt: &HostRuntime, o: Options) -> bool {
+    o.fonts > 1 && rt.stderr().is_terminal()
 }
 
 // The names of the columns.
-fn columns_if(page: &mut [u8], wanted: bool, label: &[u8]) {
+fn columns_if(rt: &HostRuntime, page: &mut [u8], wanted: bool, label: &[u8]) {
     if wanted {
-        page::text(page, label);
-        page::end(page);
+        page::text(rt, page, label);
+        page::end(rt, page);
     }
 }
 
 // The table of one font, or the rows of several.
-fn do_tables(page: &mut [u8], o: Options, progress: bool) {
+fn do_tables(rt: &HostRuntime, page: &mut [u8], o: Options, progress: bool) {
     let mut names = list_store();
-    let n = options::read_names(&mut names);
+    let n = options::read_names(rt, &mut names);
     if n >= LIST_BYTES {
-        say_fault(options::with_long_names(o));
+        say_fault(rt, options::with_long_names(o));
         return;
     }
     columns_if(
+        rt,
         page,
         o.fonts > 1,
         b"font\tglyphs\tconverted\trefused\tnumbers\tdefault\tnominal\tstems\tcommands\toutput\tnotes",
     );
-    let t = do_arguments(page, o, b"", part(&names, 0, n), progress);
-    finish(page, t, 0, progress);
+    let t = do_arguments(rt, page, o, b"", part(&names, 0, n), progress);
+    finish(rt, page, t, 0, progress);
 }
 
 // Without a font: the example, where it is there.
-fn do_example(page: &mut [u8], o: Options) {
+fn do_example(rt: &HostRuntime, page: &mut [u8], o: Options) {
     let mut names = list_store();
-    let n = options::read_names(&mut names);
+    let n = options::read_names(rt, &mut names);
     let mut store = font_store();
-    let l = file::load(b"examples/digits.pfb", &mut store);
+    let l = file::load(rt, b"examples/digits.pfb", &mut store);
     if l.what != 0 {
-        say_fault(options::without_font(o));
+        say_fault(rt, options::without_font(o));
         return;
     }
     let t = report::do_bytes(
+        rt,
         page,
         b"examples/digits.pfb",
         part(&store, 0, l.len),
@@ -234,93 +245,107 @@ fn do_example(page: &mut [u8], o: Options) {
         false,
         report::no_rows(),
     );
-    finish(page, t, 0, false);
+    finish(rt, page, t, 0, false);
 }
 
 // Reads the file that the argument after an option names; says what is wrong with it.
-fn load_list(i: usize, store: &mut [u8]) -> file::Loaded {
-    let mut buf = io::buffer();
-    let n = os::arg(place(i, 1), &mut buf);
-    let l = file::load(&buf[..n], store);
+fn load_list(rt: &HostRuntime, i: usize, store: &mut [u8]) -> file::Loaded {
+    let mut buf = arguments::buffer();
+    let n = arguments::read(rt, place(i, 1), &mut buf);
+    let l = file::load(rt, &buf[..n], store);
     if l.what != 0 {
-        report::say_trouble(&buf[..n], trouble::seen(l.what, 0), LIST_BYTES - 1, false);
+        report::say_trouble(
+            rt,
+            &buf[..n],
+            trouble::seen(l.what, 0),
+            LIST_BYTES - 1,
+            false,
+        );
     }
     l
 }
 
 // Says what is wrong with the file of banks.
-fn say_banks(i: usize, v: &[u8], f: banks::Fault) {
-    let mut buf = io::buffer();
-    let n = os::arg(place(i, 1), &mut buf);
+fn say_banks(rt: &HostRuntime, i: usize, v: &[u8], f: banks::Fault) {
+    let mut buf = arguments::buffer();
+    let n = arguments::read(rt, place(i, 1), &mut buf);
     let mut e = page::errors();
-    page::name(&mut e, &buf[..n]);
-    page::text(&mut e, b": ");
-    banks::say(&mut e, v, f);
-    page::end(&mut e);
-    page::flush(&mut e);
+    page::name(rt, &mut e, &buf[..n]);
+    page::text(rt, &mut e, b": ");
+    banks::say(rt, &mut e, v, f);
+    page::end(rt, &mut e);
+    page::flush(rt, &mut e);
 }
 
-fn say_no_names(i: usize) {
-    let mut buf = io::buffer();
-    let n = os::arg(place(i, 1), &mut buf);
+fn say_no_names(rt: &HostRuntime, i: usize) {
+    let mut buf = arguments::buffer();
+    let n = arguments::read(rt, place(i, 1), &mut buf);
     let mut e = page::errors();
-    page::name(&mut e, &buf[..n]);
-    page::text(&mut e, b": no glyph name\n");
-    page::flush(&mut e);
+    page::name(rt, &mut e, &buf[..n]);
+    page::text(rt, &mut e, b": no glyph name\n");
+    page::flush(rt, &mut e);
 }
 
 // The rows of all fonts, with the banks and the names that were read.
-fn do_rows(page: &mut [u8], o: Options, banks: &[u8], need: &[u8], progress: bool) {
+fn do_rows(
+    rt: &HostRuntime,
+    page: &mut [u8],
+    o: Options,
+    banks: &[u8],
+    need: &[u8],
+    progress: bool,
+) {
     columns_if(
+        rt,
         page,
         true,
         b"font\tbank\tprints\tfailing\twhich\tshort\tdefault\tnominal\tglyph_bytes\tsubroutine_bytes\tnotes",
     );
-    let t = do_arguments(page, o, banks, need, progress);
-    finish(page, t, banks::count(banks), progress);
+    let t = do_arguments(rt, page, o, banks, need, progress);
+    finish(rt, page, t, banks::count(banks), progress);
 }
 
 // Reads the names that are needed, and prints the rows.
-fn do_need(page: &mut [u8], o: Options, banks: &[u8], progress: bool) {
+fn do_need(rt: &HostRuntime, page: &mut [u8], o: Options, banks: &[u8], progress: bool) {
     if o.need == 0 {
-        do_rows(page, o, banks, b"", progress);
+        do_rows(rt, page, o, banks, b"", progress);
         return;
     }
     let mut store = list_store();
-    let l = load_list(o.need, &mut store);
+    let l = load_list(rt, o.need, &mut store);
     if l.what != 0 {
         return;
     }
     let need = part(&store, 0, l.len);
     if names::is_none(need, names::next(need, 0)) {
-        say_no_names(o.need);
+        say_no_names(rt, o.need);
         return;
     }
-    do_rows(page, o, banks, need, progress);
+    do_rows(rt, page, o, banks, need, progress);
 }
 
 // Reads the banks, and prints the rows.
-fn do_banks(page: &mut [u8], o: Options, progress: bool) {
+fn do_banks(rt: &HostRuntime, page: &mut [u8], o: Options, progress: bool) {
     let mut store = list_store();
-    let l = load_list(o.banks, &mut store);
+    let l = load_list(rt, o.banks, &mut store);
     if l.what != 0 {
         return;
     }
     let v = part(&store, 0, l.len);
     let f = banks::check(v);
     if f.what != 0 {
-        say_banks(o.banks, v, f);
+        say_banks(rt, o.banks, v, f);
         return;
     }
-    do_need(page, o, v, progress);
+    do_need(rt, page, o, v, progress);
 }
 
 // What the arguments ask for.
-fn act(page: &mut [u8], o: Options) {
-    let progress = shows_progress(o);
+fn act(rt: &HostRuntime, page: &mut [u8], o: Options) {
+    let progress = shows_progress(rt, o);
     page::set_clears(page, progress);
     if o.banks != 0 {
-        do_banks(page, o, progress);
+        do_banks(rt, page, o, progress);
         return;
     }
     let mut p = o;
@@ -328,28 +353,28 @@ fn act(page: &mut [u8], o: Options) {
         p.table = true;
     }
     if o.fonts == 0 {
-        do_example(page, p);
+        do_example(rt, page, p);
         return;
     }
-    do_tables(page, p, progress);
+    do_tables(rt, page, p, progress);
 }
 
-fn main() {
+fn main(rt: HostRuntime) {
     let mut page = page::output();
-    let o = options::read();
+    let o = options::read(&rt);
     if o.fault != 0 {
-        say_fault(o);
+        say_fault(&rt, o);
         return;
     }
     if o.help {
-        say::help(&mut page);
-        page::flush(&mut page);
+        say::help(&rt, &mut page);
+        page::flush(&rt, &mut page);
         return;
     }
     if o.version {
-        page::text(&mut page, b"cribstork 0.2\n");
-        page::flush(&mut page);
+        page::text(&rt, &mut page, b"cribstork 0.2\n");
+        page::flush(&rt, &mut page);
         return;
     }
-    act(&mut page, o);
+    act(&rt, &mut page, o);
 }

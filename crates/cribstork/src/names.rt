@@ -78,7 +78,7 @@ pub(crate) fn enter(table: &mut [u64], name: &[u8], i: usize) {
 }
 
 // A name in a text; without one the place is the text's end.
-#[derive(Drop)]
+#[derive(Clone, Copy)]
 pub(crate) struct Name {
     pub at: usize,
     pub end: usize,

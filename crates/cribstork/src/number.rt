@@ -51,7 +51,7 @@ fn times(n: u64, base: u64) -> u64 {
 }
 
 // A whole number, and the place after it; next is the place asked where none stands there.
-#[derive(Drop)]
+#[derive(Clone, Copy)]
 struct Whole {
     value: u64,
     next: usize,
@@ -73,7 +73,7 @@ fn digits(v: &[u8], from: usize, base: u64) -> Whole {
 }
 
 // A whole number with its sign, if one was found.
-#[derive(Drop)]
+#[derive(Clone, Copy)]
 pub(crate) struct Signed {
     pub found: bool,
     pub negative: bool,
@@ -160,7 +160,7 @@ fn scaled(mantissa: u64, up: usize, down: usize) -> f64 {
 }
 
 // The first digits of a number, as many as fit, how many more there are, and the place after them.
-#[derive(Drop)]
+#[derive(Clone, Copy)]
 struct Mantissa {
     value: u64,
     dropped: usize,
@@ -208,7 +208,7 @@ fn mantissa_at(v: &[u8], from: usize, before: u64) -> Mantissa {
 }
 
 // The exponent at a place: its size up or down, and the place after it.
-#[derive(Drop)]
+#[derive(Clone, Copy)]
 struct Exponent {
     up: usize,
     down: usize,
@@ -247,7 +247,7 @@ fn read_exponent(v: &[u8], at: usize) -> Exponent {
 }
 
 // A decimal number, and the place after it; next is the place asked where none stands there.
-#[derive(Drop)]
+#[derive(Clone, Copy)]
 struct Decimal {
     value: f64,
     next: usize,
@@ -303,7 +303,7 @@ pub(crate) fn read_real(v: &[u8]) -> f64 {
 // A decimal number in a text: where its digits begin, how many there are, and how many of them stand before the
 // written point; by its power of ten, the zeros that come before them and how many digits then stand before the
 // point; and the place after it.
-#[derive(Drop)]
+#[derive(Clone, Copy)]
 struct Spelled {
     from: usize,
     count: usize,
@@ -392,7 +392,7 @@ pub(crate) fn read_units(v: &[u8]) -> Signed {
 }
 
 // A count that a text is, if it is a whole number of 0 or more.
-#[derive(Drop)]
+#[derive(Clone, Copy)]
 pub(crate) struct Count {
     pub found: bool,
     pub value: usize,

@@ -1,14 +1,14 @@
 // The program's arguments: options, and the names of fonts.
 use crate::bytes::{line_number, place, put, starts};
 use crate::converting::{ENTRIES, OUTPUT};
-use crate::{STEMS, number, page, window};
+use crate::{STEMS, arguments, number, page, window};
 use boxes::Bounds;
 use geometry::Matrix;
 
 // What the arguments ask. `fault` says what is wrong, `wrong` is the place of the option, and `value` that of
 // the value that is wrong. `matrix`, `window`, `banks` and `need` are the places of these options; each is 0
 // where there is none. `first` is the first option that does not go with --banks.
-#[derive(Drop)]
+#[derive(Clone, Copy)]
 pub(crate) struct Options {
     pub fault: usize,
     pub wrong: usize,
@@ -123,14 +123,14 @@ fn kind_of_word(w: &[u8]) -> usize {
     n
 }
 
-fn kind(i: usize) -> usize {
-    let mut buf = io::buffer();
-    let n = os::arg(i, &mut buf);
+fn kind(rt: &HostRuntime, i: usize) -> usize {
+    let mut buf = arguments::buffer();
+    let n = arguments::read(rt, i, &mut buf);
     kind_of_word(&buf[..n])
 }
 
-pub(crate) fn is_font(i: usize) -> bool {
-    kind(i) == FONT
+pub(crate) fn is_font(rt: &HostRuntime, i: usize) -> bool {
+    kind(rt, i) == FONT
 }
 
 // How many arguments an argument of a kind takes, itself among them.
@@ -148,43 +148,43 @@ fn words(kind: usize) -> usize {
 }
 
 // The place of the argument after the one at a place.
-pub(crate) fn after(i: usize) -> usize {
-    place(i, words(kind(i)))
+pub(crate) fn after(rt: &HostRuntime, i: usize) -> usize {
+    place(i, words(kind(rt, i)))
 }
 
 // The count that an argument is, if it is one.
-fn read_count(i: usize) -> number::Count {
-    let mut buf = io::buffer();
-    let n = os::arg(i, &mut buf);
+fn read_count(rt: &HostRuntime, i: usize) -> number::Count {
+    let mut buf = arguments::buffer();
+    let n = arguments::read(rt, i, &mut buf);
     number::read_count(&buf[..n])
 }
 
 // The number that an argument is; NaN where it is none.
-fn read_real(i: usize) -> f64 {
-    let mut buf = io::buffer();
-    let n = os::arg(i, &mut buf);
+fn read_real(rt: &HostRuntime, i: usize) -> f64 {
+    let mut buf = arguments::buffer();
+    let n = arguments::read(rt, i, &mut buf);
     number::read_real(&buf[..n])
 }
 
 // The six numbers after --matrix.
-pub(crate) fn read_matrix(i: usize) -> Matrix {
+pub(crate) fn read_matrix(rt: &HostRuntime, i: usize) -> Matrix {
     Matrix {
-        a: read_real(place(i, 1)),
-        b: read_real(place(i, 2)),
-        c: read_real(place(i, 3)),
-        d: read_real(place(i, 4)),
-        tx: read_real(place(i, 5)),
-        ty: read_real(place(i, 6)),
+        a: read_real(rt, place(i, 1)),
+        b: read_real(rt, place(i, 2)),
+        c: read_real(rt, place(i, 3)),
+        d: read_real(rt, place(i, 4)),
+        tx: read_real(rt, place(i, 5)),
+        ty: read_real(rt, place(i, 6)),
     }
 }
 
 // The place of the first of the six arguments that is no finite number; 0 where there is none.
-fn not_finite(i: usize) -> usize {
+fn not_finite(rt: &HostRuntime, i: usize) -> usize {
     let mut k: usize = 0;
     while k < 6 {
         k += 1;
         let at = place(i, k);
-        if !binary64::is_finite(read_real(at)) {
+        if !binary64::is_finite(read_real(rt, at)) {
             return at;
         }
     }
@@ -192,19 +192,19 @@ fn not_finite(i: usize) -> usize {
 }
 
 // The nearest 1/65536 to the number that an argument is, if it is one.
-fn read_units(i: usize) -> number::Signed {
-    let mut buf = io::buffer();
-    let n = os::arg(i, &mut buf);
+fn read_units(rt: &HostRuntime, i: usize) -> number::Signed {
+    let mut buf = arguments::buffer();
+    let n = arguments::read(rt, i, &mut buf);
     number::read_units(&buf[..n])
 }
 
 // The four numbers after --window.
-pub(crate) fn read_window(i: usize) -> Bounds {
+pub(crate) fn read_window(rt: &HostRuntime, i: usize) -> Bounds {
     Bounds {
-        left: window::bound(read_units(place(i, 1))),
-        bottom: window::bound(read_units(place(i, 2))),
-        right: window::bound(read_units(place(i, 3))),
-        top: window::bound(read_units(place(i, 4))),
+        left: window::bound(read_units(rt, place(i, 1))),
+        bottom: window::bound(read_units(rt, place(i, 2))),
+        right: window::bound(read_units(rt, place(i, 3))),
+        top: window::bound(read_units(rt, place(i, 4))),
     }
 }
 
@@ -220,12 +220,12 @@ fn bound_fault(n: number::Signed) -> usize {
 }
 
 // The place of the first of the four arguments that is wrong; 0 where there is none.
-fn wrong_bound(i: usize) -> usize {
+fn wrong_bound(rt: &HostRuntime, i: usize) -> usize {
     let mut k: usize = 0;
     while k < 4 {
         k += 1;
         let at = place(i, k);
-        if bound_fault(read_units(at)) != 0 {
+        if bound_fault(read_units(rt, at)) != 0 {
             return at;
         }
     }
@@ -233,8 +233,8 @@ fn wrong_bound(i: usize) -> usize {
 }
 
 // The argument is --font-matrix.
-pub(crate) fn is_font_matrix(i: usize) -> bool {
-    kind(i) == FONT_MATRIX
+pub(crate) fn is_font_matrix(rt: &HostRuntime, i: usize) -> bool {
+    kind(rt, i) == FONT_MATRIX
 }
 
 fn faulty(o: Options, fault: usize, wrong: usize, value: usize) -> Options {
@@ -279,8 +279,8 @@ fn with_store(o: Options, kind: usize, n: usize) -> Options {
 }
 
 // A store's size.
-fn with_size(i: usize, kind: usize, o: Options) -> Options {
-    let n = read_count(place(i, 1));
+fn with_size(rt: &HostRuntime, i: usize, kind: usize, o: Options) -> Options {
+    let n = read_count(rt, place(i, 1));
     if !n.found {
         return faulty(o, NO_COUNT, i, place(i, 1));
     }
@@ -294,9 +294,9 @@ fn with_size(i: usize, kind: usize, o: Options) -> Options {
 }
 
 // A matrix, where none was asked before.
-fn with_matrix(i: usize, kind: usize, o: Options) -> Options {
-    if kind == MATRIX && not_finite(i) != 0 {
-        return faulty(o, NO_NUMBER, i, not_finite(i));
+fn with_matrix(rt: &HostRuntime, i: usize, kind: usize, o: Options) -> Options {
+    if kind == MATRIX && not_finite(rt, i) != 0 {
+        return faulty(o, NO_NUMBER, i, not_finite(rt, i));
     }
     if o.matrix != 0 {
         return faulty(o, AGAIN, i, i);
@@ -307,10 +307,10 @@ fn with_matrix(i: usize, kind: usize, o: Options) -> Options {
 }
 
 // A window, where none was asked before.
-fn with_window(i: usize, o: Options) -> Options {
-    let at = wrong_bound(i);
+fn with_window(rt: &HostRuntime, i: usize, o: Options) -> Options {
+    let at = wrong_bound(rt, i);
     if at != 0 {
-        return faulty(o, bound_fault(read_units(at)), i, at);
+        return faulty(o, bound_fault(read_units(rt, at)), i, at);
     }
     if o.window != 0 {
         return faulty(o, AGAIN, i, i);
@@ -372,15 +372,15 @@ fn with_flag(i: usize, kind: usize, o: Options) -> Options {
 }
 
 // An argument of a kind, added to those before.
-fn with_kind(i: usize, kind: usize, o: Options) -> Options {
+fn with_kind(rt: &HostRuntime, i: usize, kind: usize, o: Options) -> Options {
     if kind == STEM_STORE || kind == COMMAND_STORE || kind == OUTPUT_STORE {
-        return with_size(i, kind, o);
+        return with_size(rt, i, kind, o);
     }
     if kind == MATRIX || kind == FONT_MATRIX {
-        return with_matrix(i, kind, o);
+        return with_matrix(rt, i, kind, o);
     }
     if kind == WINDOW {
-        return with_window(i, o);
+        return with_window(rt, i, o);
     }
     if kind == BANKS || kind == NEED {
         return with_file(i, kind, o);
@@ -394,12 +394,12 @@ fn is_of_table(kind: usize) -> bool {
 }
 
 // The argument at a place, of so many, added to those before.
-fn with(i: usize, n: usize, o: Options) -> Options {
-    let k = kind(i);
+fn with(rt: &HostRuntime, i: usize, n: usize, o: Options) -> Options {
+    let k = kind(rt, i);
     if place(i, words(k)) > n {
         return faulty(o, NO_VALUE, i, i);
     }
-    let mut p = with_kind(i, k, o);
+    let mut p = with_kind(rt, i, k, o);
     if p.first == 0 && is_of_table(k) {
         p.first = i;
     }
@@ -434,8 +434,8 @@ pub(crate) fn with_long_names(o: Options) -> Options {
 }
 
 // Reads all arguments, up to the first that is wrong.
-pub(crate) fn read() -> Options {
-    let n = os::arg_count();
+pub(crate) fn read(rt: &HostRuntime) -> Options {
+    let n = arguments::count(rt);
     let mut o = none();
     let mut i: usize = 1;
     let mut turns = n;
@@ -444,8 +444,8 @@ pub(crate) fn read() -> Options {
         if i >= n || o.fault != 0 {
             return checked(o);
         }
-        o = with(i, n, o);
-        i = after(i);
+        o = with(rt, i, n, o);
+        i = after(rt, i);
     }
     checked(o)
 }
@@ -466,23 +466,23 @@ fn put_names(names: &mut [u8], to: usize, w: &[u8]) -> usize {
     place(to, place(i, 1))
 }
 
-fn put_argument(names: &mut [u8], to: usize, i: usize) -> usize {
-    let mut buf = io::buffer();
-    let n = os::arg(i, &mut buf);
+fn put_argument(rt: &HostRuntime, names: &mut [u8], to: usize, i: usize) -> usize {
+    let mut buf = arguments::buffer();
+    let n = arguments::read(rt, i, &mut buf);
     put_names(names, to, &buf[..n])
 }
 
 // The names after the option at a place, if it is --glyph.
-fn put_if_glyph(names: &mut [u8], to: usize, i: usize) -> usize {
-    if kind(i) != GLYPH {
+fn put_if_glyph(rt: &HostRuntime, names: &mut [u8], to: usize, i: usize) -> usize {
+    if kind(rt, i) != GLYPH {
         return to;
     }
-    put_argument(names, to, place(i, 1))
+    put_argument(rt, names, to, place(i, 1))
 }
 
 // The names after every --glyph, as a text; its length.
-pub(crate) fn read_names(names: &mut [u8]) -> usize {
-    let n = os::arg_count();
+pub(crate) fn read_names(rt: &HostRuntime, names: &mut [u8]) -> usize {
+    let n = arguments::count(rt);
     let mut to: usize = 0;
     let mut i: usize = 1;
     let mut turns = n;
@@ -491,30 +491,31 @@ pub(crate) fn read_names(names: &mut [u8]) -> usize {
         if i >= n {
             return to;
         }
-        to = put_if_glyph(names, to, i);
-        i = after(i);
+        to = put_if_glyph(rt, names, to, i);
+        i = after(rt, i);
     }
     to
 }
 
 // An argument in quotes.
-pub(crate) fn quoted(page: &mut [u8], i: usize) {
-    let mut buf = io::buffer();
-    let n = os::arg(i, &mut buf);
-    page::text(page, b"'");
-    page::name(page, &buf[..n]);
-    page::text(page, b"'");
+pub(crate) fn quoted(rt: &HostRuntime, page: &mut [u8], i: usize) {
+    let mut buf = arguments::buffer();
+    let n = arguments::read(rt, i, &mut buf);
+    page::text(rt, page, b"'");
+    page::name(rt, page, &buf[..n]);
+    page::text(rt, page, b"'");
 }
 
-fn quoted_if(page: &mut [u8], wanted: bool, i: usize) {
+fn quoted_if(rt: &HostRuntime, page: &mut [u8], wanted: bool, i: usize) {
     if wanted {
-        quoted(page, i);
+        quoted(rt, page, i);
     }
 }
 
 // The words after the option, or after its value.
-fn reason(page: &mut [u8], fault: usize) {
+fn reason(rt: &HostRuntime, page: &mut [u8], fault: usize) {
     page::text(
+        rt,
         page,
         crate::bytes::line(
             b"\nunknown option \n has no value\n is no whole number\n is more than the program lends, \n is no finite number\n is given a second time\n does not go with --banks\n goes with --banks only\nno font is named\nthe names after --glyph have more than 65535 bytes\n is not -140737488355328 to below 140737488355328 once rounded",
@@ -524,34 +525,34 @@ fn reason(page: &mut [u8], fault: usize) {
 }
 
 // The option, and the value that is wrong.
-fn option_and_value(page: &mut [u8], o: Options) {
-    quoted_if(page, o.wrong != 0, o.wrong);
-    page::text_if(page, o.value != o.wrong, b": ");
-    quoted_if(page, o.value != o.wrong, o.value);
+fn option_and_value(rt: &HostRuntime, page: &mut [u8], o: Options) {
+    quoted_if(rt, page, o.wrong != 0, o.wrong);
+    page::text_if(rt, page, o.value != o.wrong, b": ");
+    quoted_if(rt, page, o.value != o.wrong, o.value);
 }
 
 // The largest store, where more was asked.
-fn say_limit(page: &mut [u8], o: Options) {
+fn say_limit(rt: &HostRuntime, page: &mut [u8], o: Options) {
     if o.fault == TOO_MANY {
-        page::count(page, limit(kind(o.wrong)));
+        page::count(rt, page, limit(kind(rt, o.wrong)));
     }
 }
 
 // An option that is unknown, after the words.
-fn say_unknown(page: &mut [u8], o: Options) {
-    page::text(page, b"cribstork: ");
-    reason(page, o.fault);
-    quoted(page, o.wrong);
+fn say_unknown(rt: &HostRuntime, page: &mut [u8], o: Options) {
+    page::text(rt, page, b"cribstork: ");
+    reason(rt, page, o.fault);
+    quoted(rt, page, o.wrong);
 }
 
 // What is wrong with the arguments.
-pub(crate) fn say(page: &mut [u8], o: Options) {
+pub(crate) fn say(rt: &HostRuntime, page: &mut [u8], o: Options) {
     if o.fault == UNKNOWN_OPTION {
-        say_unknown(page, o);
+        say_unknown(rt, page, o);
         return;
     }
-    page::text(page, b"cribstork: ");
-    option_and_value(page, o);
-    reason(page, o.fault);
-    say_limit(page, o);
+    page::text(rt, page, b"cribstork: ");
+    option_and_value(rt, page, o);
+    reason(rt, page, o.fault);
+    say_limit(rt, page, o);
 }

@@ -7,12 +7,17 @@ use crate::bytes::{byte, copy, less, low_byte, part, place, put, smaller, wide};
 
 const HEAD: usize = 6;
 
+// Where bytes go: standard output, and standard error.
+const TO_OUTPUT: u8 = 1;
+
+const TO_ERRORS: u8 = 2;
+
 // A page for standard output, and a smaller one for standard error.
 pub(crate) fn output() -> [u8; 65536]
     ensures { 65536 ≡ length result }
 {
     let mut page = [0u8; 65536];
-    page[4] = 1;
+    page[4] = TO_OUTPUT;
     page
 }
 
@@ -20,7 +25,7 @@ pub(crate) fn errors() -> [u8; 4096]
     ensures { 4096 ≡ length result }
 {
     let mut page = [0u8; 4096];
-    page[4] = 2;
+    page[4] = TO_ERRORS;
     page
 }
 
@@ -40,10 +45,20 @@ fn failed(before: u8, written: bool) -> u8 {
     if written { before } else { 1 }
 }
 
+// Writes bytes, or stops at the first write that fails; the answer is whether all were written.
+fn write(rt: &HostRuntime, to: u8, bytes: &[u8]) -> bool {
+    let written = if to == TO_ERRORS {
+        rt.stderr().write_all(bytes)
+    } else {
+        rt.stdout().write_all(bytes)
+    };
+    written.is_ok()
+}
+
 // Clears the line of standard error, where that is asked.
-pub(crate) fn clear_line(asked: bool) {
+pub(crate) fn clear_line(rt: &HostRuntime, asked: bool) {
     if asked {
-        io::write_all(libc::STDERR_FILENO, b"\r\x1b[K");
+        write(rt, TO_ERRORS, b"\r\x1b[K");
     }
 }
 
@@ -53,11 +68,11 @@ pub(crate) fn set_clears(page: &mut [u8], clears: bool) {
 }
 
 // Writes what waits.
-pub(crate) fn flush(page: &mut [u8]) {
-    clear_line(byte(page, 5) != 0);
+pub(crate) fn flush(rt: &HostRuntime, page: &mut [u8]) {
+    clear_line(rt, byte(page, 5) != 0);
     let n = waiting(page);
     let before = byte(page, 3);
-    let written = io::write_all(byte(page, 4) as i32, part(page, HEAD, n));
+    let written = write(rt, byte(page, 4), part(page, HEAD, n));
     put(page, 3, failed(before, written));
     set_waiting(page, 0);
 }
@@ -77,7 +92,7 @@ fn fill(page: &mut [u8], s: &[u8], from: usize) -> usize {
     place(from, k)
 }
 
-pub(crate) fn text(page: &mut [u8], s: &[u8]) {
+pub(crate) fn text(rt: &HostRuntime, page: &mut [u8], s: &[u8]) {
     let mut at = fill(page, s, 0);
     let mut turns = s.len();
     while turns > 0 {
@@ -85,25 +100,25 @@ pub(crate) fn text(page: &mut [u8], s: &[u8]) {
         if at >= s.len() {
             return;
         }
-        flush(page);
+        flush(rt, page);
         at = fill(page, s, at);
     }
 }
 
 // A text, where it is wanted.
-pub(crate) fn text_if(page: &mut [u8], wanted: bool, s: &[u8]) {
+pub(crate) fn text_if(rt: &HostRuntime, page: &mut [u8], wanted: bool, s: &[u8]) {
     if wanted {
-        text(page, s);
+        text(rt, page, s);
     }
 }
 
 // A line's end.
-pub(crate) fn end(page: &mut [u8]) {
-    text(page, b"\n");
+pub(crate) fn end(rt: &HostRuntime, page: &mut [u8]) {
+    text(rt, page, b"\n");
 }
 
-pub(crate) fn tab(page: &mut [u8]) {
-    text(page, b"\t");
+pub(crate) fn tab(rt: &HostRuntime, page: &mut [u8]) {
+    text(rt, page, b"\t");
 }
 
 // A byte of a name or a path that would break a line or a column is shown as '?'.
@@ -112,27 +127,27 @@ fn shown(b: u8) -> u8 {
 }
 
 // A name or a path.
-pub(crate) fn name(page: &mut [u8], s: &[u8]) {
+pub(crate) fn name(rt: &HostRuntime, page: &mut [u8], s: &[u8]) {
     let mut i: usize = 0;
     while i < s.len() {
-        text(page, &[shown(s[i])]);
+        text(rt, page, &[shown(s[i])]);
         i += 1;
     }
 }
 
-pub(crate) fn whole(page: &mut [u8], n: u64) {
-    let mut digits = [0u8; 20];
-    let k = io::decimal(n, &mut digits);
-    text(page, &digits[..k]);
+pub(crate) fn whole(rt: &HostRuntime, page: &mut [u8], n: u64) {
+    let mut digits = itoa::Buffer::new();
+    text(rt, page, digits.format(n).as_bytes());
 }
 
-pub(crate) fn count(page: &mut [u8], n: usize) {
-    whole(page, n as u64);
+pub(crate) fn count(rt: &HostRuntime, page: &mut [u8], n: usize) {
+    whole(rt, page, n as u64);
 }
 
 // Up to 40 spaces.
-pub(crate) fn spaces(page: &mut [u8], n: usize) {
+pub(crate) fn spaces(rt: &HostRuntime, page: &mut [u8], n: usize) {
     text(
+        rt,
         page,
         part(
             b"                                        ",
@@ -143,46 +158,46 @@ pub(crate) fn spaces(page: &mut [u8], n: usize) {
 }
 
 // A name, and spaces up to a width.
-pub(crate) fn left(page: &mut [u8], s: &[u8], width: usize) {
-    name(page, s);
-    spaces(page, less(width, s.len()));
+pub(crate) fn left(rt: &HostRuntime, page: &mut [u8], s: &[u8], width: usize) {
+    name(rt, page, s);
+    spaces(rt, page, less(width, s.len()));
 }
 
 // A number at the right of its column.
-pub(crate) fn whole_right(page: &mut [u8], n: u64, width: usize) {
-    spaces(page, less(width, digits_of(n)));
-    whole(page, n);
+pub(crate) fn whole_right(rt: &HostRuntime, page: &mut [u8], n: u64, width: usize) {
+    spaces(rt, page, less(width, digits_of(n)));
+    whole(rt, page, n);
 }
 
-pub(crate) fn count_right(page: &mut [u8], n: usize, width: usize) {
-    whole_right(page, n as u64, width);
+pub(crate) fn count_right(rt: &HostRuntime, page: &mut [u8], n: usize, width: usize) {
+    whole_right(rt, page, n as u64, width);
 }
 
 // How many digits a number has.
 pub(crate) fn digits_of(n: u64) -> usize {
-    let mut digits = [0u8; 20];
-    io::decimal(n, &mut digits)
+    let mut digits = itoa::Buffer::new();
+    digits.format(n).len()
 }
 
 fn hex_digit(n: u8) -> u8 {
     byte(b"0123456789abcdef", n as usize)
 }
 
-fn hex_bytes(page: &mut [u8], v: &[u8]) {
+fn hex_bytes(rt: &HostRuntime, page: &mut [u8], v: &[u8]) {
     let mut i: usize = 0;
     while i < v.len() {
         let b = v[i];
-        text(page, &[hex_digit(b / 16), hex_digit(b % 16)]);
+        text(rt, page, &[hex_digit(b / 16), hex_digit(b % 16)]);
         i += 1;
     }
 }
 
 // Bytes on a line of their own; nothing where there are none.
-pub(crate) fn hex_line(page: &mut [u8], v: &[u8]) {
+pub(crate) fn hex_line(rt: &HostRuntime, page: &mut [u8], v: &[u8]) {
     if v.len() == 0 {
         return;
     }
-    spaces(page, 4);
-    hex_bytes(page, v);
-    end(page);
+    spaces(rt, page, 4);
+    hex_bytes(rt, page, v);
+    end(rt, page);
 }

@@ -50,7 +50,7 @@ fn refusal_list() -> [u64; 32]
 }
 
 // How many fonts and rows there were: rows that print, that do not, and that cannot be read.
-#[derive(Drop)]
+#[derive(Clone, Copy)]
 pub(crate) struct Totals {
     pub fonts: usize,
     pub yes: usize,
@@ -68,33 +68,33 @@ fn with_rows(t: Totals, yes: usize, no: usize, unreadable: usize) -> Totals {
 }
 
 // The matrix that the arguments ask for; the identity where they ask for none.
-fn matrix_asked(v: &[u8], f: Font, o: Options) -> Matrix {
+fn matrix_asked(rt: &HostRuntime, v: &[u8], f: Font, o: Options) -> Matrix {
     if o.matrix == 0 {
         return Matrix::identity();
     }
-    if options::is_font_matrix(o.matrix) {
+    if options::is_font_matrix(rt, o.matrix) {
         return font::matrix(v, f.matrix);
     }
-    options::read_matrix(o.matrix)
+    options::read_matrix(rt, o.matrix)
 }
 
 // The window that the arguments ask for; all zeros where they ask for none.
-fn window_asked(o: Options) -> Bounds {
+fn window_asked(rt: &HostRuntime, o: Options) -> Bounds {
     if o.window == 0 {
         return window::no_bounds();
     }
-    options::read_window(o.window)
+    options::read_window(rt, o.window)
 }
 
-fn setup_asked(v: &[u8], f: Font, o: Options) -> Setup {
+fn setup_asked(rt: &HostRuntime, v: &[u8], f: Font, o: Options) -> Setup {
     Setup {
         len_iv: f.len_iv,
-        matrix: matrix_asked(v, f, o),
+        matrix: matrix_asked(rt, v, f, o),
         stems: o.stems,
         commands: o.commands,
         output: o.output,
         has_window: o.window != 0,
-        window: window_asked(o),
+        window: window_asked(rt, o),
         strict: o.strict,
     }
 }
@@ -110,6 +110,7 @@ fn mark(v: &[u8], f: Font, list: &[u64], table: &[u64], asked: &[u8], marks: &mu
 
 // What is printed of a font once its glyphs are converted; the answer is whether all convert.
 fn print_sums(
+    rt: &HostRuntime,
     page: &mut [u8],
     path: &[u8],
     f: Font,
@@ -118,14 +119,15 @@ fn print_sums(
     w: widths::Chosen,
     refusals: &[u64],
 ) -> bool {
-    table::totals_if(page, o.table, t, w, refusals);
-    table::window_if(page, o.window != 0, window_asked(o), t);
-    table::line_if(page, o.fonts > 1, path, f, t, w, refusals);
+    table::totals_if(rt, page, o.table, t, w, refusals);
+    table::window_if(rt, page, o.window != 0, window_asked(rt, o), t);
+    table::line_if(rt, page, o.fonts > 1, path, f, t, w, refusals);
     t.converted == t.glyphs
 }
 
 // The table of a font, or its row; the answer is whether all glyphs convert.
 fn print_table(
+    rt: &HostRuntime,
     page: &mut [u8],
     path: &[u8],
     v: &[u8],
@@ -140,12 +142,13 @@ fn print_table(
     let mut words = command_store();
     let mut marks = glyph_list();
     let mut refusals = refusal_list();
-    let s = setup_asked(v, f, o);
+    let s = setup_asked(rt, v, f, o);
     mark(v, f, list, table, asked, &mut marks);
     let w = converting::choose(v, codes, f.glyphs, bank, s, &mut words);
     let most = converting::choose_with_all(v, codes, f.glyphs, bank, s, w, &mut words);
-    table::font_if(page, o, path, v, f, bank);
+    table::font_if(rt, page, o, path, v, f, bank);
     let t = table::glyphs(
+        rt,
         page,
         v,
         list,
@@ -160,12 +163,13 @@ fn print_table(
         &mut words,
         &mut refusals,
     );
-    table::print_all_missing(page, v, list, table, asked);
-    print_sums(page, path, f, o, t, w, &refusals)
+    table::print_all_missing(rt, page, v, list, table, asked);
+    print_sums(rt, page, path, f, o, t, w, &refusals)
 }
 
 // The rows of a font; the answer is how many banks print it.
 fn print_rows(
+    rt: &HostRuntime,
     page: &mut [u8],
     path: &[u8],
     v: &[u8],
@@ -181,9 +185,10 @@ fn print_rows(
     let mut words = command_store();
     let mut marks = glyph_list();
     let mut numbers = glyph_list();
-    let m = matrix_asked(v, f, o);
+    let m = matrix_asked(rt, v, f, o);
     mark(v, f, list, table, need, &mut marks);
     rows::rows(
+        rt,
         page,
         path,
         v,
@@ -204,6 +209,7 @@ fn print_rows(
 
 // A font that was read: its table, or its rows.
 fn print_font(
+    rt: &HostRuntime,
     page: &mut [u8],
     path: &[u8],
     v: &[u8],
@@ -218,37 +224,40 @@ fn print_font(
     t: Totals,
 ) -> Totals {
     if o.banks == 0 {
-        let all = print_table(page, path, v, f, list, codes, table, bank, o, names);
+        let all = print_table(rt, page, path, v, f, list, codes, table, bank, o, names);
         return with_rows(t, if all { 1 } else { 0 }, if all { 0 } else { 1 }, 0);
     }
-    let yes = print_rows(page, path, v, f, list, codes, table, bank, o, banks, names);
+    let yes = print_rows(
+        rt, page, path, v, f, list, codes, table, bank, o, banks, names,
+    );
     with_rows(t, yes, less(banks::count(banks), yes), 0)
 }
 
 // What is wrong with a file, on a line of standard error.
-pub(crate) fn say_trouble(path: &[u8], t: Trouble, limit: usize, progress: bool) {
+pub(crate) fn say_trouble(rt: &HostRuntime, path: &[u8], t: Trouble, limit: usize, progress: bool) {
     let mut e = page::errors();
-    page::clear_line(progress);
-    page::name(&mut e, path);
-    page::text(&mut e, b": ");
-    say::trouble(&mut e, t, limit);
-    page::end(&mut e);
-    page::flush(&mut e);
+    page::clear_line(rt, progress);
+    page::name(rt, &mut e, path);
+    page::text(rt, &mut e, b": ");
+    say::trouble(rt, &mut e, t, limit);
+    page::end(rt, &mut e);
+    page::flush(rt, &mut e);
 }
 
 // The rows of a font that cannot be read.
-fn unreadable_rows(page: &mut [u8], path: &[u8], o: Options, banks: &[u8]) {
+fn unreadable_rows(rt: &HostRuntime, page: &mut [u8], path: &[u8], o: Options, banks: &[u8]) {
     if o.banks != 0 {
-        rows::unreadable(page, path, banks);
+        rows::unreadable(rt, page, path, banks);
         return;
     }
     if o.fonts > 1 {
-        table::print_unreadable(page, path);
+        table::print_unreadable(rt, page, path);
     }
 }
 
 // A font that cannot be read: its rows, and a line of standard error.
 fn print_unreadable(
+    rt: &HostRuntime,
     page: &mut [u8],
     path: &[u8],
     f: Font,
@@ -257,14 +266,14 @@ fn print_unreadable(
     progress: bool,
     t: Totals,
 ) -> Totals {
-    unreadable_rows(page, path, o, banks);
-    page::flush(page);
+    unreadable_rows(rt, page, path, o, banks);
+    page::flush(rt, page);
     let wrong = Trouble {
         what: f.what,
         at: f.at,
         hidden: f.hidden,
     };
-    say_trouble(path, wrong, FONT_BYTES - 1, progress);
+    say_trouble(rt, path, wrong, FONT_BYTES - 1, progress);
     with_rows(t, 0, 0, if o.banks == 0 { 1 } else { banks::count(banks) })
 }
 
@@ -282,6 +291,7 @@ fn with_bank(v: &[u8], f: Font, list: &[u64], bank: &mut [u8]) -> Font {
 
 // A font from a file's bytes.
 pub(crate) fn do_bytes(
+    rt: &HostRuntime,
     page: &mut [u8],
     path: &[u8],
     file: &[u8],
@@ -307,10 +317,11 @@ pub(crate) fn do_bytes(
     );
     let f = with_bank(part(&text, 0, read.len), read, &list, &mut bank);
     if f.what != 0 {
-        return print_unreadable(page, path, f, o, banks, progress, t);
+        return print_unreadable(rt, page, path, f, o, banks, progress, t);
     }
     let n = subroutines::bank_length(&list, f.count);
     print_font(
+        rt,
         page,
         path,
         part(&text, 0, f.len),
@@ -327,22 +338,23 @@ pub(crate) fn do_bytes(
 }
 
 // Shows which font is next, where that is asked.
-fn show_progress(path: &[u8], o: Options, t: Totals, progress: bool) {
+fn show_progress(rt: &HostRuntime, path: &[u8], o: Options, t: Totals, progress: bool) {
     if !progress {
         return;
     }
     let mut e = page::errors();
-    page::clear_line(progress);
-    page::count(&mut e, place(t.fonts, 1));
-    page::text(&mut e, b" of ");
-    page::count(&mut e, o.fonts);
-    page::text(&mut e, b": ");
-    page::name(&mut e, path);
-    page::flush(&mut e);
+    page::clear_line(rt, progress);
+    page::count(rt, &mut e, place(t.fonts, 1));
+    page::text(rt, &mut e, b" of ");
+    page::count(rt, &mut e, o.fonts);
+    page::text(rt, &mut e, b": ");
+    page::name(rt, &mut e, path);
+    page::flush(rt, &mut e);
 }
 
 // A font.
 pub(crate) fn do_font(
+    rt: &HostRuntime,
     page: &mut [u8],
     path: &[u8],
     o: Options,
@@ -352,12 +364,22 @@ pub(crate) fn do_font(
     t: Totals,
 ) -> Totals {
     let mut store = crate::font_store();
-    show_progress(path, o, t, progress);
-    let l = file::load(path, &mut store);
+    show_progress(rt, path, o, t, progress);
+    let l = file::load(rt, path, &mut store);
     if l.what != 0 {
-        return print_unreadable(page, path, font::unreadable(l.what), o, banks, progress, t);
+        return print_unreadable(
+            rt,
+            page,
+            path,
+            font::unreadable(l.what),
+            o,
+            banks,
+            progress,
+            t,
+        );
     }
     let u = do_bytes(
+        rt,
         page,
         path,
         part(&store, 0, l.len),
@@ -367,7 +389,7 @@ pub(crate) fn do_font(
         progress,
         t,
     );
-    page::flush(page);
+    page::flush(rt, page);
     u
 }
 
@@ -381,19 +403,19 @@ pub(crate) fn no_rows() -> Totals {
 }
 
 // The last line of standard error.
-pub(crate) fn say_totals(t: Totals, banks: usize, progress: bool) {
+pub(crate) fn say_totals(rt: &HostRuntime, t: Totals, banks: usize, progress: bool) {
     let mut e = page::errors();
-    page::clear_line(progress);
-    page::text(&mut e, b"cribstork: fonts ");
-    page::count(&mut e, t.fonts);
-    page::text(&mut e, b", banks ");
-    page::count(&mut e, banks);
-    page::text(&mut e, b", yes ");
-    page::count(&mut e, t.yes);
-    page::text(&mut e, b", no ");
-    page::count(&mut e, t.no);
-    page::text(&mut e, b", unreadable ");
-    page::count(&mut e, t.unreadable);
-    page::end(&mut e);
-    page::flush(&mut e);
+    page::clear_line(rt, progress);
+    page::text(rt, &mut e, b"cribstork: fonts ");
+    page::count(rt, &mut e, t.fonts);
+    page::text(rt, &mut e, b", banks ");
+    page::count(rt, &mut e, banks);
+    page::text(rt, &mut e, b", yes ");
+    page::count(rt, &mut e, t.yes);
+    page::text(rt, &mut e, b", no ");
+    page::count(rt, &mut e, t.no);
+    page::text(rt, &mut e, b", unreadable ");
+    page::count(rt, &mut e, t.unreadable);
+    page::end(rt, &mut e);
+    page::flush(rt, &mut e);
 }

@@ -7,7 +7,7 @@ use crate::{banks, converting, doubles, names, page, table, window};
 
 // What a bank makes of a font: how many needed glyphs fail, the bytes of all finished glyphs, what the
 // needed glyphs need of the stores, and the widths.
-#[derive(Drop)]
+#[derive(Clone, Copy)]
 struct Sums {
     failing: usize,
     bytes: usize,
@@ -151,36 +151,44 @@ fn measure_all(
 }
 
 // Between two items of a cell.
-fn comma(page: &mut [u8], before: bool) {
-    page::text_if(page, before, b", ");
+fn comma(rt: &HostRuntime, page: &mut [u8], before: bool) {
+    page::text_if(rt, page, before, b", ");
 }
 
 // Why a glyph fails: its number, or how it lies to the window.
-fn reason(page: &mut [u8], number: u64) {
+fn reason(rt: &HostRuntime, page: &mut [u8], number: u64) {
     if number == CROSSING {
-        page::text(page, b"crossing");
+        page::text(rt, page, b"crossing");
         return;
     }
     if number == OUTSIDE {
-        page::text(page, b"outside");
+        page::text(rt, page, b"outside");
         return;
     }
-    page::whole(page, number);
+    page::whole(rt, page, number);
 }
 
 // A needed glyph that fails, with the reason; the answer is whether an item stands in the cell.
-fn failing(page: &mut [u8], name: &[u8], number: u64, needed: bool, before: bool) -> bool {
+fn failing(
+    rt: &HostRuntime,
+    page: &mut [u8],
+    name: &[u8],
+    number: u64,
+    needed: bool,
+    before: bool,
+) -> bool {
     if !needed || number == 0 {
         return before;
     }
-    comma(page, before);
-    page::name(page, name);
-    page::spaces(page, 1);
-    reason(page, number);
+    comma(rt, page, before);
+    page::name(rt, page, name);
+    page::spaces(rt, page, 1);
+    reason(rt, page, number);
     true
 }
 
 fn all_failing(
+    rt: &HostRuntime,
     page: &mut [u8],
     v: &[u8],
     list: &[u64],
@@ -192,6 +200,7 @@ fn all_failing(
     let mut i: usize = 0;
     while i < count {
         before = failing(
+            rt,
             page,
             listed(v, list, i),
             word(numbers, i),
@@ -204,17 +213,18 @@ fn all_failing(
 }
 
 // A needed glyph that the font lacks, if it does; the answer is whether an item stands in the cell.
-fn missing(page: &mut [u8], name: &[u8], lacks: bool, before: bool) -> bool {
+fn missing(rt: &HostRuntime, page: &mut [u8], name: &[u8], lacks: bool, before: bool) -> bool {
     if !lacks {
         return before;
     }
-    comma(page, before);
-    page::name(page, name);
-    page::text(page, b" missing");
+    comma(rt, page, before);
+    page::name(rt, page, name);
+    page::text(rt, page, b" missing");
     true
 }
 
 fn all_missing(
+    rt: &HostRuntime,
     page: &mut [u8],
     v: &[u8],
     list: &[u64],
@@ -232,7 +242,7 @@ fn all_missing(
             return before;
         }
         let lacks = names::is_missing(v, list, table, need, n);
-        before = missing(page, names::text(need, n), lacks, before);
+        before = missing(rt, page, names::text(need, n), lacks, before);
         at = n.end;
     }
     before
@@ -240,6 +250,7 @@ fn all_missing(
 
 // A store that a bank is short of.
 fn short(
+    rt: &HostRuntime,
     page: &mut [u8],
     what: &[u8],
     has: usize,
@@ -250,17 +261,18 @@ fn short(
     if needs <= has {
         return before;
     }
-    comma(page, before);
-    page::text(page, what);
-    page::count(page, has);
-    page::text(page, b" < ");
-    table::print_need(page, needs, limit);
+    comma(rt, page, before);
+    page::text(rt, page, what);
+    page::count(rt, page, has);
+    page::text(rt, page, b" < ");
+    table::print_need(rt, page, needs, limit);
     true
 }
 
-fn all_short(page: &mut [u8], s: Setup, t: Sums) -> bool {
-    let a = short(page, b"stems ", s.stems, t.stems, crate::STEMS, false);
+fn all_short(rt: &HostRuntime, page: &mut [u8], s: Setup, t: Sums) -> bool {
+    let a = short(rt, page, b"stems ", s.stems, t.stems, crate::STEMS, false);
     let b = short(
+        rt,
         page,
         b"commands ",
         s.commands,
@@ -268,45 +280,53 @@ fn all_short(page: &mut [u8], s: Setup, t: Sums) -> bool {
         converting::ENTRIES,
         a,
     );
-    short(page, b"output ", s.output, t.output, converting::OUTPUT, b)
+    short(
+        rt,
+        page,
+        b"output ",
+        s.output,
+        t.output,
+        converting::OUTPUT,
+        b,
+    )
 }
 
 // '-' in a cell that has nothing.
-fn fill(page: &mut [u8], filled: bool) {
-    page::text_if(page, !filled, b"-");
-    page::tab(page);
+fn fill(rt: &HostRuntime, page: &mut [u8], filled: bool) {
+    page::text_if(rt, page, !filled, b"-");
+    page::tab(rt, page);
 }
 
-fn begin_row(page: &mut [u8], path: &[u8], banks: &[u8], k: usize) {
-    page::name(page, path);
-    page::tab(page);
-    banks::say_name(page, banks, k);
-    page::tab(page);
+fn begin_row(rt: &HostRuntime, page: &mut [u8], path: &[u8], banks: &[u8], k: usize) {
+    page::name(rt, page, path);
+    page::tab(rt, page);
+    banks::say_name(rt, page, banks, k);
+    page::tab(rt, page);
 }
 
-fn widths_cells(page: &mut [u8], t: Sums) {
-    doubles::text(page, t.default);
-    page::tab(page);
-    doubles::text(page, t.nominal);
-    page::tab(page);
+fn widths_cells(rt: &HostRuntime, page: &mut [u8], t: Sums) {
+    doubles::text(rt, page, t.default);
+    page::tab(rt, page);
+    doubles::text(rt, page, t.nominal);
+    page::tab(rt, page);
 }
 
 // The cells after the glyphs that fail.
-fn end_row(page: &mut [u8], f: Font, s: Setup, t: Sums, bank: &[u8]) {
-    let some = all_short(page, s, t);
-    fill(page, some);
-    widths_cells(page, t);
-    page::count(page, t.bytes);
-    page::tab(page);
-    page::count(page, bank.len());
-    table::notes(page, f);
+fn end_row(rt: &HostRuntime, page: &mut [u8], f: Font, s: Setup, t: Sums, bank: &[u8]) {
+    let some = all_short(rt, page, s, t);
+    fill(rt, page, some);
+    widths_cells(rt, page, t);
+    page::count(rt, page, t.bytes);
+    page::tab(rt, page);
+    page::count(rt, page, bank.len());
+    table::notes(rt, page, f);
 }
 
-fn yes_or_no(page: &mut [u8], fails: usize) {
-    page::text_if(page, fails == 0, b"yes\t");
-    page::text_if(page, fails != 0, b"no\t");
-    page::count(page, fails);
-    page::tab(page);
+fn yes_or_no(rt: &HostRuntime, page: &mut [u8], fails: usize) {
+    page::text_if(rt, page, fails == 0, b"yes\t");
+    page::text_if(rt, page, fails != 0, b"no\t");
+    page::count(rt, page, fails);
+    page::tab(rt, page);
 }
 
 // The setup of a bank; `m` holds where it has no matrix of its own, and `strict` where it does not say how it reads.
@@ -343,6 +363,7 @@ fn measure_bank(
 
 // The cell of the needed glyphs that fail or are missing.
 fn which(
+    rt: &HostRuntime,
     page: &mut [u8],
     v: &[u8],
     list: &[u64],
@@ -352,13 +373,14 @@ fn which(
     need: &[u8],
     numbers: &[u64],
 ) {
-    let some = all_failing(page, v, list, count, marks, numbers);
-    let any = all_missing(page, v, list, table, need, some);
-    fill(page, any);
+    let some = all_failing(rt, page, v, list, count, marks, numbers);
+    let any = all_missing(rt, page, v, list, table, need, some);
+    fill(rt, page, any);
 }
 
 // The row of a font and a bank; the answer is how many needed glyphs fail or are missing.
 fn row(
+    rt: &HostRuntime,
     page: &mut [u8],
     v: &[u8],
     f: Font,
@@ -374,14 +396,15 @@ fn row(
 ) -> usize {
     let t = measure_bank(v, codes, f.glyphs, marks, bank, s, words, numbers);
     let fails = place(t.failing, names::count_missing(v, list, table, need));
-    yes_or_no(page, fails);
-    which(page, v, list, f.glyphs, table, marks, need, numbers);
-    end_row(page, f, s, t, bank);
+    yes_or_no(rt, page, fails);
+    which(rt, page, v, list, f.glyphs, table, marks, need, numbers);
+    end_row(rt, page, f, s, t, bank);
     fails
 }
 
 // The row of bank k.
 fn bank_row(
+    rt: &HostRuntime,
     page: &mut [u8],
     path: &[u8],
     v: &[u8],
@@ -399,8 +422,9 @@ fn bank_row(
     words: &mut [u64],
     numbers: &mut [u64],
 ) -> usize {
-    begin_row(page, path, banks, k);
+    begin_row(rt, page, path, banks, k);
     row(
+        rt,
         page,
         v,
         f,
@@ -418,6 +442,7 @@ fn bank_row(
 
 // The rows of a font; the answer is how many banks print it.
 pub(crate) fn rows(
+    rt: &HostRuntime,
     page: &mut [u8],
     path: &[u8],
     v: &[u8],
@@ -439,8 +464,8 @@ pub(crate) fn rows(
     let mut k: usize = 0;
     while k < count {
         let fails = bank_row(
-            page, path, v, f, list, codes, table, marks, need, bank, m, strict, banks, k, words,
-            numbers,
+            rt, page, path, v, f, list, codes, table, marks, need, bank, m, strict, banks, k,
+            words, numbers,
         );
         if fails == 0 {
             yes = place(yes, 1);
@@ -451,14 +476,14 @@ pub(crate) fn rows(
 }
 
 // The rows of a font that cannot be read.
-pub(crate) fn unreadable(page: &mut [u8], path: &[u8], banks: &[u8]) {
+pub(crate) fn unreadable(rt: &HostRuntime, page: &mut [u8], path: &[u8], banks: &[u8]) {
     let count = banks::count(banks);
     let mut k: usize = 0;
     while k < count {
-        begin_row(page, path, banks, k);
-        page::text(page, b"unreadable");
-        table::empty_cells(page, 8);
-        page::end(page);
+        begin_row(rt, page, path, banks, k);
+        page::text(rt, page, b"unreadable");
+        table::empty_cells(rt, page, 8);
+        page::end(rt, page);
         k += 1;
     }
 }

@@ -25,7 +25,7 @@ pub(crate) const MARK: usize = 8;
 pub(crate) const BROKEN: usize = 9;
 
 // Its bytes stand from `at` up to `end`; a literal name's without the slash.
-#[derive(Drop)]
+#[derive(Clone, Copy)]
 pub(crate) struct Token {
     pub kind: usize,
     pub at: usize,
@@ -61,7 +61,7 @@ fn skip_blank(v: &[u8], from: usize) -> usize {
 }
 
 // How deep the parentheses of a string are, and whether a backslash stands before the next byte.
-#[derive(Drop)]
+#[derive(Clone, Copy)]
 struct Nest {
     depth: usize,
     escaped: bool,

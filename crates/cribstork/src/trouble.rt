@@ -67,7 +67,7 @@ pub(crate) const OTHER_WORD: usize = 33;
 
 // What is wrong, 0 where nothing is; the byte of the file where it was seen, and whether that is in the
 // encrypted part. For OTHER_KIND the place is the kind's number.
-#[derive(Drop)]
+#[derive(Clone, Copy)]
 pub(crate) struct Trouble {
     pub what: usize,
     pub at: usize,

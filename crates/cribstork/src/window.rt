@@ -16,7 +16,7 @@ pub(crate) const OUTSIDE: usize = 3;
 pub(crate) const NO_POINT: usize = 4;
 
 // That, and the glyph's box.
-#[derive(Drop)]
+#[derive(Clone, Copy)]
 pub(crate) struct Judged {
     pub what: usize,
     pub bounds: Bounds,
@@ -96,33 +96,34 @@ pub(crate) fn bound(n: Signed) -> i64 {
 }
 
 // The four numbers of a box or a window.
-pub(crate) fn numbers(page: &mut [u8], b: Bounds) {
-    doubles::units(page, b.left);
-    page::spaces(page, 1);
-    doubles::units(page, b.bottom);
-    page::spaces(page, 1);
-    doubles::units(page, b.right);
-    page::spaces(page, 1);
-    doubles::units(page, b.top);
+pub(crate) fn numbers(rt: &HostRuntime, page: &mut [u8], b: Bounds) {
+    doubles::units(rt, page, b.left);
+    page::spaces(rt, page, 1);
+    doubles::units(rt, page, b.bottom);
+    page::spaces(rt, page, 1);
+    doubles::units(rt, page, b.right);
+    page::spaces(rt, page, 1);
+    doubles::units(rt, page, b.top);
 }
 
-fn box_or_none(page: &mut [u8], j: Judged) {
+fn box_or_none(rt: &HostRuntime, page: &mut [u8], j: Judged) {
     if j.what == NO_POINT {
-        page::text(page, b"-");
+        page::text(rt, page, b"-");
         return;
     }
-    numbers(page, j.bounds);
+    numbers(rt, page, j.bounds);
 }
 
 // The column of the table, where it is wanted: the verdict, and the box.
-pub(crate) fn column_if(page: &mut [u8], wanted: bool, j: Judged) {
+pub(crate) fn column_if(rt: &HostRuntime, page: &mut [u8], wanted: bool, j: Judged) {
     if wanted {
-        page::spaces(page, 2);
+        page::spaces(rt, page, 2);
         page::left(
+            rt,
             page,
             line(b"-\nwithin\ncrossing\noutside\nno point", j.what),
             10,
         );
-        box_or_none(page, j);
+        box_or_none(rt, page, j);
     }
 }

@@ -3,20 +3,22 @@ ghost use Rattle.std.specs.Prelude.{◌≡◌, length};
 
 use crate::compare;
 use crate::vector::{big_endian, part, sum};
-use libc::STDOUT_FILENO;
+use std::fs::File;
+use std::io::{Cursor, Read, Write};
+use std::{io, str};
 
 // The most bytes of a payload.
 const LONGEST: usize = 8192;
 
 // How many vectors were compared, and how many differ.
-#[derive(Drop)]
+#[derive(Clone, Copy)]
 pub(crate) struct Tally {
     pub(crate) compared: u64,
     pub(crate) different: u64,
 }
 
 // What the next vector of a file is.
-#[derive(Drop)]
+#[derive(Clone, Copy)]
 enum Turn {
     Same,
     Different,
@@ -26,9 +28,25 @@ enum Turn {
 }
 
 // The file is at its end: a read finds nothing, and does not fail.
-fn is_at_end(fd: i32) -> bool {
+fn is_at_end(file: &mut File) -> bool {
     let mut one = [0u8; 1];
-    libc::read(fd, &mut one) == 0
+    match file.read(&mut one) {
+        Ok(n) => n == 0,
+        Err(_) => false,
+    }
+}
+
+// Reads until the buffer is full, the file ends or a read fails, and returns how many bytes are at the buffer's start.
+fn read_full(file: &mut File, buf: &mut [u8]) -> usize {
+    let mut done: usize = 0;
+    while done < buf.len() {
+        match file.read(&mut buf[done..]) {
+            Ok(0) => return done,
+            Ok(n) => done += n,
+            Err(_) => return done,
+        }
+    }
+    done
 }
 
 fn buffer() -> [u8; LONGEST]
@@ -38,11 +56,11 @@ fn buffer() -> [u8; LONGEST]
 }
 
 // Reads a payload of n bytes into a buffer and compares it.
-fn compare_payload(fd: i32, kind: u64, n: usize, buf: &mut [u8]) -> Turn {
+fn compare_payload(file: &mut File, kind: u64, n: usize, buf: &mut [u8]) -> Turn {
     if buf.len() < n {
         return Turn::Broken;
     }
-    if io::read_full(fd, &mut buf[..n]) != n {
+    if read_full(file, &mut buf[..n]) != n {
         return Turn::Broken;
     }
     if compare(kind, part(buf, 0, n)) {
@@ -53,15 +71,15 @@ fn compare_payload(fd: i32, kind: u64, n: usize, buf: &mut [u8]) -> Turn {
 }
 
 // Reads the next frame of a file and compares its payload.
-fn compare_next(fd: i32, kind: u64) -> Turn {
+fn compare_next(file: &mut File, kind: u64) -> Turn {
     let mut head = [0u8; 4];
-    let got = io::read_full(fd, &mut head);
+    let got = read_full(file, &mut head);
     if got == 4 {
         let n = big_endian(&head) as usize;
         let mut buf = buffer();
-        return compare_payload(fd, kind, n, &mut buf);
+        return compare_payload(file, kind, n, &mut buf);
     }
-    if got == 0 && is_at_end(fd) {
+    if got == 0 && is_at_end(file) {
         Turn::End
     } else {
         Turn::Broken
@@ -70,13 +88,13 @@ fn compare_next(fd: i32, kind: u64) -> Turn {
 
 // Compares every vector of an open file. What cannot be read on counts as one that differs.
 // A proved loop has to end, and nothing says that a file does: the turns count down from a number that no run uses up.
-fn compare_all(fd: i32, kind: u64) -> Tally {
+fn compare_all(file: &mut File, kind: u64) -> Tally {
     let mut compared: u64 = 0;
     let mut different: u64 = 0;
     let mut turns = u64::MAX;
     while turns > 0 {
         turns -= 1;
-        match compare_next(fd, kind) {
+        match compare_next(file, kind) {
             Turn::Same => {
                 compared = sum(compared, 1);
             }
@@ -101,44 +119,54 @@ fn compare_all(fd: i32, kind: u64) -> Tally {
     }
 }
 
-pub(crate) fn print(name: &[u8], t: Tally) {
-    io::write_all(STDOUT_FILENO, name);
-    io::write_all(STDOUT_FILENO, b": ");
-    io::print_decimal(STDOUT_FILENO, t.compared);
-    io::write_all(STDOUT_FILENO, b" compared, ");
-    io::print_decimal(STDOUT_FILENO, t.different);
-    io::write_all(STDOUT_FILENO, b" different\n");
+pub(crate) fn print(rt: &HostRuntime, name: &str, t: Tally) -> io::Result<()> {
+    let compared = t.compared;
+    let different = t.different;
+    println!(rt; "{name}: {compared} compared, {different} different")
+}
+
+// The system's words of an error's text, without its number and what is left of a buffer.
+fn words(text: &str) -> &str {
+    match text.split_once(" (os error ") {
+        Some((words, _)) => words,
+        None => text.trim_end_matches('\0'),
+    }
+}
+
+// Says on standard error why a file cannot be opened.
+fn say_not_opened(rt: &HostRuntime, file: &str, error: io::Error) -> io::Result<()> {
+    let mut text = Cursor::new([0u8; 256]);
+    write!(text, "{error}")?;
+    let text = text.into_inner();
+    let why = words(str::from_utf8(&text).unwrap_or(""));
+    eprintln!(rt; "{file}: {why}")
 }
 
 // A file that cannot be opened counts as one vector that differs.
-fn compare_file(file: &[u8], kind: u64) -> Tally {
-    let fd = os::open_read(file);
-    if fd < 0 {
-        os::fail(file);
-        return Tally {
-            compared: 0,
-            different: 1,
-        };
+fn compare_file(rt: &HostRuntime, file: &str, kind: u64) -> io::Result<Tally> {
+    match File::open(rt, file) {
+        Ok(mut opened) => Ok(compare_all(&mut opened, kind)),
+        Err(e) => {
+            say_not_opened(rt, file, e)?;
+            Ok(Tally {
+                compared: 0,
+                different: 1,
+            })
+        }
     }
-    let t = compare_all(fd, kind);
-    libc::close(fd);
-    t
 }
 
 // A file's name without `.vec`.
-fn name(file: &[u8]) -> &[u8] {
-    if file.len() < 4 {
-        return file;
-    }
-    part(file, 0, file.len() - 4)
+fn name(file: &str) -> &str {
+    file.strip_suffix(".vec").unwrap_or(file)
 }
 
 // Replays a file, prints its line and adds it to the sums before.
-pub(crate) fn replay(file: &[u8], kind: u64, before: Tally) -> Tally {
-    let t = compare_file(file, kind);
-    print(name(file), t);
-    Tally {
+pub(crate) fn replay(rt: &HostRuntime, file: &str, kind: u64, before: Tally) -> io::Result<Tally> {
+    let t = compare_file(rt, file, kind)?;
+    print(rt, name(file), t)?;
+    Ok(Tally {
         compared: sum(before.compared, t.compared),
         different: sum(before.different, t.different),
-    }
+    })
 }

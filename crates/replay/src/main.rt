@@ -22,6 +22,7 @@ use files::{Tally, replay};
 use glyphs::{bank_at, charstring_at};
 use lent::command_store;
 use runs::is_run;
+use std::io;
 use type1::Reading;
 use vector::{
     after_string, byte, double, nth_short, part, short_matrix, short_string, size, string,
@@ -183,53 +184,55 @@ fn compare(kind: u64, v: &[u8]) -> bool {
 }
 
 // The functions on doubles.
-fn replay_doubles(before: Tally) -> Tally {
-    let mut t = replay(b"round.vec", 1, before);
-    t = replay(b"floor.vec", 2, t);
-    t = replay(b"abs.vec", 3, t);
-    t = replay(b"is_finite.vec", 4, t);
-    t = replay(b"to_usize.vec", 5, t);
-    replay(b"to_i64.vec", 6, t)
+fn replay_doubles(rt: &HostRuntime, before: Tally) -> io::Result<Tally> {
+    let mut t = replay(rt, "round.vec", 1, before)?;
+    t = replay(rt, "floor.vec", 2, t)?;
+    t = replay(rt, "abs.vec", 3, t)?;
+    t = replay(rt, "is_finite.vec", 4, t)?;
+    t = replay(rt, "to_usize.vec", 5, t)?;
+    replay(rt, "to_i64.vec", 6, t)
 }
 
 // Those on points.
-fn replay_points(before: Tally) -> Tally {
-    let mut t = replay(b"round10.vec", 7, before);
-    t = replay(b"transform_point.vec", 8, t);
-    replay(b"transform_delta.vec", 9, t)
+fn replay_points(rt: &HostRuntime, before: Tally) -> io::Result<Tally> {
+    let mut t = replay(rt, "round10.vec", 7, before)?;
+    t = replay(rt, "transform_point.vec", 8, t)?;
+    replay(rt, "transform_delta.vec", 9, t)
 }
 
 // The cipher, Type 2 numbers and the widths of a font.
-fn replay_parts(before: Tally) -> Tally {
-    let mut t = replay(b"decrypt_charstring.vec", 10, before);
-    t = replay(b"quantize.vec", 11, t);
-    t = replay(b"push_number.vec", 12, t);
-    t = replay(b"adobe_numbers.vec", 18, t);
-    replay(b"choose_widths.vec", 13, t)
+fn replay_parts(rt: &HostRuntime, before: Tally) -> io::Result<Tally> {
+    let mut t = replay(rt, "decrypt_charstring.vec", 10, before)?;
+    t = replay(rt, "quantize.vec", 11, t)?;
+    t = replay(rt, "push_number.vec", 12, t)?;
+    t = replay(rt, "adobe_numbers.vec", 18, t)?;
+    replay(rt, "choose_widths.vec", 13, t)
 }
 
 // The run, converting and finishing.
-fn replay_glyphs(before: Tally) -> Tally {
-    let mut t = replay(b"run.vec", 14, before);
-    t = replay(b"convert.vec", 15, t);
-    t = replay(b"strict.vec", STRICT, t);
-    t = replay(b"finish.vec", 16, t);
-    replay(b"closepaths.vec", 17, t)
+fn replay_glyphs(rt: &HostRuntime, before: Tally) -> io::Result<Tally> {
+    let mut t = replay(rt, "run.vec", 14, before)?;
+    t = replay(rt, "convert.vec", 15, t)?;
+    t = replay(rt, "strict.vec", STRICT, t)?;
+    t = replay(rt, "finish.vec", 16, t)?;
+    replay(rt, "closepaths.vec", 17, t)
 }
 
 // The boxes of finished charstrings.
-fn replay_boxes(before: Tally) -> Tally {
-    let t = replay(b"glyph_box.vec", 19, before);
-    replay(b"box_of_run.vec", 20, t)
+fn replay_boxes(rt: &HostRuntime, before: Tally) -> io::Result<Tally> {
+    let t = replay(rt, "glyph_box.vec", 19, before)?;
+    replay(rt, "box_of_run.vec", 20, t)
 }
 
-fn main() {
+fn main(rt: HostRuntime) -> io::Result<()> {
     let none = Tally {
         compared: 0,
         different: 0,
     };
-    files::print(
-        b"total",
-        replay_boxes(replay_glyphs(replay_parts(replay_points(replay_doubles(none))))),
-    );
+    let mut t = replay_doubles(&rt, none)?;
+    t = replay_points(&rt, t)?;
+    t = replay_parts(&rt, t)?;
+    t = replay_glyphs(&rt, t)?;
+    t = replay_boxes(&rt, t)?;
+    files::print(&rt, "total", t)
 }

@@ -6,12 +6,11 @@ use native.Mathlib.Omega.{arith}
 use mathlib.Core.Bool.{Bool, true, false, cond, true≢false}
 use mathlib.Core.List.{List, [], ◌∷◌, ◌++◌}
 use mathlib.Core.Option.{Option, none, some}
-use borrow.Author.Tests.{lt-ltb, le-ltb, ne_eqb, le-leb, lt-leb, eqb-true, eqb-false}
-use lib.Dec.{T, eqb, ltb, leb, lit≤}
+use borrow.Author.Tests.{lt-ltb, le-ltb, ne_eqb, eqb-true, eqb-false}
+use lib.Dec.{T, eqb, ltb, lit≤}
 use lib.IntN.{ℤ}
 use lib.ListN.{length, get_or, take, drop, set, replicate, length-set, length-take}
 use lib.Seq.{take-suc-set}
-use lib.Arith.{lt_of_le-ne}
 use lib.Ieee.{Float}
 use Rattle.charstring.specs.Cipher.{Bytes, step, byte_of}
 use Rattle.charstring.specs.Cursor.{after, byte_at, rest}
@@ -28,7 +27,7 @@ use Rattle.type1.specs.Number.{Token, cut, number, operator, token, token_two, t
 use Rattle.geometry.specs.declared.Point.{Point}
 use Rattle.outline.specs.Outline.{pick, origin}
 use Rattle.type1.specs.State.{State, with_operands, with_open}
-use Rattle.type1.specs.Run.{Limits, within, limits_of, Outcome, allowed, going, returning, ending, refused, and_then, check, push, consume, operate, run_bytes}
+use Rattle.type1.specs.Run.{Limits, within, limits_of, Outcome, allowed, going, returning, ending, refused, and_then, push, consume, operate, run_bytes}
 use Rattle.type1.specs.Memory.{Mem, flex_held, abs, Fit, Holds, Good, Meets, operator_of}
 use Rattle.type1.specs.Small.{ran_of, with_opened}
 use Rattle.type1.specs.Sound.{is_pop, All, OfFlex, GoodPoint, Sound, SoundOut, SmallToken}

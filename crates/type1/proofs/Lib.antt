@@ -17,3 +17,4 @@ pub mod Stacks
 pub mod Steps
 pub mod Store
 pub mod Stored
+pub mod Tests

@@ -1,15 +1,14 @@
 -- Laws: the numbers of a charstring, as the code computes them.
-use mathlib.Core.Path.{◌≡◌, refl, sym, ap, ◌∙◌, subst}
+use mathlib.Core.Path.{◌≡◌, refl, sym, ap, ◌∙◌}
 use Prim.Native.Nat.{ℕ, zero, suc, ◌+◌, ◌-◌, ◌*◌, ◌^◌, ◌≤◌, ◌<◌}
 use native.Mathlib.Nat.{mul-one, mul-le-mul_right, mul-lt-mul_of_pos_right}
 use native.Mathlib.Omega.{arith}
 use mathlib.Core.Bool.{Bool, true, false, cond}
-use mathlib.Core.List.{List, [], ◌∷◌}
 use borrow.Author.Tests.{lt-ltb, le-ltb, ltb-true, ltb-false}
-use lib.Dec.{T, ltb, leb, le→leb, lit<, lit≤}
-use lib.IntN.{ℤ, pos, negsuc, sub_ℕ}
+use lib.Dec.{T, ltb, le→leb, lit<, lit≤}
+use lib.IntN.{pos, negsuc, sub_ℕ}
 use lib.Pow.{pow_pos}
-use lib.Ieee.{Float, binary64, low, round, neg, sub, of_int, in_float, eq}
+use lib.Ieee.{binary64, low, round, neg, sub, of_int, in_float}
 use lib.Ieee.Exact.{HasValue}
 use lib.Ieee.Back.{round_whole}
 use lib.Ieee.Scale.{round_same}

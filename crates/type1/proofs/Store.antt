@@ -1,13 +1,12 @@
 -- Laws: the command store and the stem store. What an entry holds depends on its own words alone, and an entry that is added adds its command.
 use mathlib.Core.Path.{◌≡◌, refl, sym, ap, ap₂, ◌∙◌, subst}
 use Prim.Native.Nat.{ℕ, zero, suc, ◌+◌, ◌-◌, ◌*◌, ◌≤◌, ◌<◌}
-use native.Mathlib.Nat.{le_trans, le_refl, lt_of_lt_of_le}
 use native.Mathlib.Numerals.{add-one}
 use native.Mathlib.Omega.{arith}
 use mathlib.Core.Bool.{Bool, true, false, not}
 use mathlib.Core.List.{List, [], ◌∷◌, ◌++◌, append-nil}
 use borrow.Author.Tests.{eq-eqb, ne_eqb, le-leb, lt-leb, eqb-true, eqb-false}
-use lib.Dec.{T, eqb, leb, lit≤}
+use lib.Dec.{T, eqb, lit≤}
 use lib.Arith.{lt_of_le-ne}
 use lib.ListN.{length, get_or, take, drop, set, length-set, length-append}
 use lib.Seq.{get_or-set_same, get_or-set_other}
@@ -19,10 +18,10 @@ use Rattle.outline.specs.declared.Stem.{Stem}
 use Rattle.type1.specs.declared.St.{St}
 use Rattle.type1.specs.declared.Ran.{Ran}
 use Rattle.outline.specs.Outline.{Command, move, line, curve, flex, Group, stem_count, last_is, pick}
-use Rattle.outline.specs.Store.{word, point_in, coordinate, command_in, drawn_in, group_in, groups_in, point_command}
+use Rattle.outline.specs.Store.{word, coordinate, command_in, drawn_in, group_in, groups_in, point_command}
 use Rattle.type1.specs.State.{State, with_drawn}
-use Rattle.type1.specs.Run.{Limits, within, Outcome, going, refused, allowed, enter, point_at}
-use Rattle.type1.specs.Memory.{Mem, abs, Bounds, Fit, Holds, Meets, with_cells, with_cmds, Plain}
+use Rattle.type1.specs.Run.{within, going, allowed, enter, point_at}
+use Rattle.type1.specs.Memory.{Mem, abs, Holds, Meets, with_cells, with_cmds, Plain}
 use Rattle.type1.specs.Small.{ran_of, cell_point, flex_of, GoodPoint, point_put, Entered}
 
 -- two stores with the same words below n

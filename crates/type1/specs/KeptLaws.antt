@@ -1,7 +1,7 @@
 -- Laws: a property of numbers that sums and quotients keep (`Kept`) is kept by the run: from a state whose every number has it, a step leaves such a state.
 use Prim.Native.Nat.{ℕ, suc, ◌+◌, ◌-◌, ◌≤◌}
 use Rattle.std.proofs.Common.{arith, sym, subst, leb→le}
-use Rattle.std.specs.Prelude.{refl, false, not, ◌&&◌, ltb, eqb, ℤ, pos, take, drop, Float}
+use Rattle.std.specs.Prelude.{refl, false, not, ◌&&◌, ltb, eqb, ℤ, take, drop, Float}
 use Rattle.std.proofs.Math.Bool.{Bool, true}
 use mathlib.Core.List.{List, [], ◌∷◌, ◌++◌}
 use Rattle.std.proofs.Math.Option.{Option, none, some}
@@ -14,7 +14,7 @@ use Rattle.geometry.specs.declared.Point.{Point}
 use Rattle.outline.specs.declared.Stem.{Stem}
 use Rattle.type1.specs.Operator as op
 use Rattle.type1.specs.Operator.{Operator}
-use Rattle.type1.specs.Number.{number, operator, double}
+use Rattle.type1.specs.Number.{double}
 use Rattle.outline.specs.Outline.{Command, move, line, curve, flex, Group, plus_zero, origin, is_in, last_is, stem_of}
 use Rattle.type1.specs.State.{State, with_operands, with_postscript, with_point, with_bearing, with_open, with_flex, with_hints, settled, with_drawn, with_divided, with_ran}
 use Rattle.type1.specs.Run.{Limits, Outcome, going, refused, and_then, top, cleared, without, needs, push, stem, entries, group_number, new_group, commit, enter, list, shifted, is_finite, no_flex, move_by, open_subpath, line_to, line_by, curve_to, curve_by, same_point, set_point, backwards, hand_back, end_flex, height_of, other_subr0, collected, other_subr2, is, other_subr, call_other_subr, pop_d, div_d, stems3, point_at, operate}

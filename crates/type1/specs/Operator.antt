@@ -1,5 +1,5 @@
 -- Definitions: Type 1's operators, and the bytes that stand for them. Document 01, "Reading"; Adobe Type 1 Font Format, section 6.4 and appendix 2.
-use Rattle.std.specs.Prelude.{ℕ, Bool, true, false, List, [], ◌∷◌, eqb}
+use Rattle.std.specs.Prelude.{ℕ, List, [], ◌∷◌, eqb}
 use Rattle.outline.specs.Outline.{pick}
 
 -- T1's names of them; `unknown` is any other byte

@@ -1,14 +1,12 @@
 -- Definitions: what the small functions answer, and what is asked of the numbers in the arrays. Document 01, "Type 1 run".
-use Rattle.std.specs.Prelude.{ℕ, ◌+◌, ◌-◌, ◌*◌, ◌≤◌, ◌<◌, ◌≡◌, Bool, true, false, List, T, eqb, get_or, set, Float}
+use Rattle.std.specs.Prelude.{ℕ, ◌+◌, ◌*◌, ◌≤◌, ◌<◌, ◌≡◌, Bool, true, false, List, T, eqb, get_or, set, Float}
 use Rattle.std.specs.Float.{nan, binary64}
 use Rattle.std.specs.Float.Ieee.{to_bits}
 use Rattle.std.specs.Float.Ieee.Scale.{finite}
-use Rattle.charstring.specs.Cipher.{max_charstring_bytes}
 use Rattle.geometry.specs.declared.Point.{Point}
 use Rattle.type1.specs.declared.St.{St}
 use Rattle.type1.specs.declared.Ran.{Ran}
-use Rattle.outline.specs.declared.Stem.{Stem}
-use Rattle.outline.specs.Outline.{Command, flex, plus_zero, pick}
+use Rattle.outline.specs.Outline.{Command, flex, pick}
 use Rattle.type1.specs.Memory.{Bounds, Good}
 
 abbrev pub ran_of : St → ℕ → Ran

@@ -12,7 +12,6 @@ use Rattle.charstring.specs.Laws.{plain-bytes}
 use Rattle.bank.specs.Bank.{count, body_start, body_end, body}
 use Rattle.type1.specs.Operator.{Operator, of_byte}
 use Rattle.type1.specs.Number.{one_byte, two_bytes, two_bytes_below, Token, cut, number, operator, token_two, token_five, token_escape, token, double}
-use Rattle.type1.specs.Number as Number
 use Rattle.outline.specs.Outline.{plus_zero, pick}
 use Rattle.type1.specs.State.{State, with_ran}
 use Rattle.type1.specs.Run.{Limits, Outcome, going, and_then, top, without, push, Font, charge, named, returned, call_body, call_subr, execute, consume, run_bytes, run_body, run}

@@ -1,9 +1,6 @@
 -- Definitions: the state of a Type 1 run. Document 01, "Type 1 run", "Hints", "OtherSubrs".
-use Rattle.std.specs.Prelude.{ℕ, zero, suc, ◌+◌, Bool, true, false, ◌&&◌, ◌||◌, cond, List, [], ◌∷◌, ◌++◌, pos, length, Float}
-use Rattle.std.specs.Bool.{beq}
-use Rattle.std.proofs.Math.Option.{Option, none, some}
-use Rattle.std.specs.Float.{fin}
-use Rattle.std.specs.Float.Ieee.{eq}
+use Rattle.std.specs.Prelude.{ℕ, Bool, true, false, List, [], Float}
+use Rattle.std.proofs.Math.Option.{Option, none}
 use Rattle.geometry.specs.declared.Point.{Point}
 use Rattle.outline.specs.declared.Stem.{Stem}
 use Rattle.outline.specs.Outline.{Command, Group, plus_zero, origin}

@@ -275,7 +275,7 @@ pub move_drawn : {w r s : Writer} {b a z : List ℕ} (px py dx dy : Float) (i : 
     Puts (λ f left. closed w.waits left f) w b r a → r.waits ≡ 0 → r.held ≡ 0 → Puts (λ f left. put_instr i left f) r a s z →
     s.x ≡ add binary64 w.x dx → s.y ≡ add binary64 w.y dy → s.waits ≡ r.waits → s.held ≡ r.held → (masked : Bool) (ss : List Stem) → Draws masked ss (shape (move (point_at px py)) ∷ []) w b s z
 unfolding arrives deltas streamed
-move_drawn {w} px py dx dy i e d m p k0 n0 q sx sy ks ns =
+move_drawn {w} px py _ _ i e d m p k0 n0 q sx sy ks ns =
     closed-draws (move (point_at px py)) p k0 n0 q
     (λ z. ap₂ point_at (sx ∙ ap (add binary64 w.x) e) (sy ∙ ap (add binary64 w.y) d)) ks ns
     (λ is k n left. ap (λ (j : Instr). closed k left (λ l. put_instr j l (streamed is 0 0))) (sym m ∙ ap₂ (λ (x y : Float). move_instr (units x) (units y)) e d))

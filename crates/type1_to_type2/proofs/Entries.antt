@@ -117,12 +117,14 @@ entry-drawn fold c e k x h five q d masked ss g cs = rw (kind_word c e k h, five
 pub mask-drawn : {w r : Writer} {b a : List ℕ} (fold : Fold) (c : List ℕ) (e : ℕ) (bits : List Bool) (masked : Bool) → get_or c (14 * e) 0 ≡ 5 → masked ≡ true → Masks bits w b r a →
     (ss g : List Stem) (cs : List Cmd) → bits ≡ mask_of g ss → resumed_all masked ss r a cs ≡ resumed_all masked ss w b (cmds_in fold c e g ++ cs)
 unfolding cmds_in items
-mask-drawn {w} {r} {b} {a} fold c e bits masked h t d ss g cs f =
-    rw (kind_word c e 5 h, t) (ap (λ (p : Point). resumed_items r a (items true ss p cs)) d.at ∙ d.then (items true ss (point_of w) cs) ∙ ap (λ (l : List Bool). resumed_items w b (Emission.mask l ∷ items true ss (point_of w) cs)) f)
+mask-drawn {w} {r} {b} {a} fold c e bits true h t d ss g cs f =
+    rw (kind_word c e 5 h) (ap (λ (p : Point). resumed_items r a (items true ss p cs)) d.at ∙ d.then (items true ss (point_of w) cs) ∙ ap (λ (l : List Bool). resumed_items w b (Emission.mask l ∷ items true ss (point_of w) cs)) f)
+mask-drawn fold c e bits false h t d ss g cs f = absurd (cc)
 
 pub mask_left : (w : Writer) (b : List ℕ) (fold : Fold) (c : List ℕ) (e : ℕ) (masked : Bool) → get_or c (14 * e) 0 ≡ 5 → masked ≡ false → (ss g : List Stem) (cs : List Cmd) → resumed_all masked ss w b cs ≡ resumed_all masked ss w b (cmds_in fold c e g ++ cs)
 unfolding cmds_in items
-mask_left w b fold c e masked h t ss g cs = rw (kind_word c e 5 h, t)
+mask_left w b fold c e true h t ss g cs = absurd (cc)
+mask_left w b fold c e false h t ss g cs = rw (kind_word c e 5 h)
 
 entry-none : (w : Writer) (b : List ℕ) (fold : Fold) (c : List ℕ) (e k : ℕ) (masked : Bool) → get_or c (14 * e) 0 ≡ k → (k ≡ 1 → ⊥) → (k ≡ 2 → ⊥) → (k ≡ 3 → ⊥) → (k ≡ 4 → ⊥) → (k ≡ 5 → ⊥) → (ss g : List Stem) (cs : List Cmd) → resumed_all masked ss w b cs ≡ resumed_all masked ss w b (cmds_in fold c e g ++ cs)
 unfolding cmds_in command_in

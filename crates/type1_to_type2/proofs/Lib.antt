@@ -1,4 +1,3 @@
-pub mod Locals
 pub mod Folds
 pub mod StemOrder
 pub mod TableLaws
@@ -14,7 +13,6 @@ pub mod Entries
 pub mod Packing
 pub mod StemTables
 pub mod PassLaws
-pub mod LentShared
 pub mod EntryLaws
 pub mod CheckingLaws
 pub mod RunLaws

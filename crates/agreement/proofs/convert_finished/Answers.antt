@@ -1,12 +1,12 @@
--- `agreement::convert_finished` meets its contract.
-use Prim.Native.Nat.{ℕ}
-use mathlib.Core.Path.{◌≡◌, ◌∙◌, ap}
-use lib.ListN.{length, replicate}
-use borrow.Author.Rules.{rules}
+-- `agreement::convert_finished` meets its contract: it converts, finishes and wipes the program. Assumes nothing.
+use Rattle.std.proofs.Common.{ap, ◌∙◌, replicate, ℕ}
+use Rattle.std.proofs.Math.Facts.{Fits-lt-pow}
+use Rattle.type1.specs.Interpret.{source_of}
 use Rattle.agreement.proofs.FinishedLaws.{converts_finished}
 use Rattle.agreement.proofs.convert_finished.Goals as goal
 
 pub returns : goal.returns
 returns c =
-    let same : length c.convert_charstring_transformed-g.new.out ≡ length c.args.program.now = search rules in
-    converts_finished _ _ _ _ _ _ _ _ _ _ _ _ _ (search rules) (search rules) c.convert_charstring_transformed-g.ensures same c.finish_glyph-r.ensures (c.wipe_bytes.ensures ∙ ap (λ (n : ℕ). replicate {A = ℕ} n 0) same)
+    let l = c.convert_charstring_transformed-g.auto.out in
+    converts_finished (source_of c.args.charstring.now c.args.bank.now) _ _ _ _ _ c.convert_charstring_transformed-g.result _ _ _ _ _ _ (λ i. Fits-lt-pow (c.type_inv.charstring i)) (λ i. Fits-lt-pow (c.type_inv.bank i))
+    c.convert_charstring_transformed-g.ensures l c.finish_glyph-r.ensures (c.wipe_bytes.ensures ∙ ap (λ (k : ℕ). replicate k 0) l)

@@ -1,4 +1,3 @@
-use borrow.Author.Rules.{rules}
 use Rattle.type1.proofs.EntryLaws.{flow_is}
 use Rattle.type1.proofs.start_run.Goals as goal
 

@@ -1,5 +1,4 @@
 -- `type1::wipe_words` meets its contract: that of `stores::wipe_words`.
-use borrow.Author.Rules.{rules}
 use Rattle.type1.proofs.wipe_words.Goals as goal
 
 pub returns : goal.returns

@@ -4,9 +4,8 @@ use borrow.Author.Tests.{not-false}
 use native.Mathlib.Omega.{arith}
 use mathlib.Core.Path.{◌≡◌}
 use mathlib.Core.Logic.{◌⊎◌}
-use Rattle.type1.proofs.Dispatch.{either, of_two, of_three}
+use Rattle.type1.proofs.Dispatch.{of_two, of_three}
 use Rattle.type1.proofs.Drawing.{draws-none, line_drawn, curve_drawn}
-use borrow.Author.Rules.{rules}
 use Rattle.type1.proofs.bytes.draw.Goals as goal
 use Rattle.type1.proofs.bytes.draw.Goals.{in-8-1, in_default+else-op-lt5+else-op-lt8+else-op-lt30+then-op-lt32}
 use borrow.Author.Tests.{not-false}

@@ -1,7 +1,6 @@
 use Rattle.type1.proofs.ByteLaws.{one_num, two_cut, two_num, five_cut, five_num}
 use mathlib.Core.Path.{refl}
 use native.Mathlib.Omega.{arith}
-use borrow.Author.Rules.{rules}
 use Rattle.type1.proofs.bytes.number_at.Goals as goal
 
 pub returns-then-v-lt247 : goal.returns-then-v-lt247

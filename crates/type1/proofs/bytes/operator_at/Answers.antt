@@ -1,7 +1,6 @@
 use Rattle.type1.proofs.ByteLaws.{plain_op, cut_op, escape_op}
 use mathlib.Core.Path.{refl}
 use native.Mathlib.Omega.{arith}
-use borrow.Author.Rules.{rules}
 use Rattle.type1.proofs.bytes.operator_at.Goals as goal
 
 pub returns-then-v-ne-ESCAPE : goal.returns-then-v-ne-ESCAPE

@@ -3,9 +3,7 @@ use native.Mathlib.Omega.{arith}
 use mathlib.Core.Path.{refl, ◌∙◌}
 use borrow.Author.Tests.{not-true, not-false}
 use borrow.Author.Rules.{rules}
-use Prim.Native.Nat.{◌-◌}
-use lib.ListN.{length}
-use Rattle.type1.proofs.ByteLaws.{Going, begins, quick_is, at_operator, listed, closed, at_refused, pushed, at_end}
+use Rattle.type1.proofs.ByteLaws.{begins, quick_is, at_operator, listed, closed, at_refused, pushed, at_end}
 use Rattle.operand_stack.specs.Laws.{refused_by, room_left}
 use Rattle.type1.proofs.bytes.token.Goals as goal
 

@@ -1,12 +1,7 @@
 -- `type1::bytes::token` meets its contract.
-use native.Mathlib.Omega.{arith}
-use mathlib.Core.Path.{refl, ◌∙◌}
-use borrow.Author.Tests.{not-true, not-false}
-use borrow.Author.Rules.{rules}
 use Prim.Native.Nat.{◌-◌}
 use lib.ListN.{length}
-use Rattle.type1.proofs.ByteLaws.{Going, begins, quick_is, at_operator, listed, closed, at_refused, pushed, at_end}
-use Rattle.operand_stack.specs.Laws.{refused_by, room_left}
+use Rattle.type1.proofs.ByteLaws.{Going}
 use Rattle.type1.proofs.bytes.token.Given as goal
 
 abbrev pub invariant-loop-i : goal.invariant-loop-i

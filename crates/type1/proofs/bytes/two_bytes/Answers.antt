@@ -1,4 +1,3 @@
-use mathlib.Core.Logic.{⊎_elim}
 use native.Mathlib.Omega.{arith}
 use lib.Ieee.{of_bits, of_int}
 use Rattle.type1.proofs.Numbers.{small, two_above, two_under}
@@ -13,6 +12,7 @@ int_to_float-result c =
 pub returns : goal.returns
 unfolding of_bits of_int
 returns c =
-    elim c.if-v-lt251.branch
-    [ then-v-lt251 w ↦ two_above _ _ c.args.v c.args.w _ c.wider.ensures c.wider-2.ensures (search rules) (search rules) (search rules) w.if-v-lt251.true w.raised-is
-    | else-v-lt251 w ↦ two_under _ _ c.args.v c.args.w _ c.wider.ensures c.wider-2.ensures (search rules) (search rules) (search rules) w.if-v-lt251.false w.raised-is ]
+    elim c.if-v-lt251.branch [
+      | then-v-lt251 w ↦ two_above _ _ c.args.v c.args.w _ c.wider.ensures c.wider-2.ensures (search rules) (search rules) (search rules) w.if-v-lt251.true w.raised-is
+      | else-v-lt251 w ↦ two_under _ _ c.args.v c.args.w _ c.wider.ensures c.wider-2.ensures (search rules) (search rules) (search rules) w.if-v-lt251.false w.raised-is
+    ]

@@ -1,8 +1,6 @@
 use mathlib.Core.Path.{refl, sym, ◌∙◌}
-use borrow.Author.Tests.{not-false}
 use Rattle.type1.proofs.PathLaws.{true_of, three_all}
 use Rattle.type1.proofs.Drawing.{adds_none, curve_added}
-use borrow.Author.Rules.{rules}
 use Rattle.type1.proofs.entries.add_curve.Goals as goal
 
 pub returns-then-not-finite_point : goal.returns-then-not-finite_point

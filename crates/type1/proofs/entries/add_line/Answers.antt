@@ -1,10 +1,8 @@
 use lib.Ieee.{binary64, add}
 use mathlib.Core.Path.{refl, sym, ◌∙◌}
 use lib.Dec.{lit<}
-use borrow.Author.Tests.{not-false}
 use Rattle.type1.proofs.PathLaws.{finite-both}
 use Rattle.type1.proofs.Drawing.{adds_none, line_added}
-use borrow.Author.Rules.{rules}
 use Rattle.type1.proofs.entries.add_line.Goals as goal
 
 pub returns-then-not-finite_point : goal.returns-then-not-finite_point

@@ -1,6 +1,5 @@
 use Rattle.type1.proofs.Store.{plain_same, plain_more}
 use Rattle.type1.proofs.Drawing.{entered_so, entered_not}
-use borrow.Author.Rules.{rules}
 use Rattle.type1.proofs.entries.enter_curve.Goals as goal
 
 pub returns-then-store_curve : goal.returns-then-store_curve

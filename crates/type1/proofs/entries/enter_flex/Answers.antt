@@ -2,11 +2,10 @@ use Rattle.type1.proofs.Store.{flex_length}
 use lib.Ieee.{binary64, to_bits}
 use Rattle.type1.proofs.Store.{no_nan, enter_full, flex_entered, plain_same, plain_more}
 use native.Mathlib.Omega.{arith}
-use mathlib.Core.Path.{refl, sym, subst, ◌∙◌}
+use mathlib.Core.Path.{sym, subst}
 use lib.ListN.{length-set}
 use lib.Dec.{T}
 use Prim.Native.Nat.{◌*◌}
-use borrow.Author.Rules.{rules}
 use Rattle.type1.proofs.entries.enter_flex.Goals as goal
 
 pub returns-then-cmds-at-lt-ENTRY : goal.returns-then-cmds-at-lt-ENTRY

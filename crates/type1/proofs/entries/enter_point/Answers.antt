@@ -1,7 +1,6 @@
 use native.Mathlib.Omega.{arith}
 use Rattle.type1.proofs.Store.{plain_same, plain_more, entered_same, entered_more}
 use Rattle.type1.proofs.Drawing.{entered_so, entered_not}
-use borrow.Author.Rules.{rules}
 use Rattle.type1.proofs.entries.enter_point.Goals as goal
 
 pub returns-then-store_point : goal.returns-then-store_point

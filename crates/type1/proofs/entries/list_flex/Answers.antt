@@ -2,7 +2,6 @@ use Rattle.type1.proofs.Store.{enters_cells}
 use Rattle.type1.specs.Small.{GoodPoint}
 use lib.Dec.{lit<}
 use mathlib.Core.Path.{sym, subst}
-use borrow.Author.Rules.{rules}
 use Rattle.type1.proofs.entries.list_flex.Goals as goal
 
 pub enter_flex-requires : goal.enter_flex-requires

@@ -1,5 +1,4 @@
 use Rattle.type1.proofs.Store.{no_nan}
-use borrow.Author.Rules.{rules}
 use Rattle.type1.proofs.entries.put_point.Goals as goal
 
 pub float_to_bits-cmds : goal.float_to_bits-cmds

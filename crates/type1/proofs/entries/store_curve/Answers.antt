@@ -6,7 +6,6 @@ use lib.Dec.{T}
 use lib.ListN.{length-set}
 use Rattle.type1.proofs.Store.{no_nan}
 use Rattle.type1.proofs.Drawing.{stores-none, stores_curve}
-use borrow.Author.Rules.{rules}
 use Rattle.type1.proofs.entries.store_curve.Goals as goal
 
 pub returns-then-cmds-at-lt-ENTRY : goal.returns-then-cmds-at-lt-ENTRY

@@ -4,7 +4,6 @@ use lib.Dec.{T}
 use lib.ListN.{length-set}
 use Rattle.type1.proofs.Store.{no_nan}
 use Rattle.type1.proofs.Drawing.{stores-none, stores-point}
-use borrow.Author.Rules.{rules}
 use Rattle.type1.proofs.entries.store_point.Goals as goal
 
 pub returns-then-cmds-at-lt-ENTRY : goal.returns-then-cmds-at-lt-ENTRY

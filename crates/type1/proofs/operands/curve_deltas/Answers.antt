@@ -1,7 +1,6 @@
 use lib.Ieee.{of_bits}
 use mathlib.Core.Path.{◌∙◌}
 use Rattle.type1.proofs.DeltasMade.{curve_none, vh_made, hv_made, any_made, any_short}
-use borrow.Author.Rules.{rules}
 use Rattle.type1.proofs.operands.curve_deltas.Goals as goal
 
 pub returns-then-n-lt4 : goal.returns-then-n-lt4

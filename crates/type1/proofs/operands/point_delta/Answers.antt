@@ -1,7 +1,6 @@
 use lib.Ieee.{of_bits}
 use mathlib.Core.Path.{◌∙◌}
 use Rattle.type1.proofs.DeltasMade.{point-none, horizontal_made, vertical_made, both_made, both-short}
-use borrow.Author.Rules.{rules}
 use Rattle.type1.proofs.operands.point_delta.Goals as goal
 
 pub returns-then-n-lt1 : goal.returns-then-n-lt1

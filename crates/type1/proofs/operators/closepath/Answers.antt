@@ -2,7 +2,6 @@ use Rattle.type1.specs.Small.{ran_of, with_opened}
 use Rattle.type1.specs.declared.St.{St}
 use mathlib.Core.Path.{ap, ◌∙◌}
 use mathlib.Core.Bool.{false}
-use borrow.Author.Rules.{rules}
 use Rattle.type1.proofs.operators.closepath.Goals as goal
 
 pub returns : goal.returns

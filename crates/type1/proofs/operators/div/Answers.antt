@@ -1,9 +1,7 @@
 use mathlib.Core.Path.{sym, ◌∙◌}
 use lib.Ieee.{of_bits}
-use borrow.Author.Tests.{not-true, not-false}
 use Rattle.type1.specs.Run.{div_d}
 use Rattle.type1.proofs.Stacks.{too_few, div-zero, div_infinite, div_done, groups-kept}
-use borrow.Author.Rules.{rules}
 use Rattle.type1.proofs.operators.div.Goals as goal
 
 pub returns-then-n-lt2 : goal.returns-then-n-lt2

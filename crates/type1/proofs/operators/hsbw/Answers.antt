@@ -7,7 +7,6 @@ use Rattle.type1.specs.Run.{operate, going, point_at, cleared}
 use Rattle.type1.specs.State.{with_bearing}
 use Rattle.type1.specs.declared.St.{St}
 use Rattle.type1.proofs.Stacks.{too_few, enough, top_is, from_cleared, groups-kept}
-use borrow.Author.Rules.{rules}
 use Rattle.type1.proofs.operators.hsbw.Goals as goal
 
 pub returns-then-n-lt2 : goal.returns-then-n-lt2

@@ -1,7 +1,6 @@
 use borrow.Author.Tests.{not-true, not-false}
 use Rattle.type1.proofs.Groups.{space_same}
 use Rattle.type1.proofs.OperandLaws.{point-short, point-does, clear_bounds, clear_finite, clear_space}
-use borrow.Author.Rules.{rules}
 use Rattle.type1.proofs.operators.line_operator.Goals as goal
 
 pub returns-then-not-d : goal.returns-then-not-d

@@ -7,7 +7,6 @@ use Rattle.type1.specs.Deltas.{stem_from}
 use Rattle.type1.specs.declared.St.{St}
 use Rattle.type1.proofs.Steps.{stem_is}
 use Rattle.type1.proofs.Stacks.{too_few, enough, from_cleared, groups-kept}
-use borrow.Author.Rules.{rules}
 use Rattle.type1.proofs.operators.one_stem.Goals as goal
 
 pub returns-then-n-lt2 : goal.returns-then-n-lt2

@@ -1,7 +1,6 @@
 -- `type1::operators::pop` meets its contract.
 use native.Mathlib.Omega.{arith}
 use lib.Dec.{eqb}
-use borrow.Author.Rules.{rules}
 use Rattle.operand_stack.specs.Laws.{refused_by, room_left, some_left}
 use Rattle.type1.proofs.Stacks.{pop_refused, pop_done, groups-kept}
 use Rattle.type1.proofs.operators.pop.Goals as goal

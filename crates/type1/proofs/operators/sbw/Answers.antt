@@ -3,7 +3,6 @@ use Rattle.type1.specs.Run.{operate}
 use Rattle.type1.specs.declared.St.{St}
 use Rattle.type1.proofs.Stacks.{too_few, enough, bearing_of_four, from_cleared, groups-kept}
 use Rattle.type1.specs.Memory.{with_ops}
-use borrow.Author.Rules.{rules}
 use Rattle.type1.proofs.operators.sbw.Goals as goal
 
 pub returns-then-n-lt4 : goal.returns-then-n-lt4

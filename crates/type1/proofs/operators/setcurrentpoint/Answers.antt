@@ -1,7 +1,6 @@
 use native.Mathlib.Omega.{arith}
 use Rattle.type1.proofs.Groups.{space_same}
 use Rattle.type1.proofs.OperandLaws.{does_setcurrentpoint, short_setcurrentpoint, clear_bounds, clear_space}
-use borrow.Author.Rules.{rules}
 use Rattle.type1.proofs.operators.setcurrentpoint.Goals as goal
 
 pub returns-then-n-lt2 : goal.returns-then-n-lt2

@@ -2,7 +2,6 @@ use mathlib.Core.Path.{ap, ◌∙◌}
 use Rattle.type1.specs.declared.Ran.{Ran}
 use Rattle.type1.specs.declared.St.{St}
 use Rattle.type1.proofs.Stacks.{bearing_set}
-use borrow.Author.Rules.{rules}
 use Rattle.type1.proofs.operators.side_bearing.Goals as goal
 
 pub returns : goal.returns

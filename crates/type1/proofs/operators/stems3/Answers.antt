@@ -6,7 +6,6 @@ use Rattle.type1.specs.Memory.{with_ops}
 use Rattle.type1.specs.declared.St.{St}
 use Rattle.type1.proofs.Steps.{first_stops, second_stops, all_three}
 use Rattle.type1.proofs.Stacks.{too_few, from_cleared, groups-kept}
-use borrow.Author.Rules.{rules}
 use Rattle.type1.proofs.operators.stems3.Goals as goal
 
 pub returns-then-n-lt6 : goal.returns-then-n-lt6

@@ -1,5 +1,4 @@
 use Rattle.type1.proofs.PathLaws.{curve_open, curve_stop, curve_move, space_of, space_move}
-use borrow.Author.Rules.{rules}
 use Rattle.type1.proofs.paths.curve_by.Goals as goal
 
 pub returns-then-st : goal.returns-then-st

@@ -1,7 +1,5 @@
 use mathlib.Core.Path.{refl, sym, ◌∙◌}
-use borrow.Author.Tests.{not-true, not-false}
 use Rattle.type1.proofs.PathLaws.{curves_first, curves_infinite, curves_listed, lists_stop, lists_on, moved-bounds, moved_path, path_infinite, path_enter, true_of, curve_after, three_second, three_third, three_all}
-use borrow.Author.Rules.{rules}
 use Rattle.type1.proofs.paths.curve_to.Goals as goal
 
 pub returns-then-not-finite_point : goal.returns-then-not-finite_point

@@ -1,5 +1,4 @@
 use Rattle.type1.proofs.PathLaws.{line_open, line_stop, line_move, space_of, space_move}
-use borrow.Author.Rules.{rules}
 use Rattle.type1.proofs.paths.line_by.Goals as goal
 
 pub returns-then-st : goal.returns-then-st

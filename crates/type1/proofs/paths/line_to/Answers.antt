@@ -1,9 +1,7 @@
 use lib.Ieee.{binary64, add}
 use lib.Dec.{lit<}
 use mathlib.Core.Path.{sym, ◌∙◌}
-use borrow.Author.Tests.{not-true, not-false}
 use Rattle.type1.proofs.PathLaws.{lines_infinite, lines_listed, moved_path, moved-bounds, finite-both, path_infinite}
-use borrow.Author.Rules.{rules}
 use Rattle.type1.proofs.paths.line_to.Goals as goal
 
 pub returns-then-not-finite_point : goal.returns-then-not-finite_point

@@ -1,5 +1,4 @@
 use Rattle.type1.proofs.PathLaws.{lists_stop, lists_on, path_enter, grown_enter}
-use borrow.Author.Rules.{rules}
 use Rattle.type1.proofs.paths.list_point.Goals as goal
 
 pub returns-then-c-ne0 : goal.returns-then-c-ne0

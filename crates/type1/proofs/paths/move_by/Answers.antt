@@ -1,10 +1,8 @@
 use lib.Ieee.{binary64, add}
 use lib.Dec.{lit<}
 use mathlib.Core.Path.{sym, ap, ◌∙◌}
-use borrow.Author.Tests.{not-true, not-false}
 use Rattle.type1.proofs.Groups.{space_same}
 use Rattle.type1.proofs.PathLaws.{moves_infinite, moves_flexing, moves_listed, moved-bounds, finite-both, space_moved, space_opened}
-use borrow.Author.Rules.{rules}
 use Rattle.type1.proofs.paths.move_by.Goals as goal
 
 pub returns-then-not-finite_point : goal.returns-then-not-finite_point

@@ -1,6 +1,5 @@
 use lib.Dec.{lit<}
 use Rattle.type1.proofs.PathLaws.{opens-first, opened_path, opened_grown}
-use borrow.Author.Rules.{rules}
 use Rattle.type1.proofs.paths.open_subpath.Goals as goal
 
 pub list_point-requires : goal.list_point-requires

@@ -6,7 +6,6 @@ use mathlib.Core.Logic.{inl, inr, ◌⊎◌}
 use mathlib.Core.Bool.{true, false}
 use lib.Ieee.{eq}
 use mathlib.Core.Path.{sym, ap, ◌∙◌, ◌≡◌}
-use borrow.Author.Rules.{rules}
 use Rattle.type1.proofs.paths.set_point.Goals as goal
 use Rattle.type1.proofs.paths.set_point.Goals.{then-x-st+else-y-st, else-x-st}
 

@@ -1,7 +1,6 @@
 use mathlib.Core.Path.{ap}
 use Rattle.type1.specs.declared.St.{St}
 use Rattle.type1.specs.Small.{ran_of}
-use borrow.Author.Rules.{rules}
 use Rattle.type1.proofs.states.made.Goals as goal
 
 pub returns : goal.returns

@@ -1,6 +1,5 @@
 use borrow.Author.Tests.{eq-eqb, ne_eqb}
 use mathlib.Core.Path.{sym, ◌∙◌}
-use borrow.Author.Rules.{rules}
 use Rattle.type1.proofs.states.opened.Goals as goal
 
 pub returns-then-r-ne0 : goal.returns-then-r-ne0

@@ -1,6 +1,5 @@
 use borrow.Author.Tests.{eq-eqb, ne_eqb}
 use mathlib.Core.Path.{◌∙◌}
-use borrow.Author.Rules.{rules}
 use Rattle.type1.proofs.states.stopped.Goals as goal
 
 pub returns-then-flow-eq1 : goal.returns-then-flow-eq1

@@ -1,7 +1,5 @@
 use Rattle.type1.proofs.Hints.{add_infinite, add_same, add_full, add_new, in_bounds, one_more}
-use borrow.Author.Tests.{not-true, not-false}
 use mathlib.Core.Path.{sym, ◌∙◌}
-use borrow.Author.Rules.{rules}
 use Rattle.type1.proofs.stems.add_stem.Goals as goal
 
 pub returns-then-not-is_finite : goal.returns-then-not-is_finite

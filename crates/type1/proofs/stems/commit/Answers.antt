@@ -1,6 +1,5 @@
 use borrow.Author.Tests.{not-true, not-false}
 use Rattle.type1.proofs.Groups.{commits_none, commits_last, commits_new, path_none, path_last, path_new, grown_same, grown_last}
-use borrow.Author.Rules.{rules}
 use Rattle.type1.proofs.stems.commit.Goals as goal
 
 pub returns-then-not-st : goal.returns-then-not-st

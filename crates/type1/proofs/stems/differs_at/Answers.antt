@@ -1,7 +1,6 @@
 use mathlib.Core.Path.{ap, ◌∙◌}
 use Rattle.outline.specs.Outline.{same_stem}
 use mathlib.Core.Bool.{not}
-use borrow.Author.Rules.{rules}
 use Rattle.type1.proofs.stems.differs_at.Goals as goal
 
 pub returns : goal.returns

@@ -1,6 +1,5 @@
 use Rattle.type1.proofs.Hints.{in_force_is}
 use mathlib.Core.Path.{◌∙◌}
-use borrow.Author.Rules.{rules}
 use Rattle.type1.proofs.stems.in_force.Goals as goal
 
 pub returns : goal.returns

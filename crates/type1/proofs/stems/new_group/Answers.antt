@@ -2,7 +2,6 @@ use native.Mathlib.Omega.{arith}
 use lib.ListN.{length-set}
 use Rattle.type1.proofs.Store.{wrote_3}
 use Rattle.type1.proofs.Groups.{no_group, made_in, grown_same, space_same, grown_group, group_room, refused_not, goes-settled}
-use borrow.Author.Rules.{rules}
 use Rattle.type1.proofs.stems.new_group.Goals as goal
 
 pub returns-then-f-ne0 : goal.returns-then-f-ne0

@@ -5,7 +5,6 @@ use lib.Ieee.{of_bits}
 use Rattle.type1.specs.declared.Ran.{Ran}
 use Rattle.type1.proofs.Stacks.{fewer_bounds}
 use Rattle.type1.proofs.OtherSubrs.{others-none, others_refused, others_flex, others-begin, others-collect, others_hints, others_unknown, height_none, height_first}
-use borrow.Author.Rules.{rules}
 use Rattle.type1.proofs.subroutines.callothersubr.Goals as goal
 
 pub returns-then-n-lt2 : goal.returns-then-n-lt2
@@ -36,15 +35,8 @@ returns-then-m-eq0 c = record {
 }
 
 pub end_flex-requires-then-number-eq0 : goal.end_flex-requires-then-number-eq0
-end_flex-requires-then-number-eq0 c = (
-  fewer_bounds c.args.st _ _ c.requires.0
-      (omega (
-        arith,
-        (taken_told _ _ _ c.arguments-a.ensures
-            c.if-a-ne0.false).2,
-      )),
-  (c.requires.1.0, (c.requires.1.1.operands _ (omega (arith, c.if-n-lt2.false)), c.requires.1.1.points)),
-)
+end_flex-requires-then-number-eq0 c =
+    record { bounds = fewer_bounds c.args.st _ _ c.requires.bounds (omega (arith, (taken_told _ _ _ c.arguments-a.ensures c.if-a-ne0.false).2)); stems_le_room = c.requires.stems_le_room; t = (c.requires.finite.operands _ (omega (arith, c.if-n-lt2.false)), c.requires.finite.points) }
 
 pub returns-then-number-eq0 : goal.returns-then-number-eq0
 unfolding of_bits

@@ -1,5 +1,4 @@
 use Rattle.type1.proofs.Calls.{call_none, call_refused, call_goes}
-use borrow.Author.Rules.{rules}
 use Rattle.type1.proofs.subroutines.callsubr.Goals as goal
 
 pub returns-then-n-eq0 : goal.returns-then-n-eq0

@@ -1,6 +1,5 @@
 use borrow.Author.Tests.{not-true, not-false}
 use Rattle.type1.proofs.Stacks.{collect-none, collect-kept, collect_more, groups-kept}
-use borrow.Author.Rules.{rules}
 use Rattle.type1.proofs.subroutines.collect.Goals as goal
 
 pub returns-then-not-st : goal.returns-then-not-st

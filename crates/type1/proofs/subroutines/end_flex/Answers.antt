@@ -1,10 +1,8 @@
 use mathlib.Core.Path.{refl, sym, ap, ◌∙◌}
 use native.Mathlib.Omega.{arith}
-use borrow.Author.Tests.{not-true, not-false}
 use Rattle.othersubrs.specs.Laws.{whole_told}
 use Rattle.type1.specs.declared.Ran.{Ran}
 use Rattle.type1.proofs.Flex.{ends_not, ends_commit, ends_enter, ends_full, ends_done, flex_space}
-use borrow.Author.Rules.{rules}
 use Rattle.type1.proofs.subroutines.end_flex.Goals as goal
 
 pub returns-then-not-is_whole_flex : goal.returns-then-not-is_whole_flex

@@ -1,5 +1,4 @@
 use Rattle.type1.proofs.Stacks.{hand_refused, hand_done, groups-kept}
-use borrow.Author.Rules.{rules}
 use Rattle.type1.proofs.subroutines.hand_back.Goals as goal
 
 pub returns-then-f-ne0 : goal.returns-then-f-ne0

@@ -1,0 +1,19 @@
+-- `compare::is_cleared` meets its contract: below i the doubles are n zeros, then rest.
+use native.Mathlib.Nat.{not-suc-le-zero}
+use borrow.Author.Tests.{not-true, not-false}
+use lib.Dec.{T, leb→le, le→leb}
+use mathlib.Core.Path.{◌≡◌, sym, ◌∙◌, subst}
+use Prim.Native.Nat.{ℕ, ◌-◌, ◌≤◌, ◌<◌}
+use native.Mathlib.Omega.{arith}
+use lib.ListN.{length, get_or, replicate, length-replicate}
+use lib.Ieee.{nan}
+use borrow.Author.Rules.{rules}
+use Rattle.binary64.specs.Round.{plus_zero}
+use Rattle.compare.proofs.Fronts.{front_then, then_front, front_within, one_more}
+use Rattle.compare.proofs.is_cleared.Given as goal
+
+abbrev pub invariant-loop-i : goal.invariant-loop-i
+invariant-loop-i l = (l.i ≤ length l.xs) × ((k : ℕ) → k < l.i → get_or l.xs k nan ≡ get_or (replicate l.n plus_zero) k l.rest)
+
+abbrev pub decreases-loop-i : goal.decreases-loop-i
+decreases-loop-i l = length l.xs - l.i

@@ -1,0 +1,8 @@
+-- `cribstork::banks::trimmed_end` is safe and ends.
+use Rattle.cribstork.proofs.banks.trimmed_end.Given as goal
+
+abbrev pub invariant-loop-e : goal.invariant-loop-e
+invariant-loop-e l = Unit {0}
+
+abbrev pub decreases-loop-e : goal.decreases-loop-e
+decreases-loop-e l = l.e

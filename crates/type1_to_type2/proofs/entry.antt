@@ -1,2 +1,0 @@
--- What the proofs of module `entry` share.
-pub mod Callees

@@ -1,0 +1,22 @@
+-- What was collected is the plan's, and what the parts answer is the conversion of what the run has left.
+use Rattle.std.proofs.Common.{refl, sym, ◌∙◌, subst, arith}
+use Rattle.type1_to_type2.specs.Passes.{Stored}
+use Rattle.type1_to_type2.proofs.RunLaws.{run-tables, run_answers}
+use Rattle.type1_to_type2.proofs.entry.convert_run.Goals as goal
+
+pub write_all-v-requires : goal.write_all-v-requires
+write_all-v-requires c =
+    let n = c.requires.1 in (
+      subst (Stored c.args.r.entries c.args.commands.now) (sym c.collect_all-c.ensures.0) c.requires.0,
+      (run-tables c.args.number c.args.m c.new-fold.result c.new-fold.ensures c.args.r c.args.commands.now c.args.stems.now 0 _ _ _ _ _ _ _ _ _ n.across_len n.upright_len c.none_collected.ensures c.collect_all-c.ensures.1 c.make_plan-p.ensures, n.places_len),
+    )
+
+pub returns : goal.returns
+returns c =
+    let n = c.requires.1 in (
+      c.write_all-v.ensures.0 ∙ c.collect_all-c.ensures.0,
+      (
+        refl,
+        run_answers c.args.number c.args.m c.new-fold.result c.new-fold.ensures c.args.r c.args.commands.now c.args.stems.now _ _ _ _ _ _ _ _ _ _ _ _ _ _ _ _ n.across_len n.upright_len c.count_groups-k.ensures c.none_collected.ensures c.collect_all-c.ensures.1 c.make_plan-p.ensures c.begin_program-w.ensures c.collect_all-c.ensures.0 c.write_all-v.ensures.1 (omega arith) c.end_program.ensures,
+      ),
+    )

@@ -1,0 +1,12 @@
+-- `type1_to_type2::finishing::put_program` meets its contract. The invariant: i bytes stand in the output.
+use mathlib.Core.Path.{◌≡◌}
+use Prim.Native.Nat.{◌-◌, ◌≤◌}
+use lib.ListN.{length}
+use lib.Seq.{paste}
+use Rattle.type1_to_type2.proofs.finishing.put_program.Given as goal
+
+abbrev pub invariant-loop-i : goal.invariant-loop-i
+invariant-loop-i l = (length l.out ≡ length l.initial.out) × (l.i ≤ l.n) × (l.out ≡ paste l.initial.out l.at l.program l.i)
+
+abbrev pub decreases-loop-i : goal.decreases-loop-i
+decreases-loop-i l = l.n - l.i

@@ -1,2 +1,0 @@
--- What the proofs of module `passes` share.
-pub mod Callees
