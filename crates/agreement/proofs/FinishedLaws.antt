@@ -1,6 +1,6 @@
 -- Laws: what the entry that converts and finishes leaves, from what its parts leave.
-use Rattle.std.specs.Prelude.{◌≡◌, refl, ℕ, zero, suc, ◌+◌, ◌-◌, ◌≤◌, List, [], ◌∷◌, ◌++◌, length, replicate, take}
-use Rattle.std.proofs.Common.{sym, ◌∙◌, ap, ap₂, subst, arith}
+use Rattle.std.specs.Prelude.{◌≡◌, refl, ℕ, ◌-◌, List, ◌++◌, length, replicate, take}
+use Rattle.std.proofs.Common.{sym, ◌∙◌, ap, ap₂, subst}
 use Rattle.std.proofs.Math.Seq.{take-append_seam}
 use Rattle.charstring.specs.Cipher.{Bytes}
 use Rattle.geometry.specs.declared.Matrix.{Matrix}

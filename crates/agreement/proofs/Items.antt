@@ -1,5 +1,5 @@
 -- Laws: the machine runs the bytes of items. Each has its effect, and the run ends at the last byte.
-use Rattle.std.specs.Prelude.{◌≡◌, ℕ, suc, ◌+◌, ◌-◌, ◌*◌, ◌≤◌, Bool, ◌&&◌, length, T, leb, ℤ}
+use Rattle.std.specs.Prelude.{◌≡◌, ℕ, suc, ◌+◌, ◌*◌, ◌≤◌, Bool, ◌&&◌, length, T, leb, ℤ}
 use Rattle.std.proofs.Math.Path.{refl, ap, subst}
 use Rattle.std.proofs.Common.{sym, ◌∙◌, zero-mul, le_trans, arith, length-append, leb→le, lit≤}
 use mathlib.Core.List.{List, [], ◌∷◌, ◌++◌}

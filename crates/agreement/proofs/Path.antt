@@ -14,7 +14,7 @@ use Rattle.outline.specs.declared.Stem.{Stem}
 use Rattle.outline.specs.Outline.{Command, move, line, curve, flex}
 use Rattle.type1_to_type2.specs.Stems.{mask_of}
 use Rattle.type2.specs.Path.{delta}
-use Rattle.type1_to_type2.specs.Emission.{kind_of, points_of, height_of, follow, deltas, arrives, go, Cmd, hints, shape, items}
+use Rattle.type1_to_type2.specs.Emission.{kind_of, points_of, height_of, follow, deltas, arrives, Cmd, hints, shape, items}
 use Rattle.agreement.specs.Demand3.{SamePoint}
 use Rattle.type1_to_type2.specs.Fine.{items_fine}
 use Rattle.agreement.specs.Simulation.{ListCoordinates, Bounded, PointsRun, effects, size, AllAccepted, entries_of, point_count, CommandCoordinates, masks_from, masks_of, CommandsRun}

@@ -35,7 +35,8 @@ fn refused(number: u64) -> Type2Glyph
 fn finish_glyph(glyph: Type2Glyph, widths: Widths, program: &[u8], out: &mut [u8]) -> Type2Glyph
     ensures { Finishes glyph widths program.now (length out.old) result out.new }
 {
-    if glyph.number != 0 {
+    let is_refused = glyph.number != 0;
+    if is_refused {
         wipe_bytes(out);
         return refused(glyph.number);
     }

@@ -25,7 +25,7 @@ pub points_all : (es : List (Entry Point)) (e : Entry Point) (p : Point) → One
 unfolding points
 points_all (d ∷ es) e p (OneOf.head q) o = Memᴰ.append_left (points es) (subst (λ (x : Entry Point). OneOf p x.points) q o)
 points_all (d ∷ es) e p (OneOf.tail m) o = Memᴰ.append_right d.points (points_all es e p m o)
-points_all [] e p x'' o = elim x'' [ ]
+points_all [] e p m o = elim m [ ]
 
 pub points_only : (es : List (Entry Point)) (p : Point) → OneOf p (points es) → (e : Entry Point) × OneOf e es × OneOf p e.points
 unfolding points

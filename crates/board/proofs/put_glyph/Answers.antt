@@ -1,4 +1,5 @@
--- `board::put_glyph` meets its contract. Assumes nothing.
+-- `board::put_glyph` meets its contract.
+use borrow.Author.Rules.{rules}
 use Rattle.board.proofs.Words.{finite_number}
 use Rattle.board.proofs.put_glyph.Goals as goal
 
