@@ -7,11 +7,14 @@ ghost use Rattle.std.specs.Float.Ieee.{of_bits};
 ghost use Rattle.binary64.specs.Round.{plus_zero};
 ghost use Rattle.compare.specs.Comparisons.{Tells, padded};
 
+// The pattern of infinity: those above it, without their sign, are NaNs.
+const INFINITE: u64 = 0x7FF0_0000_0000_0000;
+
 // The double of a bit pattern, every NaN's alike.
 pub fn from_pattern(bits: u64) -> f64
     ensures { result ≡ of_bits binary64 bits }
 {
-    if bits % 0x8000_0000_0000_0000 > 0x7FF0_0000_0000_0000 {
+    if bits % 0x8000_0000_0000_0000 > INFINITE {
         0.0 / 0.0
     } else {
         f64::from_bits(bits)

@@ -133,6 +133,11 @@ fn put5(out: &mut [u8], at: usize, a: u8, b: u8, c: u8, d: u8, e: u8) -> Pushed
     }
 }
 
+// Of a size below the first a whole number has one byte, below the second two.
+const ONE_BYTE: u32 = 108;
+
+const TWO_BYTES: u32 = 1132;
+
 // The bytes of the whole number `w - 65536`, in its shortest form. Only its size is branched on, not its sign.
 fn push_whole(out: &mut [u8], at: usize, w: u32) -> Pushed
     requires { (32768 ≤ w) × (w < 98304) }
@@ -140,10 +145,10 @@ fn push_whole(out: &mut [u8], at: usize, w: u32) -> Pushed
 {
     let i = if w < 65536 { 65536 - w } else { w - 65536 };
     let base = if w < 65536 { 251 } else { 247 };
-    if i < 108 {
+    if i < ONE_BYTE {
         return put1(out, at, (w - 65397) as u8);
     }
-    if i < 1132 {
+    if i < TWO_BYTES {
         let j = i - 108;
         return put2(out, at, (j / 256 + base) as u8, (j % 256) as u8);
     }

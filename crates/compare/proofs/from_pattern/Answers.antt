@@ -8,8 +8,8 @@ use borrow.Author.Rules.{rules}
 use Rattle.compare.proofs.from_pattern.Goals as goal
 
 pub float_from_bits-result : goal.float_from_bits-result
-float_from_bits-result c = rw (nan_bits_above, le-ltb _ _ c.if-bits-gt9218868437227405312.false) tt
+float_from_bits-result c = rw (nan_bits_above, le-ltb _ _ c.if-bits-gt-INFINITE.false) tt
 
-pub returns-then-bits-gt9218868437227405312 : goal.returns-then-bits-gt9218868437227405312
+pub returns-then-bits-gt-INFINITE : goal.returns-then-bits-gt-INFINITE
 unfolding of_bits div
-returns-then-bits-gt9218868437227405312 c = sym (nan_of c.args.bits (nan_bits_above binary64 c.args.bits ∙ lt-ltb _ _ c.if-bits-gt9218868437227405312.true))
+returns-then-bits-gt-INFINITE c = sym (nan_of c.args.bits (nan_bits_above binary64 c.args.bits ∙ lt-ltb _ _ c.if-bits-gt-INFINITE.true))
