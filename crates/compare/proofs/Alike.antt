@@ -1,10 +1,10 @@
 -- Laws: doubles that compare as equal and have one sign are one value; so do zeros whose reciprocals are equal.
 use mathlib.Core.Path.{◌≡◌, refl, sym, ap, ap₂, ◌∙◌, subst}
 use Prim.Native.Nat.{ℕ}
-use mathlib.Core.Bool.{Bool, true, false, ◌&&◌, ◌||◌, beq, true≢false}
+use mathlib.Core.Bool.{Bool, true, false, ◌||◌, beq, true≢false}
 use lib.IntN.{pos}
 use lib.Dec.{T, eqb, eqb→eq}
-use lib.Ieee.{Float, nan, inf, fin, binary64, low, eq, div, fits, of_bits, nan_bits, is_nan, level}
+use lib.Ieee.{Float, nan, inf, fin, binary64, eq, div, fits, of_bits, nan_bits, is_nan, level}
 use lib.Ieee.Fits.{and_i, and_l, and_r}
 use lib.Ieee.Bits.{nan_bits_is}
 use lib.Ieee.Scale.{finite}

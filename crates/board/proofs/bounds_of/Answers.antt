@@ -1,6 +1,5 @@
 use Rattle.boxes.specs.Answers.{box_words}
 use mathlib.Core.Path.{ap, sym}
-use borrow.Author.Rules.{rules}
 use Rattle.board.proofs.bounds_of.Goals as goal
 
 pub returns-in-Refused : goal.returns-in-Refused

@@ -1,7 +1,6 @@
 use Prim.Native.Nat.{ℕ}
-use mathlib.Core.List.{List, [], ◌∷◌}
+use mathlib.Core.List.{[], ◌∷◌}
 use mathlib.Core.Path.{◌≡◌, ap, ap₂, ◌∙◌}
-use borrow.Author.Rules.{rules}
 use Rattle.board.specs.Answers.{boxed_words}
 use Rattle.boxes.specs.declared.Answer.{Answer}
 use Rattle.boxes.specs.declared.Bounds.{Bounds}

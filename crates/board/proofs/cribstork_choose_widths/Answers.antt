@@ -1,7 +1,6 @@
 use Rattle.board.specs.Answers.{pair_of}
 use Rattle.widths.specs.declared.Chosen.{Chosen}
 use mathlib.Core.Path.{ap}
-use borrow.Author.Rules.{rules}
 use Rattle.board.proofs.cribstork_choose_widths.Goals as goal
 
 pub returns : goal.returns

@@ -1,11 +1,10 @@
 -- `board::cribstork_convert` meets its contract: the width of an answer is finite, so it may be written as bits.
 use mathlib.Core.Path.{sym, subst}
 use lib.Dec.{T}
-use lib.ListN.{length}
 use lib.Ieee.Scale.{finite}
 use Rattle.type1.specs.Interpret.{source_of}
 use Rattle.type1_to_type2.specs.declared.Type2Glyph.{Type2Glyph}
-use Rattle.type1_to_type2.specs.Convert.{convert, rooms_of}
+use Rattle.type1_to_type2.specs.Convert.{rooms_of}
 use Rattle.board.specs.AnswersLaws.{convert-finite}
 use Rattle.board.proofs.cribstork_convert.Goals as goal
 

@@ -1,7 +1,6 @@
 use Rattle.board.specs.Answers.{decrypted_words}
 use Rattle.charstring.specs.declared.Decrypted.{Decrypted}
 use mathlib.Core.Path.{ap}
-use borrow.Author.Rules.{rules}
 use Rattle.board.proofs.cribstork_decrypt.Goals as goal
 
 pub returns : goal.returns

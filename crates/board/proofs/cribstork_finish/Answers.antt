@@ -7,7 +7,6 @@ use Rattle.board.specs.Answers.{widths_of, finished_words}
 use Rattle.type1_to_type2.specs.declared.Finished.{Finished}
 use mathlib.Core.Path.{ap, ◌∙◌}
 use Rattle.board.proofs.Words.{finish_all}
-use borrow.Author.Rules.{rules}
 use Rattle.board.proofs.cribstork_finish.Goals as goal
 
 pub returns : goal.returns

@@ -1,5 +1,4 @@
 -- `board::put_glyph` meets its contract.
-use borrow.Author.Rules.{rules}
 use Rattle.board.proofs.Words.{finite_number}
 use Rattle.board.proofs.put_glyph.Goals as goal
 

@@ -3,7 +3,6 @@ use mathlib.Core.Path.{sym}
 use native.Mathlib.Omega.{arith}
 use lib.ListN.{get_or-eq_default}
 use Rattle.compare.proofs.Fronts.{get_d_any}
-use borrow.Author.Rules.{rules}
 use Rattle.compare.proofs.byte_or.Goals as goal
 
 pub returns-then-at-front : goal.returns-then-at-front

@@ -4,7 +4,6 @@ use borrow.Author.Tests.{le-ltb, lt-ltb}
 use mathlib.Core.Path.{sym, ◌∙◌}
 use lib.Ieee.{binary64, of_bits, div}
 use Rattle.compare.proofs.Alike.{nan_of}
-use borrow.Author.Rules.{rules}
 use Rattle.compare.proofs.from_pattern.Goals as goal
 
 pub float_from_bits-result : goal.float_from_bits-result

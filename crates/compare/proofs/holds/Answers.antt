@@ -2,10 +2,8 @@
 use native.Mathlib.Nat.{not-suc-le-zero}
 use lib.Dec.{leb→le, le→leb}
 use mathlib.Core.Path.{◌≡◌, sym, ◌∙◌}
-use Prim.Native.Nat.{ℕ, ◌-◌, ◌≤◌, ◌<◌}
 use native.Mathlib.Omega.{arith}
-use lib.ListN.{length, get_or}
-use borrow.Author.Rules.{rules}
+use lib.ListN.{get_or}
 use Rattle.compare.proofs.Fronts.{front_then, then_front, front_within, one_more}
 use Rattle.compare.proofs.holds.Goals as goal
 

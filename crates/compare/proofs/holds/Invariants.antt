@@ -1,12 +1,7 @@
 -- `compare::holds` meets its contract: below i the output is the front, then rest.
-use native.Mathlib.Nat.{not-suc-le-zero}
-use lib.Dec.{leb→le, le→leb}
-use mathlib.Core.Path.{◌≡◌, sym, ◌∙◌}
+use mathlib.Core.Path.{◌≡◌}
 use Prim.Native.Nat.{ℕ, ◌-◌, ◌≤◌, ◌<◌}
-use native.Mathlib.Omega.{arith}
 use lib.ListN.{length, get_or}
-use borrow.Author.Rules.{rules}
-use Rattle.compare.proofs.Fronts.{front_then, then_front, front_within, one_more}
 use Rattle.compare.proofs.holds.Given as goal
 
 abbrev pub invariant-loop-i : goal.invariant-loop-i

@@ -1,13 +1,11 @@
 -- `compare::is_cleared` meets its contract: below i the doubles are n zeros, then rest.
 use native.Mathlib.Nat.{not-suc-le-zero}
-use borrow.Author.Tests.{not-true, not-false}
 use lib.Dec.{T, leb→le, le→leb}
 use mathlib.Core.Path.{◌≡◌, sym, ◌∙◌, subst}
-use Prim.Native.Nat.{ℕ, ◌-◌, ◌≤◌, ◌<◌}
+use Prim.Native.Nat.{◌≤◌}
 use native.Mathlib.Omega.{arith}
 use lib.ListN.{length, get_or, replicate, length-replicate}
 use lib.Ieee.{nan}
-use borrow.Author.Rules.{rules}
 use Rattle.binary64.specs.Round.{plus_zero}
 use Rattle.compare.proofs.Fronts.{front_then, then_front, front_within, one_more}
 use Rattle.compare.proofs.is_cleared.Goals as goal
