@@ -33,7 +33,7 @@ use Rattle.type1_to_type2.specs.Writing as Writing
 use Rattle.type1_to_type2.specs.Writing.{Written, write}
 use Rattle.type1_to_type2.specs.Convert as Convert
 use Rattle.type1_to_type2.specs.Convert.{folds_finite, Glyph, glyph_of, Conversion, instructions, writes, folded, ended, rooms_of, convert, answer, output}
-use Rattle.type1_to_type2.specs.Collecting.{Collects, none_collected}
+use Rattle.type1_to_type2.specs.Collecting.{Collects, Counted, none_collected}
 use Rattle.type1_to_type2.specs.Streaming.{resumed_all}
 use Rattle.type1_to_type2.specs.Passes.{both, BothTables, Gathers, stems_to, cmds_from, Stored}
 use Rattle.type1_to_type2.specs.Entry.{group_count, none_of, tables, Planned, opens, Opens, left_state, from_run, settles, Answers, ConvertsFrom, first_number}
@@ -52,6 +52,9 @@ nothing_left : (masked : Bool) (ss : List Stem) (w : Writer) (out : List ℕ) �
 unfolding items
 nothing_left true ss w out = refl
 nothing_left false ss w out = refl
+
+pub few_none : (k : ℕ) (c : Collected) → c ≡ none_of k → Counted c
+few_none k c e = subst Counted (sym e) (record { across = omega arith; upright = omega arith })
 
 -- by the number so far, whether the width and the stems are finite (f and s), and whether the points are: then what is written was not refused
 settled : (b f s points : Bool) (n p : ℕ) (x y : Written) (v : List ℕ → Glyph) → eqb n 0 ≡ b → p ≡ pick b (pick (f && s) 0 14) n → ((f && s) ≡ true → x ≡ y) → ((c : List ℕ) → y ≡ Writing.wrote c → points ≡ true)
