@@ -44,18 +44,18 @@
  * nearest (no extended precision, no fused multiply-add); a size_t of 64 bits; and all tests run again there.
  *
  * Stack, in bytes, from the caller's stack pointer down: arguments on the stack and the return address are in it,
- * memset's own frame is not. "Bound" is the most that this archive's code can take on any input, "measured" the most on
- * painted stacks of the archive that an older kit built (bench/stack.sh has both).
+ * memset's own frame is not. "Measured" is the most on painted stacks, "bound" the most that the code can take on any
+ * input (bench/stack.sh has both).
  *
  *   function                    measured   bound
- *   cribstork_convert             21,272  22,776
+ *   cribstork_convert             22,840  22,840
  *   cribstork_finish                 136     136
- *   cribstork_convert_finished    21,384  22,872
- *   cribstork_box                    376     344
- *   cribstork_choose_widths        3,960   2,448
- *   cribstork_decrypt                 56      72
+ *   cribstork_convert_finished    22,936  22,936
+ *   cribstork_box                    344     344
+ *   cribstork_choose_widths        2,448   2,448
+ *   cribstork_decrypt                 72      72
  *
- * Reserve 24 KiB for a call, which is 1,704 bytes over the largest. What interrupts take comes on top, and a handler on
+ * Reserve 24 KiB for a call, which is 1,640 bytes over the largest. What interrupts take comes on top, and a handler on
  * the same stack leaves the 128 bytes below the stack pointer as they are (the red zone; 120 of them are used). No
  * function tests how much stack is left: that it returns is proved of a machine that has enough.
  *

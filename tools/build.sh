@@ -31,24 +31,35 @@ program() {
     copy crates/cribstork/out/cribstork target/bin/cribstork
 }
 
-# The archive over the libraries that `rt ci` left, of which `rt lib` takes none. Those of a check have a stamp, and may be older.
-archive_of_ci() {
+# The archive, for every processor with SSE2: the kit's own default asks for more (x86-64-v2), and crates.txt has no word for it.
+compile_archive() {
     local kit words=() name
     kit=$(dirname "$(dirname "$(realpath "$(command -v rt)")")")
     for name in $(sed -n 's/^board_c staticlib://p' crates.txt); do
-        [ -e "crates/$name/out/rlib/$name.rlib" ] && [ ! -e "crates/$name/out/rlib/stamp" ] || return 1
         words+=(--extern "$name=../$name/out/rlib/$name.rlib" -L "dependency=../$name/out/rlib")
     done
     mkdir -p crates/board_c/out
-    (cd crates/board_c && "$kit/bin/rattle" build --crate-name board_c src/lib.rt --crate-type staticlib \
+    (cd crates/board_c && "$kit/bin/rattle" build --crate-name board_c src/lib.rt --crate-type staticlib --cpu x86-64 \
         --extern "std=$kit/rlibs/std.rlib" -L "dependency=$kit/rlibs" "${words[@]}" \
         --antt-project "$kit/rattle/logic/antt-project.json" --logic-built "$kit/logic_built" \
         --toolchain "$kit/toolchain" --backend llvm --jobs 2 -o out/libboard_c.a)
 }
 
+# Whether the libraries below are those that `rt ci` left. Those of a check have a stamp, and may be older.
+are_of_ci() {
+    local name
+    for name in $(sed -n 's/^board_c staticlib://p' crates.txt); do
+        [ -e "crates/$name/out/rlib/$name.rlib" ] && [ ! -e "crates/$name/out/rlib/stamp" ] || return 1
+    done
+}
+
 archive() {
+    # `rt lib` takes none of the libraries of `rt ci`, and makes its own.
+    if [ -z "$after_ci" ] || ! are_of_ci; then
+        (cd crates/board_c && rt lib)
+    fi
     rm -f crates/board_c/out/libboard_c.a
-    { [ -n "$after_ci" ] && archive_of_ci; } || (cd crates/board_c && rt lib)
+    compile_archive
     copy crates/board_c/out/libboard_c.a target/staticlib/libboard.a
 }
 
