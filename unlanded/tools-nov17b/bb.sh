@@ -1,5 +1,5 @@
 #!/bin/bash
 # bb.sh NAME..: bench with NAME.o
-export STET_SRC=/work/shared/docs/src/crates/stet-fonts/src
-cd /work/h/base
-for n in "$@"; do ar rcs /work/h/$n.a /work/h/$n.o /work/h/stub.o; ARCHIVE=/work/h/$n.a bench/build.sh && cp target/bench/bench /work/h/bench-$n; done
+export STET_SRC=$WORK/shared/docs/src/crates/stet-fonts/src
+cd $WORK/h/base
+for n in "$@"; do ar rcs $WORK/h/$n.a $WORK/h/$n.o $WORK/h/stub.o; ARCHIVE=$WORK/h/$n.a bench/build.sh && cp target/bench/bench $WORK/h/bench-$n; done

@@ -1,5 +1,5 @@
 #!/bin/bash
-n=$(ls /work/h/tc/saved | grep -c args)
-echo "$@" > /work/h/tc/saved/args$n
-for a in "$@"; do case $a in *.ll|*.bc) cp "$a" /work/h/tc/saved/$n-$(basename $a);; esac; done
-exec /opt/rattle/on/x86_64/toolchain/bin/clang "$@"
+n=$(ls $WORK/h/tc/saved | grep -c args)
+echo "$@" > $WORK/h/tc/saved/args$n
+for a in "$@"; do case $a in *.ll|*.bc) cp "$a" $WORK/h/tc/saved/$n-$(basename $a);; esac; done
+exec $KIT/on/x86_64/toolchain/bin/clang "$@"

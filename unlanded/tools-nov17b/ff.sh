@@ -1,1 +1,1 @@
-for i in 1 2 3; do for b in base new; do taskset -c 1 /work/h/bench-$b --rounds 5 /usr/share/fonts/type1/urw-base35 /usr/share/texmf/fonts/type1/public/lm /usr/share/texmf/fonts/type1/public/tex-gyre > /work/h/ff.$b.$i 2>/dev/null; done; done
+for i in 1 2 3; do for b in base new; do taskset -c 1 $WORK/h/bench-$b --rounds 5 /usr/share/fonts/type1/urw-base35 /usr/share/texmf/fonts/type1/public/lm /usr/share/texmf/fonts/type1/public/tex-gyre > $WORK/h/ff.$b.$i 2>/dev/null; done; done

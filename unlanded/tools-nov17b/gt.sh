@@ -1,1 +1,1 @@
-for n in "$@"; do echo == $n; for s in 2 12 48; do for g in 1 2 4 8 16 32 64 128 256; do taskset -c 0 /work/h/$n.gr $s $g $((3000000/(s*g+20)*1+2000)); done; done | awk '{printf "%s/%s %s  ", $1,$3,$5} END {print ""}'; done
+for n in "$@"; do echo == $n; for s in 2 12 48; do for g in 1 2 4 8 16 32 64 128 256; do taskset -c 0 $WORK/h/$n.gr $s $g $((3000000/(s*g+20)*1+2000)); done; done | awk '{printf "%s/%s %s  ", $1,$3,$5} END {print ""}'; done

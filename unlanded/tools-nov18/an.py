@@ -12,7 +12,7 @@ for b in ('base','gate'):
     for part in (0,1):
         rs=[]; ns=[]; allr=[]
         for i in (1,2,3,4,5):
-            try: r=rows('/work/h/ff.%s.%d'%(b,i))
+            try: r=rows('$WORK/h/ff.%s.%d'%(b,i))
             except: continue
             r=r[9*part:9*part+9]
             if len(r)<9: continue

@@ -19,7 +19,7 @@ for line in open('/tmp/ci.'+b,errors='replace'):
         elif a!='*': last+=int(a)
         if skip: skip=0; continue
         if cur and 'run::run' in cur: cnt[last]=cnt.get(last,0)+int(m.group(3))
-d=subprocess.run(['objdump','-d','--no-show-raw-insn','/work/h/bench-'+b],capture_output=True,text=True).stdout
+d=subprocess.run(['objdump','-d','--no-show-raw-insn','$WORK/h/bench-'+b],capture_output=True,text=True).stdout
 ins={}
 for l in d.split('\n'):
     m=re.match(r'^\s+([0-9a-f]+):\s+(.*)$',l)

@@ -1,7 +1,7 @@
 #!/bin/bash
-mkdir -p /work/tc/saved
-n=$(ls /work/tc/saved | grep -c args)
-echo "$@" > /work/tc/saved/args$n
-for a in "$@"; do case $a in *.ll|*.bc) cp "$a" /work/tc/saved/$n-$(basename $a);; esac; done
-if [ ! -t 0 ] && [[ " $* " == *" - "* ]]; then cat > /work/tc/saved/$n-stdin; exec /opt/rattle/on/x86_64/toolchain/bin/clang "$@" < /work/tc/saved/$n-stdin; fi
-exec /opt/rattle/on/x86_64/toolchain/bin/clang "$@"
+mkdir -p $WORK/tc/saved
+n=$(ls $WORK/tc/saved | grep -c args)
+echo "$@" > $WORK/tc/saved/args$n
+for a in "$@"; do case $a in *.ll|*.bc) cp "$a" $WORK/tc/saved/$n-$(basename $a);; esac; done
+if [ ! -t 0 ] && [[ " $* " == *" - "* ]]; then cat > $WORK/tc/saved/$n-stdin; exec $KIT/on/x86_64/toolchain/bin/clang "$@" < $WORK/tc/saved/$n-stdin; fi
+exec $KIT/on/x86_64/toolchain/bin/clang "$@"

@@ -1,4 +1,4 @@
-p='/work/t/crates/type1/src/lib.rt'
+p='$WORK/t/crates/type1/src/lib.rt'
 t=open(p).read()
 i=t.index('// One operator.\nfn op(')
 j=t.index('// What a run leaves: document 01')

@@ -1,5 +1,5 @@
 import re
-p='/work/t/crates/type1/src/lib.rt'
+p='$WORK/t/crates/type1/src/lib.rt'
 t=open(p).read()
 def strip_contracts(t):
     # remove all requires/ensures (multi-line ensures end with ⌝ })

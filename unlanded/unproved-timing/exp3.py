@@ -1,5 +1,5 @@
 import re
-p='/work/t/crates/type1/src/lib.rt'
+p='$WORK/t/crates/type1/src/lib.rt'
 t=open(p).read()
 # list_point
 t=t.replace('''    let c = commit(room, st, edges, across, cmds);
@@ -55,7 +55,7 @@ t=t.replace('''    let o = ready(room, st, edges, across, cmds);
     }
     curve_to(''').replace('dx3, dy3, room, o.st, edges','dx3, dy3, room, s, edges')
 open(p,'w').write(t)
-p='/work/t/crates/type1_to_type2/src/lib.rt'
+p='$WORK/t/crates/type1_to_type2/src/lib.rt'
 t=open(p).read()
 t=re.sub(r'\n    (requires|ensures) \{ .*?⌝ \}(?=\n)', '', t, flags=re.S)
 t=re.sub(r'\n        (requires|ensures) \{ .*?⌝ \}(?=\n)', '', t, flags=re.S)

@@ -1,5 +1,5 @@
 import re
-p='/work/t/crates/type1/src/lib.rt'
+p='$WORK/t/crates/type1/src/lib.rt'
 t=open(p).read()
 i=t.index('fn plain('); j=t.index('// ---- subroutines')
 b=t[i:j]

@@ -1,6 +1,6 @@
 import re
 # type2: fused
-p='/work/t/crates/type2/src/lib.rt'
+p='$WORK/t/crates/type2/src/lib.rt'
 t=open(p).read()
 t=re.sub(r'\n    (requires|ensures) \{ .*?⌝ \}(?=\n)', '', t, flags=re.S)
 t=re.sub(r'\nghost use[^\n]*','',t)
@@ -25,7 +25,7 @@ pub fn push_delta(out: &mut [u8], at: usize, v: f64) -> Delta
 }
 '''
 open(p,'w').write(t)
-p='/work/t/crates/type1_to_type2/src/lib.rt'
+p='$WORK/t/crates/type1_to_type2/src/lib.rt'
 t=open(p).read()
 i=t.index('fn put_delta('); j=t.index('// A line, which shares an operator with up to 22 more.')
 t=t[:i]+'''fn put_delta(px: f64, py: f64, w: Writer, out: &mut [u8]) -> Writer
@@ -81,7 +81,7 @@ t=t.replace('''        clear_mask(mask);
         }
 ''')
 open(p,'w').write(t)
-p='/work/t/crates/bank/src/lib.rt'
+p='$WORK/t/crates/bank/src/lib.rt'
 t=open(p).read()
 t=re.sub(r'\n    (requires|ensures) \{ .*?⌝ \}(?=\n)', '', t, flags=re.S)
 t=re.sub(r'\nghost use[^\n]*','',t)

@@ -1,5 +1,5 @@
 import re,sys
-exec(open('/work/tc/var.py').read().split("t=load('type1')")[0])
+exec(open('$WORK/tc/var.py').read().split("t=load('type1')")[0])
 t=load('type1')
 def rep(a,b):
     global t

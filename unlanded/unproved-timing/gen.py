@@ -1,7 +1,7 @@
 import os,sys
 def fields(nf): return [f'f{i}: usize' for i in range(nf)]
 def crate(name,nf,arrays,mode):
-    d=f'/work/lab/r/crates/{name}/src'; os.makedirs(d,exist_ok=True)
+    d=f'$WORK/lab/r/crates/{name}/src'; os.makedirs(d,exist_ok=True)
     A=''.join(f', a{i}: &mut [f64; 256]' for i in range(arrays)); AP=''.join(f', a{i}' for i in range(arrays))
     if mode=='val':
         t='struct St {\n'+''.join(f'    {f},\n' for f in fields(nf))+'}\nstruct Ran {\n    st: St,\n    flow: u8,\n}\n'
@@ -38,4 +38,4 @@ def crate(name,nf,arrays,mode):
     open(d+'/lib.rt','w').write(t)
 L=[('v15a3',15,3,'val'),('v3a3',3,3,'val'),('v15a0',15,0,'val'),('arr3',0,3,'arr'),('v8a3',8,3,'val')]
 for l in L: crate(*l)
-open('/work/lab/r/crates.txt','w').write(''.join(l[0]+':\n' for l in L))
+open('$WORK/lab/r/crates.txt','w').write(''.join(l[0]+':\n' for l in L))

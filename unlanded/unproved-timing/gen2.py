@@ -1,6 +1,6 @@
 import os
 def crate(name,k,arrays,split):
-    d=f'/work/lab/r/crates/{name}/src'; os.makedirs(d,exist_ok=True)
+    d=f'$WORK/lab/r/crates/{name}/src'; os.makedirs(d,exist_ok=True)
     A=''.join(f', a{i}: &mut [f64; 256]' for i in range(arrays)); AP=''.join(f', a{i}' for i in range(arrays))
     t='struct St {\n    f0: usize,\n    f1: usize,\n}\nstruct Ran {\n    st: St,\n    flow: u8,\n}\n'
     t+='fn made(st: St, flow: u8) -> Ran {\n    Ran { st, flow }\n}\n'
@@ -11,4 +11,4 @@ def crate(name,k,arrays,split):
     open(d+'/lib.rt','w').write(t)
 L=[('p5',5,6,0),('p10',10,6,0),('p20',20,6,0),('q10',10,2,0)]
 for l in L: crate(*l)
-open('/work/lab/r/crates.txt','w').write(''.join(l[0]+':\n' for l in L))
+open('$WORK/lab/r/crates.txt','w').write(''.join(l[0]+':\n' for l in L))

@@ -1,6 +1,6 @@
 import os
 def crate(name,k,arrays,kind):
-    d=f'/work/lab/r/crates/{name}/src'; os.makedirs(d,exist_ok=True)
+    d=f'$WORK/lab/r/crates/{name}/src'; os.makedirs(d,exist_ok=True)
     A=''.join(f', a{i}: &mut [f64; 256]' for i in range(arrays)); 
     if kind=='ref': A=''.join(f', a{i}: &[f64; 256]' for i in range(arrays)); 
     if kind=='slice': A=''.join(f', a{i}: &mut [f64]' for i in range(arrays)); 
@@ -14,4 +14,4 @@ def crate(name,k,arrays,kind):
     open(d+'/lib.rt','w').write(t)
 L=[('m10',10,6,'move'),('s10',10,6,'slice'),('r10',10,6,'ref')]
 for l in L: crate(*l)
-open('/work/lab/r/crates.txt','w').write(''.join(l[0]+':\n' for l in L))
+open('$WORK/lab/r/crates.txt','w').write(''.join(l[0]+':\n' for l in L))

@@ -1,8 +1,8 @@
 import re,sys
 flags=set((sys.argv[1] if len(sys.argv)>1 else "none").split(","))
 import subprocess
-subprocess.run('cd /work/t && git checkout -q crates/type1 crates/type1_to_type2 crates/type2 crates/bank',shell=True,check=True)
-P='/work/t/crates/%s/src/lib.rt'
+subprocess.run('cd $WORK/t && git checkout -q crates/type1 crates/type1_to_type2 crates/type2 crates/bank',shell=True,check=True)
+P='$WORK/t/crates/%s/src/lib.rt'
 def load(c):
     t=open(P%c).read()
     t=re.sub(r'\n    +(requires|ensures) \{ .*?⌝ \}(?=\n)', '', t, flags=re.S)
@@ -110,7 +110,7 @@ if 'open' in flags:
     }
     curve_to(dx1, dy1, dx2, dy2, dx3, dy3, room, s, edges, across, cmds)'''+t[j:]
 if 'unify' in flags:
-    exec(open('/work/tc/unify.py').read())
+    exec(open('$WORK/tc/unify.py').read())
 save('type1',t)
 t=load('type1_to_type2')
 if 'waits' in flags:

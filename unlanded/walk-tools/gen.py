@@ -1,5 +1,5 @@
 """Texts common to the walks of functions that hold records: imports, a member's frame, its loop."""
-import sys,os; sys.path.insert(0,'/work/wtools')
+import sys,os; sys.path.insert(0,'$WORK/wtools')
 from many import *
 P="Rattle·type1·proofs.proofs."
 SP="Rattle·type1·specs.specs."

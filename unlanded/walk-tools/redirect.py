@@ -1,5 +1,5 @@
 import re,sys,os,glob
-C=sys.argv[1] if len(sys.argv)>1 else '/work/h/me/crates/'
+C=sys.argv[1] if len(sys.argv)>1 else '$WORK/h/me/crates/'
 OUT={n:'Outline' for n in "pick plusZero origin Command move line curve flex Group stemOf zeroStem sameStem isIn sameStems lastIs stemCount".split()}
 STO={n:'Store' for n in "entryWords word coordinate pointIn commandIn drawnIn groupIn groupsIn pointCommand".split()}
 FROM={'State':set("Command move line curve flex Group plusZero origin sameStem isIn sameStems lastIs stemCount".split()),

@@ -160,4 +160,4 @@ if 'openonce' in steps:
 ''',s,flags=re.S)
     assert s2!=s
     t=t[:a]+s2+t[b:]
-open('/work/t/crates/type1/src/lib.rt','w').write(t)
+open('$WORK/t/crates/type1/src/lib.rt','w').write(t)

@@ -1,6 +1,6 @@
 #!/bin/bash
-# m.sh NAME: build from /work/t, link bench, count instructions
-cd /work/tc; ./mk.sh /work/t /work/tc/$1.o | grep -v ^ok
+# m.sh NAME: build from $WORK/t, link bench, count instructions
+cd $WORK/tc; ./mk.sh $WORK/t $WORK/tc/$1.o | grep -v ^ok
 [ -f $1.o ] || exit 1
-cd /work/t && STET_SRC=/work/shared/docs/src/crates/stet-fonts/src ARCHIVE=/work/tc/$1.o bench/build.sh && mv target/bench/bench /work/tc/bench-$1
-cd /work/tc; ./ir.sh $1
+cd $WORK/t && STET_SRC=$WORK/shared/docs/src/crates/stet-fonts/src ARCHIVE=$WORK/tc/$1.o bench/build.sh && mv target/bench/bench $WORK/tc/bench-$1
+cd $WORK/tc; ./ir.sh $1

@@ -1,1 +1,1 @@
-/opt/rattle/on/x86_64/toolchain/bin/clang --target=x86_64-unknown-linux-gnu -march=x86-64 -c -x ir /work/tc/$1.o.w.ll -o /tmp/z.o -fPIC -O3 -Rpass-missed=inline 2>&1 | grep -oE "'[^']+' not inlined into '[^']+' because[^\[]*" | sort | uniq -c | sort -rn | grep -E "$2"
+$KIT/on/x86_64/toolchain/bin/clang --target=x86_64-unknown-linux-gnu -march=x86-64 -c -x ir $WORK/tc/$1.o.w.ll -o /tmp/z.o -fPIC -O3 -Rpass-missed=inline 2>&1 | grep -oE "'[^']+' not inlined into '[^']+' because[^\[]*" | sort | uniq -c | sort -rn | grep -E "$2"

@@ -1,5 +1,5 @@
 import re
-t=open('/work/main/crates/type1/src/lib.rt').read()
+t=open('$WORK/main/crates/type1/src/lib.rt').read()
 t=re.sub(r'\n    (requires|ensures) \{(?:[^{}]|\{[^{}]*\})*\}(?=\n)','',t)
 a=t.index('// The stems in force become the last group'); b=t.index('// ---- paths'); t=t[:a]+t[b:]
 a=t.index('// Whether the stems in force are the last group'); b=t.index('// ---- paths'); t=t[:a]+t[b:]
@@ -172,4 +172,4 @@ t=t.replace('fn same_stem(','''fn found_in(horizontal: bool, pos: f64, width: f6
 }
 
 fn same_stem(''',1)
-open('/work/t/crates/type1/src/lib.rt','w').write(t)
+open('$WORK/t/crates/type1/src/lib.rt','w').write(t)

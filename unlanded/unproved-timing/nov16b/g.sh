@@ -1,3 +1,3 @@
 #!/bin/bash
 # g.sh BASE NAME PATTERN [KEEP]
-cd /work/tc; python3 grp.py $1.o.w.ll $2.ll "$3" "${4:-none}" && ./cc.sh $2.ll $2.o; ./l.sh $2
+cd $WORK/tc; python3 grp.py $1.o.w.ll $2.ll "$3" "${4:-none}" && ./cc.sh $2.ll $2.o; ./l.sh $2

@@ -1,7 +1,7 @@
 import re,sys
 mode=sys.argv[1]
 exec(open('/tmp/kept.py').read().split("for n in which")[0].replace("which=set(sys.argv[1].split(','))","")) if False else None
-p='/work/t/crates/type1/src/lib.rt'
+p='$WORK/t/crates/type1/src/lib.rt'
 t=open(p).read()
 def wrapin(t,names,a,b):
     seg=t[a:b]

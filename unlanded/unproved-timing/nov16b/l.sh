@@ -1,2 +1,2 @@
 #!/bin/bash
-cd /work/t && for n in "$@"; do STET_SRC=/work/shared/docs/src/crates/stet-fonts/src ARCHIVE=/work/tc/$n.o bench/build.sh && mv target/bench/bench /work/tc/bench-$n; done
+cd $WORK/t && for n in "$@"; do STET_SRC=$WORK/shared/docs/src/crates/stet-fonts/src ARCHIVE=$WORK/tc/$n.o bench/build.sh && mv target/bench/bench $WORK/tc/bench-$n; done

@@ -1,4 +1,4 @@
-p='/work/t/crates/type1_to_type2/src/lib.rt'
+p='$WORK/t/crates/type1_to_type2/src/lib.rt'
 t=open(p).read()
 t=t.replace('''    let mut finite = true;
     let mut groups = 0;

@@ -1,5 +1,5 @@
 import sys
-p='/work/t/crates/type1/src/lib.rt'
+p='$WORK/t/crates/type1/src/lib.rt'
 t=open(p).read()
 F=['operands','postscript','x','y','points','hints','last','groups','stems','entries','ran','opened','flexing','changed','divided']
 lit=lambda v,ind: 'St {\n'+''.join('%s    %s: %s.%s,\n'%(ind,f,v,f) for f in F)+ind+'}'

@@ -1,4 +1,4 @@
-p='/work/t/crates/type1/src/lib.rt'
+p='$WORK/t/crates/type1/src/lib.rt'
 t=open(p).read()
 i=t.index('\nfn plain(')
 b=t.index('    match op {',i)

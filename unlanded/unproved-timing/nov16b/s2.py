@@ -1,6 +1,6 @@
 import re
-src='/work/t/crates.kd'
-p='/work/t/crates/type1/src/lib.rt'
+src='$WORK/t/crates.kd'
+p='$WORK/t/crates/type1/src/lib.rt'
 t=open(src+'/type1/src/lib.rt').read()
 fns=['commit','new_group','list_point','move_by','open_subpath','line_to','line_by','curve_to','curve_by','set_point','vmoveto','rlineto','hlineto','vlineto','rrcurveto','rmoveto','hmoveto','vhcurveto','hvcurveto','setcurrentpoint','end_flex','callothersubr']
 # split functions

@@ -1,5 +1,5 @@
 import sys,re
-p='/work/t/crates/type1/src/lib.rt'
+p='$WORK/t/crates/type1/src/lib.rt'
 t=open(p).read()
 F=['operands','postscript','x','y','points','hints','last','groups','stems','entries','ran','opened','flexing','changed','divided']
 def lit(v,ind,**k): return 'St {\n'+''.join('%s    %s: %s,\n'%(ind,f,k.get(f,'%s.%s'%(v,f))) for f in F)+ind+'}'

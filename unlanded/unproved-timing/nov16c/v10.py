@@ -1,5 +1,5 @@
 import sys,re
-exec(open('/work/tc/v9.py').read().split("a=t.index(\"fn token(\")")[0])
+exec(open('$WORK/tc/v9.py').read().split("a=t.index(\"fn token(\")")[0])
 opts=sys.argv[1]
 a=t.index("fn token("); b=t.index("// ---- answers")
 seg=t[a:b]

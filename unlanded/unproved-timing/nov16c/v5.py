@@ -1,6 +1,6 @@
 import sys
 opts=sys.argv[1]
-f='/work/t/crates/type1/src/lib.rt'
+f='$WORK/t/crates/type1/src/lib.rt'
 t=open(f).read()
 if 's' in opts:
     a=t.index("    if v < 251 {\n        ((wider(v) - 247)")
@@ -10,7 +10,7 @@ if 's' in opts:
     u as f64 - 65536.0
 """+t[b:]
     open(f,'w').write(t)
-f='/work/t/crates/type2/src/lib.rt'
+f='$WORK/t/crates/type2/src/lib.rt'
 t=open(f).read()
 if 's' in opts:
     a=t.index("    if w < 65644 {\n        if w > 65428")
@@ -52,7 +52,7 @@ fn quantize_far(v: f64) -> f64
 if 'n' in opts:
     t=t.replace("    let d = push_far(out, at, v);\n    Pushed {","    let d = push_delta(out, at, v);\n    Pushed {")
 open(f,'w').write(t)
-f='/work/t/crates/bank/src/lib.rt'
+f='$WORK/t/crates/bank/src/lib.rt'
 t=open(f).read()
 if 'b' in opts:
     t=t.replace('''    while 4 <= count - i {

@@ -1,4 +1,4 @@
-f='/work/t/crates/type1/src/lib.rt'
+f='$WORK/t/crates/type1/src/lib.rt'
 t=open(f).read()
 a=t.index("    let mut entries = st.entries;\n    while i < code.len() {")
 b=t.index("// ---- answers")

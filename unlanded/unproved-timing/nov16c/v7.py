@@ -1,6 +1,6 @@
 import sys
 mode=sys.argv[1]
-f='/work/t/crates/bank/src/lib.rt'
+f='$WORK/t/crates/bank/src/lib.rt'
 t=open(f).read()
 a=t.index("    while 4 <= count - i {"); b=t.index("    while i < count {")
 def unroll(n):

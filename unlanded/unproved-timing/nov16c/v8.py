@@ -1,6 +1,6 @@
 import sys,re
 opts=sys.argv[1]
-f='/work/t/crates/type1/src/lib.rt'
+f='$WORK/t/crates/type1/src/lib.rt'
 t=open(f).read()
 # wide versions
 a=t.index("// 32 to 246.\nfn one_byte"); 

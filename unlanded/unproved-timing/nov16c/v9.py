@@ -1,6 +1,6 @@
 import sys,re
 opts=sys.argv[1]
-f='/work/t/crates/type1/src/lib.rt'
+f='$WORK/t/crates/type1/src/lib.rt'
 t=open(f).read()
 a=t.index("// 32 to 246.\nfn one_byte"); 
 t=t[:a]+'''fn plain_wide(c: u8, key: u32, encrypted: bool) -> u8 {

@@ -1,5 +1,5 @@
 """Texts common to the walks of functions that hold records: imports, a member's frame, its loop."""
-import sys,os; sys.path.insert(0,'/work/wa')
+import sys,os; sys.path.insert(0,'$WORK/wa')
 from many import *
 CR="agreement"
 CK="agreement"

@@ -1,5 +1,5 @@
 """Texts common to the walks of functions that hold records: imports, a member's frame, its loop."""
-import sys,os; sys.path.insert(0,'/work/wt8')
+import sys,os; sys.path.insert(0,'$WORK/wt8')
 from many import *
 CR="board"
 CK="board"

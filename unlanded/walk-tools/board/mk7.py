@@ -1,7 +1,7 @@
-import sys; sys.path.insert(0,'/work/wt8')
+import sys; sys.path.insert(0,'$WORK/wt8')
 from gen import *
 from prune import prune
-D='/work/b/crates/agreement/proofs/'
+D='$WORK/b/crates/agreement/proofs/'
 os.makedirs(D,exist_ok=True)
 def pz(x): return "(%s)"%x if " " in x and not x.startswith("(") else x
 stems=Ref("stems","sl","T.the-row","Stem"); commands=Ref("commands","sl","u64","ℕ")
@@ -36,7 +36,7 @@ def walk_text(f,text): return """    pub walk : ent 𝓤 (onEntry 𝓤 H A f.sig
 f=entry; N=int(sys.argv[1]) if len(sys.argv)>1 else 25
 w=M(f,N); w.begin(None,None,None)
 w.open("knows-bytes ! tt xcharstring (λ octets. "); w.front("ownbank","lftbank"); w.open("knows-bytes ! tt xbank (λ octets′. ")
-LOC=eval(open('/work/wt8/loc.txt').read())
+LOC=eval(open('$WORK/wt8/loc.txt').read())
 w.again(stems,6,LOC['s'][0],LOC['s'][1]); w.again(commands,7,LOC['c'][0],LOC['c'][1]); w.again(programM,8,LOC['p'][0],LOC['p'][1])
 w.call(transformed,{'charstring':'charstring','bank':'bank','stems':'stems','commands':'commands','out':'program'},[("iv","iv-fits"),("m","m-fits")],[1,2,3,4,LOC['s'][1],LOC['c'][1],LOC['p'][1]],LOC['g'],lands(LOC['g'],"G","tGt"))
 p1=w.cur['program']['ys']; l1=w.cur['program']['e']

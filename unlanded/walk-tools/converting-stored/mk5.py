@@ -1,7 +1,7 @@
-import sys; sys.path.insert(0,'/work/scratch-h4/converting')
+import sys; sys.path.insert(0,'$WORK/scratch-h4/converting')
 from gen import *
 from prune import prune
-D='/work/scratch-h4/out/'
+D='$WORK/scratch-h4/out/'
 S1="Rattle·type1.specs."
 stems=Ref("stems","sl","T.the-row","Stem")
 commands=Ref("commands","shr","u64","ℕ")

@@ -1,5 +1,5 @@
 """Texts common to the walks of functions that hold records: imports, a member's frame, its loop."""
-import sys,os; sys.path.insert(0,'/work/wt5')
+import sys,os; sys.path.insert(0,'$WORK/wt5')
 from many import *
 CR="type1_to_type2"
 CK="type1-to-type2"

@@ -1,7 +1,7 @@
-import sys; sys.path.insert(0,'/work/wt5')
+import sys; sys.path.insert(0,'$WORK/wt5')
 from gen import *
 from prune import prune
-D='/work/wt5/r/crates/type1_to_type2/proofs/'
+D='$WORK/wt5/r/crates/type1_to_type2/proofs/'
 S1="Rattle·type1.specs."
 stems=Ref("stems","sl","T.the-row","Stem")
 commands=Ref("commands","shr","u64","ℕ")

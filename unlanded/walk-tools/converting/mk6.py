@@ -1,4 +1,4 @@
-import sys; sys.path.insert(0,'/work/wt5')
+import sys; sys.path.insert(0,'$WORK/wt5')
 from mk5 import *
 INTR=Rec("ri","I","Interpreted"); GLY=Rec("result","G","Type2Glyph"); PLAN=Rec("p","Q","Plan"); CHK=Rec("k","Y","Checked")
 commandsM=Ref("commands","sl","u64","ℕ")

@@ -1,5 +1,5 @@
 import re,sys
-src=open('/work/t1/crates/type1/src/lib.rt').read()
+src=open('$WORK/t1/crates/type1/src/lib.rt').read()
 names=set(sys.argv[2:]); out=sys.argv[1]
 # split in top-level chunks separated by blank lines at column 0 starts
 lines=src.split('\n'); head=[];i=0

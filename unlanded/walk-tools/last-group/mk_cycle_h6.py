@@ -1,7 +1,7 @@
 from gen import *
 from mk_leaves import keep_group, stems, edgesS, acrossS
 from mk_last import is_last, lands_bool
-D='/work/hc/crates/type1/proofs/+call_body+op+run/'
+D='$WORK/hc/crates/type1/proofs/+call_body+op+run/'
 os.makedirs(D+'Proof',exist_ok=True)
 code=Ref("code","shr","u8","ℕ"); bank=Ref("bank","shr","u8","ℕ")
 ops=Ref("ops","arr","f64","Float",256); ps=Ref("ps","arr","f64","Float",256); cells=Ref("cells","arr","f64","Float",19); edges=Ref("edges","arr","f64","Float",512); across=Ref("across","arr","bool","Bool",256); cmds=Ref("cmds","sl","u64","ℕ")

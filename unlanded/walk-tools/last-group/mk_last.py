@@ -4,7 +4,7 @@ from gen import *
 import mk_leaves as ML
 from mk_leaves import stems, put, blank, sum_, stem_at
 from prune import prune
-D='/work/hc/crates/type1/proofs/'
+D='$WORK/hc/crates/type1/proofs/'
 edgesS=Ref("edges","sa","f64","Float",512); acrossS=Ref("across","sa","bool","Bool",256)
 st=Rec("st","S","St")
 def lands_bool(dest):

@@ -1,8 +1,8 @@
-import sys; sys.path.insert(0,'/work/wt1')
+import sys; sys.path.insert(0,'$WORK/wt1')
 from mk_leaves import *
 import mk_leaves as ML
 from prune import prune
-D='/work/b/crates/type1/proofs/'
+D='$WORK/b/crates/type1/proofs/'
 fill=Fn("fill",[stems,Rec("v","T","Stem")],"Nothing",lambda vs,zs:"%s ≡ replicate (length %s) %s"%(zs[0],vs['stems']['ys'],vs['v']['v']),result=Non())
 # Callees: add fill
 p=D+'Callees.antt'; t=open(p).read()

@@ -1,7 +1,7 @@
 import sys; sys.path.insert(0,'/tmp/hb_wt')
 from mk_leaves import *
 from prune import prune
-D='/work/hb/crates/type1/proofs/'
+D='$WORK/hb/crates/type1/proofs/'
 clear=Fn("clear",[stems,Num("i","usize","w64")],"Nothing",lambda vs,zs:"%s ≡ set %s %s zeroStem"%(zs[0],vs['stems']['ys'],vs['i']['v']),req=lambda vs:"%s < length %s"%(vs['i']['v'],vs['stems']['ys']),result=Non())
 # Callees: clear for fill and blank
 p=D+'Callees.antt'; t=open(p).read()

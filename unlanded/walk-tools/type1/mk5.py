@@ -1,7 +1,7 @@
-import sys; sys.path.insert(0,'/work/h/h3t/new')
+import sys; sys.path.insert(0,'$WORK/h/h3t/new')
 from gen import *
 from prune import prune
-D='/work/h/h3t/out1/'
+D='$WORK/h/h3t/out1/'
 S1="Rattle·type1.specs."
 stems=Ref("stems","sl","T.the-row","Stem")
 commands=Ref("commands","shr","u64","ℕ")

@@ -1,4 +1,4 @@
-import sys; sys.path.insert(0,'/work/h/h3t/new')
+import sys; sys.path.insert(0,'$WORK/h/h3t/new')
 from mk5 import *
 INTR=Rec("ri","I","Interpreted"); GLY=Rec("result","G","Type2Glyph"); PLAN=Rec("p","Q","Plan")
 commandsM=Ref("commands","sl","u64","ℕ")

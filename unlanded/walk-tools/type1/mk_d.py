@@ -1,7 +1,7 @@
-import sys; sys.path.insert(0,'/work/scratch/conv')
+import sys; sys.path.insert(0,'$WORK/scratch/conv')
 import mk6, mk5
 from mk6 import *
-R='/work/hd/crates/type1_to_type2/proofs/'
+R='$WORK/hd/crates/type1_to_type2/proofs/'
 old=dict(check_entries=mk6.check_entries,none_collected=mk6.none_collected,make_plan=mk6.make_plan,end_program=mk6.end_program)
 is_identity=Fn("is_identity",[mat],"bool",lambda vs,zs:"r ≡ isIdentity %s"%vs['m']['v'],result=Boo("result"),crate="folding")
 count_groups=Fn("count_groups",[commands,usz("entries")],"usize",lambda vs,zs:"r ≡ groupCount %s (%s .now)"%(vs['entries']['v'],vs['commands']['x']),req=lambda vs:"14 * %s ≤ length (%s .now)"%(vs['entries']['v'],vs['commands']['x']),result=usz("result"))

@@ -1,4 +1,4 @@
-import sys; sys.path.insert(0,'/work/h/h3t/new')
+import sys; sys.path.insert(0,'$WORK/h/h3t/new')
 from mk6 import *
 convert_stored=Fn("convert_stored",[INTR,u64n("number"),mat,stems,commandsM,out],"G.the-row",
     lambda vs,zs:"(%s ≡ %s) × ((%s ≡ %s) × Answers (fromRun %s %s (length %s) %s %s %s) (length %s) r %s)"%(zs[3],vs['stems']['ys'],zs[4],vs['commands']['ys'],vs['number']['v'],vs['m']['v'],vs['out']['ys'],vs['ri']['v'],vs['commands']['ys'],vs['stems']['ys'],vs['out']['ys'],pz(zs[5])),
@@ -62,7 +62,7 @@ def mk_entry4():
     leaf6(f,(run_charstring,first_number,convert_stored,wipe,wipe_words),"TZGI",walk_text(f,w.text()),"","use %sRunLaws.{left-stored, entry-answers}\n"%P,"What the run left is converted by `convert_stored`; both stores are wiped.")
 mk_stored(); mk_entry4()
 # EntryCallees: spliced into the file of the repository
-R='/work/h4/crates/type1_to_type2/proofs/'
+R='$WORK/h4/crates/type1_to_type2/proofs/'
 import shutil
 s=open(R+'EntryCallees.antt').read()
 if 'ConvertStoredC' not in s:

@@ -1,8 +1,8 @@
-import sys; sys.path.insert(0,'/work/h/wt8')
+import sys; sys.path.insert(0,'$WORK/h/wt8')
 import many
 from gen import *
 from prune import prune
-D='/work/main/crates/board/proofs/'
+D='$WORK/main/crates/board/proofs/'
 def pz(x): return "(%s)"%x if " " in x and not x.startswith("(") else x
 class Flt(Num):
     ty="Float"
