@@ -32,9 +32,9 @@ def wrapper():
 
 
 def program():
-    source = text("crates/cribstork/src/say.rt")
-    words = re.search(r'fn refusal\(.*?b"\\n(.*?)"', source, re.S).group(1)
-    return dict(enumerate(words.split("\\n"), 1))
+    source = text("crates/refusal/src/lib.rt")
+    numbers = dict(re.findall(r"Refusal::(\w+) => (\d+),", source))
+    return {int(numbers[name]): words for name, words in re.findall(r'Refusal::(\w+) => "([^"]*)"', source)}
 
 
 def page():

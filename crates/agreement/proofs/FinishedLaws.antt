@@ -8,7 +8,7 @@ use Rattle.outline.specs.declared.Stem.{Stem}
 use Rattle.type1.specs.declared.Reading.{Reading}
 use Rattle.type1.specs.Interpret.{Source}
 use Rattle.type1_to_type2.specs.declared.Type2Glyph.{Type2Glyph}
-use Rattle.type1_to_type2.specs.declared.Finished.{Finished}
+use Rattle.type1_to_type2.specs.FinishAnswer.{Finished}
 use Rattle.type1_to_type2.specs.Writing as Writing
 use Rattle.type1_to_type2.specs.Writing.{Written}
 use Rattle.type1_to_type2.specs.Convert.{Glyph, Conversion, refused, converted, Rooms, convert, writes, answer, output}

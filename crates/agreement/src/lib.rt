@@ -40,13 +40,10 @@ fn finish_glyph(glyph: Type2Glyph, widths: Widths, program: &[u8], out: &mut [u8
         wipe_bytes(out);
         return refused(glyph.number);
     }
-    let f = glyph.charstring(program, widths, out);
-    if f.number != 0 {
-        return refused(f.number);
+    match glyph.charstring(program, widths, out) {
+        Ok(len) => Type2Glyph { len, ..glyph },
+        Err(e) => refused(e.number() as u64),
     }
-    let mut r = glyph;
-    r.len = f.len;
-    r
 }
 
 // Converts a Type 1 charstring under a matrix and finishes it for a font's widths. `program` is a working

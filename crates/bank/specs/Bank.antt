@@ -1,9 +1,9 @@
 -- Definitions: the subroutine bank, a list of bytes. Document 01, "Bank (added)".
 -- A bank that ends within its table of contents reads as 0 there, and is too short for its table.
-use Rattle.std.specs.Prelude.{ℕ, zero, suc, ◌+◌, ◌-◌, ◌*◌, ◌<◌, ◌≤◌, ◌≡◌, Bool, true, cond, ◌&&◌, List, [], eqb, leb, ltb, length, get_or, take, drop}
-use Rattle.std.proofs.Math.Option.{Option, none, some}
-use Rattle.bank.specs.declared.Found.{Found}
-use Rattle.bank.specs.declared.Found.TheVariants.{At, Nothing}
+use Rattle.std.specs.Prelude.{ℕ, zero, suc, ◌+◌, ◌-◌, ◌*◌, ◌<◌, ◌≤◌, ◌≡◌, Bool, true, cond, ◌&&◌, List, [], eqb, leb, ltb, length, get_or, take, drop, Option, Some, None}
+use Rattle.std.proofs.Math.Option as Math
+use Rattle.std.proofs.Math.Option.{none, some}
+use Rattle.std.specs.declared.ops.Range.{Range}
 
 -- the numbers of 16 and 32 bits at a place, big-endian
 unfoldable pub be16 : List ℕ → ℕ → ℕ
@@ -59,7 +59,7 @@ abbrev pub body_end : ℕ → List ℕ → ℕ
 body_end n bank = table_end bank + offset bank (suc n)
 
 -- body n of a bank that is valid; none where there is no such body
-unfoldable pub body : ℕ → List ℕ → Option (List ℕ)
+unfoldable pub body : ℕ → List ℕ → Math.Option (List ℕ)
 body n bank = cond (ltb n (count bank)) (some (part (body_start n bank) (body_end n bank) bank)) none
 
 -- where body n lies in any list of bytes: its two offsets are in order, and it ends within the bank
@@ -71,14 +71,14 @@ pub record Within (n : ℕ) (bank : List ℕ) : Type 0 where
 abbrev pub within : ℕ → List ℕ → Bool
 within n bank = ltb n (count bank) && (leb (offset bank n) (offset bank (suc n)) && leb (body_end n bank) (length bank))
 
-unfoldable pub found : ℕ → List ℕ → Found
-found n bank = cond (within n bank) (At (body_start n bank) (body_end n bank)) Nothing
+unfoldable pub found : ℕ → List ℕ → Option (Range ℕ)
+found n bank = cond (within n bank) (Some (record { start = body_start n bank; end = body_end n bank })) None
 
 -- the bytes at what was found, as a body and as a list that is empty where nothing was found
-abbrev pub body_at : Found → List ℕ → Option (List ℕ)
-body_at (At start end) bank = some (part start end bank)
-body_at Nothing bank = none
+abbrev pub body_at : Option (Range ℕ) → List ℕ → Math.Option (List ℕ)
+body_at (Some r) bank = some (part r.start r.end bank)
+body_at None bank = none
 
-abbrev pub bytes_at : Found → List ℕ → List ℕ
-bytes_at (At start end) bank = part start end bank
-bytes_at Nothing bank = []
+abbrev pub bytes_at : Option (Range ℕ) → List ℕ → List ℕ
+bytes_at (Some r) bank = part r.start r.end bank
+bytes_at None bank = []

@@ -16,9 +16,10 @@ use Rattle.std.specs.Float.{fin}
 use Rattle.std.specs.Float.Ieee.{le, to_unsigned}
 use borrow.Author.Tests.{lt-ltb, le-ltb, le-leb, eq-eqb, ltb-true, ltb-false, leb-true, eqb-true}
 use Rattle.std.proofs.Math.ListN.{length}
-use Rattle.bank.specs.declared.Found.{Found}
-use Rattle.bank.specs.declared.Found.TheVariants.{At, Nothing}
-use Rattle.bank.specs.Call.{refused_with, counted, called}
+use Rattle.std.specs.Prelude.{Option, Some, None, Err}
+use Rattle.std.specs.declared.ops.Range.{Range}
+use Rattle.refusal.specs.declared.Refusal.TheVariants.{NoSuchSubroutine}
+use Rattle.bank.specs.Call.{counted, called}
 use Rattle.bank.specs.Bank.{be32, count, offset, Valid, rises, valid, part, body_start, body_end, body, Within, within, found, body_at}
 
 pub both : (a b : Bool) → a && b ≡ true → (a ≡ true) × (b ≡ true)
@@ -76,27 +77,28 @@ module _ (bank : List ℕ) where
         let q = both _ _ p.1 in
         record { below = ltb-true _ _ p.0; order = leb-true _ _ q.0; end = leb-true _ _ q.1 }
 
-    pub found_at : Within n bank → found n bank ≡ At (body_start n bank) (body_end n bank)
+    pub found_at : Within n bank → found n bank ≡ Some (record { start = body_start n bank; end = body_end n bank })
     unfolding found
     found_at w = rw (lt-ltb _ _ w.below, le-leb _ _ w.order, le-leb _ _ w.end)
 
-    pub found_not : (Within n bank → ⊥) → found n bank ≡ Nothing
+    pub found_not : (Within n bank → ⊥) → found n bank ≡ None
     unfolding found
     found_not h = rw (refuted (within n bank) (λ e. h (within_is e)))
 
     -- what is found lies within the bank, valid or not
-    pub found_within : {start end : ℕ} → found n bank ≡ At start end → (start ≤ end) × (end ≤ length bank)
+    pub found_within : {r : Range ℕ} → found n bank ≡ Some r → (r.start ≤ r.end) × (r.end ≤ length bank)
     unfolding found
-    found_within {start} {end} e = by_test (within n bank) refl
+    found_within {r} e = by_test (within n bank) refl
       where
-        by_test : (t : Bool) → within n bank ≡ t → (start ≤ end) × (end ≤ length bank)
+        by_test : (t : Bool) → within n bank ≡ t → (r.start ≤ r.end) × (r.end ≤ length bank)
         by_test true is =
             let w = within_is is in
-            let p : body_start n bank ≡ start = cc (found_at w, e) in
-            let q : body_end n bank ≡ end = cc (found_at w, e) in
+            let p : record { start = body_start n bank; end = body_end n bank } ≡ r = cc (found_at w, e) in
+            let q = ap (λ (x : Range ℕ). x.start) p in
+            let u = ap (λ (x : Range ℕ). x.end) p in
             (omega (arith, w.order), omega (arith, w.end))
         by_test false is =
-            let no : found n bank ≡ Nothing = rw is in
+            let no : found n bank ≡ None = rw is in
             let z : ◌≡◌ {A = ℕ} 0 1 = cc (no, e) in
             omega arith
 
@@ -129,10 +131,10 @@ module _ (bank : List ℕ) where
       by_test : (t : Bool) → ltb n (count bank) ≡ t → body_at (found n bank) bank ≡ body n bank
       by_test true e =
           let h = ltb-true _ _ e in
-          ap (λ (f : Found). body_at f bank) (found_at n (valid-within n v h)) ∙ sym (body_some n h)
+          ap (λ (f : Option (Range ℕ)). body_at f bank) (found_at n (valid-within n v h)) ∙ sym (body_some n h)
       by_test false e =
           let h = ltb-false _ _ e in
-          ap (λ (f : Found). body_at f bank) (found_not n (λ w. omega (arith, w.below))) ∙ sym (body-none n h)
+          ap (λ (f : Option (Range ℕ)). body_at f bank) (found_not n (λ w. omega (arith, w.below))) ∙ sym (body-none n h)
 
   -- the length of a body
   pub part_length : (n : ℕ) → Within n bank → length (part (body_start n bank) (body_end n bank) bank) ≡ offset bank (suc n) - offset bank n
@@ -152,10 +154,10 @@ module _ (bank : List ℕ) where
   -- ---- calls
 
   module _ (v : Float) (ran : ℕ) where
-    pub called-below : le (fin false 0 (pos 0)) v ≡ false → called bank v ran ≡ refused_with 8
+    pub called-below : le (fin false 0 (pos 0)) v ≡ false → called bank v ran ≡ Err NoSuchSubroutine
     unfolding called
     called-below e = rw e
 
-    pub called_is : le (fin false 0 (pos 0)) v ≡ true → (n : ℕ) → n ≡ to_unsigned 64 v → (f : Found) → found n bank ≡ f → called bank v ran ≡ counted n ran f
+    pub called_is : le (fin false 0 (pos 0)) v ≡ true → (n : ℕ) → n ≡ to_unsigned 64 v → (f : Option (Range ℕ)) → found n bank ≡ f → called bank v ran ≡ counted n ran f
     unfolding called
     called_is e n q f p = rw (e, ← q, p)

@@ -1,5 +1,5 @@
 -- Laws: what the arms of `abs` return, and its value.
-use Rattle.std.specs.Prelude.{◌≡◌, zero, suc, ◌-◌, ◌^◌, Bool, true, false, ◌||◌, T, ◌==◌, refl, Float}
+use Rattle.std.specs.Prelude.{◌≡◌, zero, suc, ◌^◌, Bool, true, false, ◌||◌, T, ◌==◌, refl, Float}
 use Rattle.std.proofs.Common.{sym, ap, ◌∙◌, subst, true≢false, eqb→eq}
 use Rattle.std.specs.Bool.{beq}
 use Rattle.std.specs.Float.{nan, inf, fin, Format, binary64}

@@ -1,9 +1,9 @@
 -- Laws: `away` in units, and how far it lies from its argument: half of one at the most.
-use Rattle.std.specs.Prelude.{◌≡◌, ℕ, suc, ◌+◌, ◌-◌, ◌*◌, ◌/◌, ◌^◌, ◌<◌, ◌≤◌, Bool, T, pos, negsuc, refl, Float}
+use Rattle.std.specs.Prelude.{◌≡◌, ℕ, suc, ◌+◌, ◌*◌, ◌/◌, ◌^◌, ◌<◌, ◌≤◌, Bool, T, pos, negsuc, refl, Float}
 use Rattle.std.proofs.Common.{sym, ap, ◌∙◌, subst, zero-lt-suc, mul-one, mul_right_comm, mul-pos, le-mul_of_pos_right, div-lt_iff_lt-mul, div-mul-le_self, arith, pow_pos}
 use Rattle.std.proofs.Math.Nat.{div-eq_of_lt-le, lt-div-mul-add, pow-succ'}
 use Rattle.std.specs.Float.{nan, inf, fin, Format}
-use Rattle.std.specs.Float.Ieee.{prec, low, up, down, nearest, round, fits}
+use Rattle.std.specs.Float.Ieee.{prec, low, up, down, round, fits}
 use Rattle.std.specs.Float.Ieee.Fits.{round-fits}
 use Rattle.std.specs.Float.Ieee.Exact.{HasValue}
 use Rattle.std.specs.Float.Ieee.Back.{round_whole}

@@ -6,7 +6,7 @@ use Rattle.std.proofs.Math.Nat.{pow-succ'}
 use Rattle.std.proofs.Math.Dec.{is_le, compare_is_eq, nleb→lt, eqb_refl}
 use Rattle.std.proofs.Math.Arith.{lt_of_le-ne}
 use Rattle.std.specs.Float.{Format, binary64}
-use Rattle.std.specs.Float.Ieee.{prec, emax, low, size, units, nearest, round, sum, sub, fits}
+use Rattle.std.specs.Float.Ieee.{prec, emax, low, size, units, nearest, round, sub, fits}
 use Rattle.std.specs.Float.Ieee.Digits.{size-le}
 use Rattle.std.specs.Float.Ieee.Fits.{core, round_is}
 use Rattle.std.specs.Float.Ieee.Exact.{HasValue, units_val}

@@ -6,7 +6,7 @@ use Rattle.std.proofs.Math.Nat.{add-mul-div_right, add-mul-mod_self_right, pow-s
 use Rattle.std.proofs.Math.Dec.{nleb→lt}
 use Rattle.std.proofs.Math.Pow.{pow-lt}
 use Rattle.std.specs.Float.{nan, inf, fin, Format}
-use Rattle.std.specs.Float.Ieee.{prec, emax, low, down, size, nearest, round, add, sub, eq, lt, fits}
+use Rattle.std.specs.Float.Ieee.{prec, emax, low, size, nearest, round, add, sub, eq, lt, fits}
 use Rattle.std.specs.Float.Ieee.Digits.{size-lt, size-le}
 use Rattle.std.specs.Float.Ieee.Fits.{add-fits, sub-fits, eq→eqb}
 use Rattle.std.specs.Float.Ieee.Bits.{is_true}

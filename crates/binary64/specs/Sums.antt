@@ -3,7 +3,7 @@ use Rattle.std.specs.Prelude.{◌≡◌, ℕ, suc, ◌+◌, ◌-◌, ◌*◌, �
 use Rattle.std.proofs.Common.{sym, ap, ap₂, ◌∙◌, subst, le_of_eq, lt_of_lt_of_le, mul_comm, add-mul, zero-mul, lt_of_mul-lt-mul_right, arith, true≢false, ltb→lt, nltb→le, lit≤, pow-add, pow_pos, pow_mono}
 use Rattle.std.proofs.Math.Nat.{mul-sub}
 use Rattle.std.specs.Float.{nan, inf, fin, Format, binary64}
-use Rattle.std.specs.Float.Ieee.{prec, emax, low, units, round, neg, sum, add, sub, fits}
+use Rattle.std.specs.Float.Ieee.{prec, emax, low, round, neg, sum, add, sub, fits}
 use Rattle.std.specs.Float.Ieee.Fits.{neg-fits}
 use Rattle.std.specs.Float.Ieee.Exact.{HasValue, round_exact}
 use Rattle.std.specs.Float.Ieee.Scale.{finite, overflow}

@@ -62,7 +62,7 @@ pub fn is_finite(x: f64) -> bool
     ensures { result ≡ finite x }
 {
     let top = 1.0 / 0.0;
-    if x < top { -top < x } else { false }
+    x < top && -top < x
 }
 
 // Rust's `x as usize`: the fraction is dropped, what lies out of range goes to the nearest end of
@@ -70,24 +70,12 @@ pub fn is_finite(x: f64) -> bool
 pub fn to_usize(x: f64) -> usize
     ensures { result ≡ to_unsigned 64 x }
 {
-    if x > -1.0 {
-        if x < 18446744073709551616.0 {
-            return std::num::truncating_f64_to_u64(x) as usize;
-        }
-        return 18446744073709551615;
-    }
-    0
+    std::num::saturating_f64_to_usize(x)
 }
 
 // Rust's `x as i64`, likewise.
 pub fn to_i64(x: f64) -> i64
     ensures { result ≡ to_signed 63 x }
 {
-    if x >= -9223372036854775808.0 {
-        if x < 9223372036854775808.0 {
-            return std::num::truncating_f64_to_i64(x);
-        }
-        return 9223372036854775807;
-    }
-    if x == x { -9223372036854775808 } else { 0 }
+    std::num::saturating_f64_to_i64(x)
 }

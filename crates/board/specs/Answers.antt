@@ -1,22 +1,22 @@
 -- Definitions: what the C interface reads and writes: how charstrings are read, a matrix of six entries, the words of each answer. Document 01, "Numbers the board logs": "An answer is the number (0 if none), program length, width and count". Document 02, (a): the box, the window and the verdict; (c): the strict reading.
-use Rattle.std.specs.Prelude.{ℕ, ◌%◌, ◌≡◌, List, [], ◌∷◌, ℤ, pos, get_or, eqb, Float}
+use Rattle.std.specs.Prelude.{ℕ, ◌%◌, ◌≡◌, Result, Ok, Err, List, [], ◌∷◌, ℤ, pos, get_or, eqb, Float}
 use Rattle.std.specs.Float.{nan, binary64}
 use Rattle.std.specs.Float.Ieee.{to_bits}
-use Rattle.charstring.specs.declared.Decrypted.{Decrypted}
+use Rattle.refusal.specs.declared.Refusal.{Refusal}
+use Rattle.refusal.specs.Refusal as Refusals
 use Rattle.geometry.specs.declared.Matrix.{Matrix}
 use Rattle.outline.specs.declared.Stem.{Stem}
 use Rattle.type1.specs.declared.Reading.{Reading}
 use Rattle.type1.specs.Interpret.{Source}
 use Rattle.type1_to_type2.specs.declared.Type2Glyph.{Type2Glyph}
-use Rattle.type1_to_type2.specs.declared.Finished.{Finished}
+use Rattle.type1_to_type2.specs.FinishAnswer.{Finished}
 use Rattle.type1_to_type2.specs.Convert.{Rooms, convert, answer}
 use Rattle.type1_to_type2.specs.Entry.{ConvertsFrom}
 use Rattle.type2.specs.declared.Widths.{Widths}
 use Rattle.agreement.specs.Finished.{finished, ConvertsFinished}
-use Rattle.widths.specs.declared.Chosen.{Chosen}
+use Rattle.widths.specs.Widths.{zero_width}
 use Rattle.boxes.specs.declared.Bounds.{Bounds}
-use Rattle.boxes.specs.declared.Answer.{Answer}
-use Rattle.boxes.specs.Answers.{number_of, verdict_word}
+use Rattle.boxes.specs.Answers.{Answer, number_of, verdict_word}
 
 -- the reading that a lenIV and a word ask for: strict exactly where bit 0 of the word is set, so where the word is odd. Document 02, (c)
 abbrev pub reading_with : ℕ → ℕ → Reading
@@ -38,12 +38,14 @@ abbrev pub finished_words : Finished → List ℕ
 finished_words f = f.number ∷ f.len ∷ []
 
 -- number, length
-abbrev pub decrypted_words : Decrypted → List ℕ
-decrypted_words d = d.number ∷ d.length ∷ []
+abbrev pub decrypted_words : Result ℕ Refusal → List ℕ
+decrypted_words (Ok n) = 0 ∷ n ∷ []
+decrypted_words (Err e) = Refusals.number_of e ∷ 0 ∷ []
 
--- the default width, the nominal width
-abbrev pub pair_of : Chosen → List Float
-pair_of c = c.widths.default_width_x ∷ c.widths.nominal_width_x ∷ []
+-- the default width, the nominal width; 0 and 0 on a refusal
+abbrev pub pair_of : Result Widths Refusal → List Float
+pair_of (Ok w) = w.default_width_x ∷ w.nominal_width_x ∷ []
+pair_of (Err e) = zero_width ∷ zero_width ∷ []
 
 -- a window of four words: least x, least y, greatest x, greatest y
 abbrev pub window_of : List ℤ → Bounds

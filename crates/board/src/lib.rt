@@ -4,19 +4,21 @@
 
 ghost use Rattle.std.specs.Prelude.{◌≡◌, length, replicate, T};
 ghost use Rattle.std.specs.Float.Ieee.Scale.{finite};
+ghost use Rattle.refusal.specs.Refusal.{number_in};
 ghost use Rattle.charstring.specs.Charstring.{decrypted, written};
 ghost use Rattle.type1.specs.Interpret.{source_of};
 ghost use Rattle.type1_to_type2.specs.Convert.{rooms_of};
 ghost use Rattle.type1_to_type2.specs.Finish.{finish};
-ghost use Rattle.type1_to_type2.specs.FinishAnswer.{finished_answer, finished_output};
+ghost use Rattle.type1_to_type2.specs.FinishAnswer.{finished_of, finished_answer, finished_output};
 ghost use Rattle.widths.specs.Widths.{chosen, zero_width};
 ghost use Rattle.boxes.specs.Answers as Boxes;
 ghost use Rattle.boxes.specs.Answers.{number_of, four_words, box_words, verdict_word};
 ghost use Rattle.board.specs.Answers.{reading_with, matrix_of, widths_of, glyph_words, finished_words, decrypted_words, pair_of, window_of, boxed_words, BoardConverts, BoardFinishes};
 
-use boxes::{Answer, Bounds, Verdict};
+use boxes::{Bounds, Boxed, Verdict};
 use geometry::Matrix;
 use outline::Stem;
+use refusal::Refusal;
 use type1::Reading;
 use type1_to_type2::Type2Glyph;
 use type2::Widths;
@@ -91,6 +93,16 @@ pub fn cribstork_convert(
     put_glyph(g, answer)
 }
 
+// The words of a finished charstring: the number, 0 if none, and the length, 0 on a refusal.
+fn finished_words(f: Result<usize, Refusal>) -> [u64; 2]
+    ensures { result ≡ finished_words (finished_of f) }
+{
+    match f {
+        Ok(len) => [0, len as u64],
+        Err(e) => [e.number() as u64, 0],
+    }
+}
+
 // `Type2Glyph::charstring` of a glyph with this width and program. The answer: number, length.
 pub fn cribstork_finish(
     width: f64,
@@ -111,8 +123,9 @@ pub fn cribstork_finish(
         ran: 0,
     };
     let f = glyph.charstring(program, widths_of(default_width, nominal_width), out);
-    *answer = [f.number, f.len as u64];
-    f.number
+    let words = finished_words(f);
+    *answer = words;
+    words[0]
 }
 
 // `agreement::convert_finished`. `program` is a working store for the program. The answer: number, length,
@@ -151,24 +164,39 @@ pub fn cribstork_convert_finished(
 
 // `widths::choose_widths`. The pair: the default and the nominal width, 0 and 0 on a refusal.
 pub fn cribstork_choose_widths(widths: &[f64], scratch: &mut [f64], pair: &mut [f64; 2]) -> u64
-    ensures value { result ≡ (chosen widths.now (length scratch.old)).number }
+    ensures value { result ≡ number_in (chosen widths.now (length scratch.old)) }
     ensures pair_after { pair.new ≡ pair_of (chosen widths.now (length scratch.old)) }
     ensures scratch_after { scratch.new ≡ replicate (length scratch.old) zero_width }
 {
-    let c = widths::choose_widths(widths, scratch);
-    *pair = [c.widths.default_width_x, c.widths.nominal_width_x];
-    c.number
+    match widths::choose_widths(widths, scratch) {
+        Ok(w) => {
+            *pair = [w.default_width_x, w.nominal_width_x];
+            0
+        }
+        Err(refusal) => {
+            *pair = [0.0, 0.0];
+            refusal.number() as u64
+        }
+    }
 }
 
 // `charstring::decrypt_charstring`. The answer: number, length.
 pub fn cribstork_decrypt(data: &[u8], len_iv: usize, out: &mut [u8], answer: &mut [u64; 2]) -> u64
-    ensures value { result ≡ (decrypted len_iv «data».now (length out.old)).number }
+    ensures value { result ≡ number_in (decrypted len_iv «data».now (length out.old)) }
     ensures answer_after { answer.new ≡ decrypted_words (decrypted len_iv «data».now (length out.old)) }
     ensures out_after { out.new ≡ written len_iv «data».now (length out.old) }
 {
-    let d = charstring::decrypt_charstring(data, len_iv, out);
-    *answer = [d.number, d.length as u64];
-    d.number
+    match charstring::decrypt_charstring(data, len_iv, out) {
+        Ok(n) => {
+            *answer = [0, n as u64];
+            0
+        }
+        Err(refusal) => {
+            let number = refusal.number() as u64;
+            *answer = [number, 0];
+            number
+        }
+    }
 }
 
 // The window of four words: the least x, the least y, the greatest x, the greatest y.
@@ -184,22 +212,22 @@ fn window_of(w: &[i64; 4]) -> Bounds
 }
 
 // 0 if the program was not refused.
-fn number_of(a: Answer) -> u64
+fn number_of(a: Result<Boxed, Refusal>) -> u64
     ensures { result ≡ number_of a }
 {
     match a {
-        Answer::Refused => 21,
-        Answer::Boxed(_, _) => 0,
+        Err(refusal) => u64::from(refusal.number()),
+        Ok(_) => 0,
     }
 }
 
-// 1 within, 2 crossing, 3 outside; 0 on a refusal.
-fn word_of(a: Answer) -> u64
+// The word for C: 1 within, 2 crossing, 3 outside; 0 on a refusal.
+fn word_of(a: Result<Boxed, Refusal>) -> u64
     ensures { result ≡ verdict_word a }
 {
     match a {
-        Answer::Refused => 0,
-        Answer::Boxed(_, v) => match v {
+        Err(_) => 0,
+        Ok(boxed) => match boxed.verdict {
             Verdict::Within => 1,
             Verdict::Crossing => 2,
             Verdict::Outside => 3,
@@ -208,17 +236,17 @@ fn word_of(a: Answer) -> u64
 }
 
 // The box; zeros on a refusal.
-fn bounds_of(a: Answer) -> Bounds
+fn bounds_of(a: Result<Boxed, Refusal>) -> Bounds
     ensures { four_words result ≡ box_words a }
 {
     match a {
-        Answer::Refused => Bounds {
+        Err(_) => Bounds {
             left: 0,
             bottom: 0,
             right: 0,
             top: 0,
         },
-        Answer::Boxed(b, _) => b,
+        Ok(boxed) => boxed.bounds,
     }
 }
 

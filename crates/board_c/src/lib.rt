@@ -3,6 +3,7 @@
 #![tactic(auto)]
 
 ghost use Rattle.std.specs.Prelude.{◌≡◌, length, replicate};
+ghost use Rattle.refusal.specs.Refusal.{number_in};
 ghost use Rattle.charstring.specs.Charstring.{decrypted, written};
 ghost use Rattle.type1.specs.Interpret.{source_of};
 ghost use Rattle.type1_to_type2.specs.Convert.{rooms_of};
@@ -98,7 +99,7 @@ pub extern "C" fn cribstork_choose_widths(
     scratch: &mut [f64],
     pair: &mut [f64; 2],
 ) -> u64
-    ensures value { result ≡ (chosen widths.now (length scratch.old)).number }
+    ensures value { result ≡ number_in (chosen widths.now (length scratch.old)) }
     ensures pair_after { pair.new ≡ pair_of (chosen widths.now (length scratch.old)) }
     ensures scratch_after { scratch.new ≡ replicate (length scratch.old) zero_width }
 {
@@ -113,7 +114,7 @@ pub extern "C" fn cribstork_decrypt(
     out: &mut [u8],
     answer: &mut [u64; 2],
 ) -> u64
-    ensures value { result ≡ (decrypted len_iv «data».now (length out.old)).number }
+    ensures value { result ≡ number_in (decrypted len_iv «data».now (length out.old)) }
     ensures answer_after { answer.new ≡ decrypted_words (decrypted len_iv «data».now (length out.old)) }
     ensures out_after { out.new ≡ written len_iv «data».now (length out.old) }
 {

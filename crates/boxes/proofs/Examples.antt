@@ -4,10 +4,9 @@ use Rattle.type2.specs.Number.{read_from, read2}
 use Rattle.renderer.specs.Machine.{run, step, push, operator, settle, stem, reach, last_of, all_small, draw, draws, across}
 use Rattle.boxes.specs.Box.{box_from, points}
 use Rattle.boxes.specs.Window.{verdict_of}
-use Rattle.boxes.specs.Answers.{answer}
+use Rattle.boxes.specs.Answers.{refused, boxed, answer}
 use Rattle.boxes.specs.declared.Bounds.{Bounds}
 use Rattle.boxes.specs.declared.Verdict.TheVariants.{Within, Crossing, Outside}
-use Rattle.boxes.specs.declared.Answer.TheVariants.{Refused, Boxed}
 
 abbrev bounds : ℤ → ℤ → ℤ → ℤ → Bounds
 bounds l d r u = record { left = l; bottom = d; right = r; top = u }
@@ -19,49 +18,49 @@ whole l d r u = bounds (pos (l * 65536)) (pos (d * 65536)) (pos (r * 65536)) (po
 -- ---- the box
 
 -- a move to 0 0; the window is that point
-within : answer (0x8B ∷ 0x16 ∷ 0x0E ∷ []) (whole 0 0 0 0) ≡ Boxed (whole 0 0 0 0) Within
+within : answer (0x8B ∷ 0x16 ∷ 0x0E ∷ []) (whole 0 0 0 0) ≡ boxed (whole 0 0 0 0) Within
 unfolding run step read_from push operator settle reach last_of all_small draw across box_from points
 within = refl
 
 -- a move to 100 100: the start, 0 0, is no point
-outside : answer (0xEF ∷ 0xEF ∷ 0x15 ∷ 0x0E ∷ []) (whole 0 0 1 1) ≡ Boxed (whole 100 100 100 100) Outside
+outside : answer (0xEF ∷ 0xEF ∷ 0x15 ∷ 0x0E ∷ []) (whole 0 0 1 1) ≡ boxed (whole 100 100 100 100) Outside
 unfolding run step read_from push operator settle reach last_of all_small draw box_from points
 outside = refl
 
 -- a line to 100 100: where it starts is no point of it
-line_start : answer (0xEF ∷ 0xEF ∷ 0x05 ∷ 0x0E ∷ []) (whole 0 0 100 100) ≡ Boxed (whole 100 100 100 100) Within
+line_start : answer (0xEF ∷ 0xEF ∷ 0x05 ∷ 0x0E ∷ []) (whole 0 0 100 100) ≡ boxed (whole 100 100 100 100) Within
 unfolding run step read_from push operator settle reach last_of all_small draw draws box_from points
 line_start = refl
 
 -- a move to 0 0, a line to 5 5 and a last move to 105 5
-last_move : answer (0x8B ∷ 0x16 ∷ 0x90 ∷ 0x90 ∷ 0x05 ∷ 0xEF ∷ 0x16 ∷ 0x0E ∷ []) (whole 0 0 5 5) ≡ Boxed (whole 0 0 105 5) Crossing
+last_move : answer (0x8B ∷ 0x16 ∷ 0x90 ∷ 0x90 ∷ 0x05 ∷ 0xEF ∷ 0x16 ∷ 0x0E ∷ []) (whole 0 0 5 5) ≡ boxed (whole 0 0 105 5) Crossing
 unfolding run step read_from push operator settle reach last_of all_small draw draws across box_from points
 last_move = refl
 
 -- a curve from 0 0 to 10 0 with control points at 0 100 and 10 100
-control_points : answer (0x8B ∷ 0x16 ∷ 0x8B ∷ 0xEF ∷ 0x95 ∷ 0x8B ∷ 0x8B ∷ 0x27 ∷ 0x08 ∷ 0x0E ∷ []) (whole 0 0 10 0) ≡ Boxed (whole 0 0 10 100) Crossing
+control_points : answer (0x8B ∷ 0x16 ∷ 0x8B ∷ 0xEF ∷ 0x95 ∷ 0x8B ∷ 0x8B ∷ 0x27 ∷ 0x08 ∷ 0x0E ∷ []) (whole 0 0 10 0) ≡ boxed (whole 0 0 10 100) Crossing
 unfolding run step read_from push operator settle reach last_of all_small draw draws across box_from points
 control_points = refl
 
 -- a move to -1 -2: coordinates below 0
-below-zero : answer (0x8A ∷ 0x89 ∷ 0x15 ∷ 0x0E ∷ []) (whole 0 0 1 1) ≡ Boxed (bounds (negsuc 65535) (negsuc 131071) (negsuc 65535) (negsuc 131071)) Outside
+below-zero : answer (0x8A ∷ 0x89 ∷ 0x15 ∷ 0x0E ∷ []) (whole 0 0 1 1) ≡ boxed (bounds (negsuc 65535) (negsuc 131071) (negsuc 65535) (negsuc 131071)) Outside
 unfolding run step read_from push operator settle reach last_of all_small draw box_from points
 below-zero = refl
 
 -- bytes after the 14 are not read
-after_the_14 : answer (0x8B ∷ 0x16 ∷ 0x0E ∷ 0xEF ∷ 0x16 ∷ 0x02 ∷ []) (whole 0 0 0 0) ≡ Boxed (whole 0 0 0 0) Within
+after_the_14 : answer (0x8B ∷ 0x16 ∷ 0x0E ∷ 0xEF ∷ 0x16 ∷ 0x02 ∷ []) (whole 0 0 0 0) ≡ boxed (whole 0 0 0 0) Within
 unfolding run step read_from push operator settle reach last_of all_small draw across box_from points
 after_the_14 = refl
 
 -- ---- refused
 
 -- no point: the empty glyph, and a glyph of one stem
-no_point : (answer (0x0E ∷ []) (whole 0 0 0 0) ≡ Refused) × (answer (0x8C ∷ 0x8C ∷ 0x01 ∷ 0x0E ∷ []) (whole 0 0 0 0) ≡ Refused)
+no_point : (answer (0x0E ∷ []) (whole 0 0 0 0) ≡ refused) × (answer (0x8C ∷ 0x8C ∷ 0x01 ∷ 0x0E ∷ []) (whole 0 0 0 0) ≡ refused)
 unfolding run step read_from push operator settle stem box_from points
 no_point = (refl, refl)
 
 -- a fault: no byte, bytes that end after a move, a cut number, an unknown operator
-faults : (answer [] (whole 0 0 0 0) ≡ Refused) × (answer (0x8B ∷ 0x16 ∷ []) (whole 0 0 0 0) ≡ Refused) × (answer (0x8B ∷ 0x16 ∷ 0xF7 ∷ []) (whole 0 0 0 0) ≡ Refused) × (answer (0x8B ∷ 0x16 ∷ 0x02 ∷ 0x0E ∷ []) (whole 0 0 0 0) ≡ Refused)
+faults : (answer [] (whole 0 0 0 0) ≡ refused) × (answer (0x8B ∷ 0x16 ∷ []) (whole 0 0 0 0) ≡ refused) × (answer (0x8B ∷ 0x16 ∷ 0xF7 ∷ []) (whole 0 0 0 0) ≡ refused) × (answer (0x8B ∷ 0x16 ∷ 0x02 ∷ 0x0E ∷ []) (whole 0 0 0 0) ≡ refused)
 unfolding run step read_from read2 push operator settle reach last_of all_small draw across
 faults = (refl, refl, refl, refl)
 

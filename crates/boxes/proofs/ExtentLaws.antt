@@ -1,11 +1,11 @@
 -- Laws: the box so far, as the code holds it.
-use mathlib.Core.Path.{◌≡◌, refl, sym, ap, ap₂, ◌∙◌, subst}
-use Prim.Native.Nat.{ℕ, suc, ◌+◌, ◌-◌, ◌^◌, ◌≤◌, ◌<◌, min, max}
+use mathlib.Core.Path.{◌≡◌, refl, sym, ap, ◌∙◌, subst}
+use Prim.Native.Nat.{ℕ, suc, ◌+◌, ◌*◌, ◌/◌, ◌^◌, ◌≤◌, ◌<◌, min, max}
 use native.Mathlib.Omega.{arith}
 use mathlib.Core.Bool.{Bool, true, false, ◌&&◌, true≢false}
 use mathlib.Core.List.{List, ◌∷◌}
 use mathlib.Core.Option.{Option, none, some}
-use lib.ListN.{length, get_or}
+use lib.ListN.{length, get_or, drop, length-drop}
 use lib.Dec.{leb, ltb, leb→le, ltb→lt, nltb→le, nleb→lt}
 use lib.Signed.{le_z, mag}
 use lib.IntN.{ℤ, pos, negsuc, ◌-ℤ◌}
@@ -13,21 +13,23 @@ use mir.Syntax.{w64}
 use mir.Val.{SFits, to_z, of_z}
 use mir.ValLaws.{to_z-of_z}
 use borrow.Author.Tests.{leb-true, leb-false}
+use Rattle.std.specs.Prelude.{Option as OptionOf, Some, None, IfSome}
 use Rattle.type2.specs.Number.{zp, zm}
 use Rattle.type2.specs.Bools.{is_le, not_le, is_lt, choose}
 use Rattle.type2.specs.Signed.{sub_bal}
 use Rattle.renderer.specs.Machine.{Point, reach, all_small}
-use Rattle.renderer.specs.Reader.{coordinate, point_at, is_near}
-use Rattle.renderer.specs.Reader.{Near, part}
-use Rattle.renderer.proofs.ReaderLaws.{near_of, small_is, reach_more, reach_done}
+use Rattle.renderer.specs.Reader.{held, coordinate, point_at, is_near, Near}
+use Rattle.renderer.specs.Reads.{moved_by}
+use Rattle.renderer.specs.declared.path.Position.{Position}
+use Rattle.renderer.proofs.ReaderLaws.{near_of, near_parts, reach_done}
+use Rattle.renderer.proofs.PathLaws.{all_more, first_pair}
 use Rattle.boxes.specs.Box.{lesser, greater, grow, box_from}
 use Rattle.boxes.specs.Window.{verdict_of}
-use Rattle.boxes.specs.Answers.{answer_of}
+use Rattle.boxes.specs.Answers.{refused, boxed, answer_of}
 use Rattle.boxes.specs.Extent.{extent_with, bounds_at, HoldsBox, Limited, SmallFrom, Extends}
 use Rattle.boxes.specs.declared.Bounds.{Bounds}
 use Rattle.boxes.specs.declared.Extent.{Extent}
 use Rattle.boxes.specs.declared.Verdict.{Verdict}
-use Rattle.boxes.specs.declared.Answer.TheVariants.{Refused, Boxed}
 
 -- ---- the 2 ^ 61 taken off
 coordinate-fits : (x : ℕ) → x < 4611686018427387904 → SFits w64 (coordinate x)
@@ -77,100 +79,85 @@ near_min m n a b = let c = a.above in let d = a.below in let e = b.above in let 
 near_max : (m n : ℕ) → Near m → Near n → Near (max m n)
 near_max m n a b = let c = a.above in let d = a.below in let e = b.above in let f = b.below in record { above = omega arith; below = omega arith }
 
-first-min : (n : ℕ) → Near n → min 4611686018427387903 n ≡ n
-first-min n a = let b = a.below in omega arith
-
-first-max : (n : ℕ) → max 0 n ≡ n
-first-max n = omega arith
-
 same : {a b c d a' b' c' d' : ℤ} → a ≡ a' → b ≡ b' → c ≡ c' → d ≡ d' → ◌≡◌ {A = Bounds} (record { left = a; bottom = b; right = c; top = d }) (record { left = a'; bottom = b'; right = c'; top = d' })
 same p q r s = cc
 
-pub holds_more : (b : Option Bounds) (e : Extent) (x y : ℕ) → HoldsBox b e → Near x → Near y → HoldsBox (grow b (point_at x y)) (extent_with e x y)
-holds_more none e x y h n m =
-    rw (h, first-min x n, first-min y m, first-max x, first-max y)
-    (record { bounds = refl; across = omega arith; near_left = n; near_bottom = m; near_right = n; near_top = m })
-holds_more (some b) e x y h n m =
-    let c = h.across in
+pub holds_more : (b : Option Bounds) (e : OptionOf Extent) (p : Position) → HoldsBox b e → Near p.x → Near p.y → HoldsBox (grow b (point_at p)) (Some (extent_with e p))
+holds_more none None p h n m = record { bounds = refl; near_left = n; near_bottom = m; near_right = n; near_top = m }
+holds_more none (Some e) p h n m = absurd h
+holds_more (some b) None p h n m = absurd h
+holds_more (some b) (Some e) p h n m =
     record {
-      bounds = rw h.bounds (same (lesser_is e.left x) (lesser_is e.bottom y) (greater_is e.right x) (greater_is e.top y));
-      across = omega arith;
-      near_left = near_min e.left x h.near_left n;
-      near_bottom = near_min e.bottom y h.near_bottom m;
-      near_right = near_max e.right x h.near_right n;
-      near_top = near_max e.top y h.near_top m;
+      bounds = rw h.bounds (same (lesser_is e.left p.x) (lesser_is e.bottom p.y) (greater_is e.right p.x) (greater_is e.top p.y));
+      near_left = near_min e.left p.x h.near_left n;
+      near_bottom = near_min e.bottom p.y h.near_bottom m;
+      near_right = near_max e.right p.x h.near_right n;
+      near_top = near_max e.top p.y h.near_top m;
     }
 
--- ---- the loop: what is left from i on, with the box so far, gives the whole
-pub record Grows (o : List ℕ) (first end x0 y0 : ℕ) (from e : Extent) (x y i : ℕ) : Type 0 where
-  pub inside : i ≤ end
-  pub near_x : is_near x ≡ true
-  pub near_y : is_near y ≡ true
-  pub bounds_x : Near x
-  pub bounds_y : Near y
-  pub small : all_small (reach (point_at x y) (part i end o)) ≡ true
-  pub whole : (b : Option Bounds) → HoldsBox b from → (c : Option Bounds) × (HoldsBox c e × (box_from b (reach (point_at x0 y0) (part first end o)) ≡ box_from c (reach (point_at x y) (part i end o))))
+-- ---- the loop: what is left after the first i pairs, with the box so far, gives the whole
+pub record Grows (d : List ℕ) (p0 : Position) (from e : OptionOf Extent) (p : Position) (i : ℕ) : Type 0 where
+  pub near : is_near p ≡ true
+  pub near_x : Near p.x
+  pub near_y : Near p.y
+  pub small : all_small (reach (point_at p) (held (drop (i * 2) d))) ≡ true
+  pub whole : (b : Option Bounds) → HoldsBox b from → (c : Option Bounds) × (HoldsBox c e × (box_from b (reach (point_at p0) (held d)) ≡ box_from c (reach (point_at p) (held (drop (i * 2) d)))))
 
-pub grows_first : {o : List ℕ} {first end x y : ℕ} {from : Extent} → first ≤ end → SmallFrom o first end x y → Grows o first end x y from from x y first
-grows_first {o} {first} {end} {x} {y} h s = record { inside = h; near_x = s.near_x; near_y = s.near_y; bounds_x = near_of x s.near_x; bounds_y = near_of y s.near_y; small = s.small; whole = λ b k. (b, (k, refl)) }
+pub grows_first : (d : List ℕ) (p : Position) (from : OptionOf Extent) → SmallFrom d p → Grows d p from from p 0
+grows_first d p from s =
+    let n = near_parts p s.near in
+    record { near = s.near; near_x = near_of p.x n.0; near_y = near_of p.y n.1; small = s.small; whole = λ b k. (b, (k, refl)) }
 
 box_more : (b : Option Bounds) (p : Point) (l : List Point) → box_from b (p ∷ l) ≡ box_from (grow b p) l
 unfolding box_from
 box_more b p l = refl
 
-all_parts : (x y : ℕ) (l : List Point) → all_small (point_at x y ∷ l) ≡ true → (is_near x ≡ true) × (is_near y ≡ true) × (all_small l ≡ true)
-unfolding all_small
-all_parts x y l e = go (is_near x) (is_near y) (all_small l) (ap₂ (λ (a b : Bool). (a && b) && all_small l) (sym (small_is x)) (sym (small_is y)) ∙ e)
-  where
-    go : (a b c : Bool) → ((a && b) && c) ≡ true → (a ≡ true) × (b ≡ true) × (c ≡ true)
-    go true true c e = (refl, refl, e)
-    go true false c e = absurd (true≢false (sym e))
-    go false b c e = absurd (true≢false (sym e))
+both : (a b : Bool) → (a && b) ≡ true → (a ≡ true) × (b ≡ true)
+both true b e = (refl, e)
+both false b e = absurd (true≢false (sym e))
 
-module _ {o : List ℕ} {first end x0 y0 : ℕ} {from e : Extent} {x y i : ℕ} (size : length o ≡ 48) (few : end ≤ 48) (g : Grows o first end x0 y0 from e x y i) where
-  pub grown_done : end ≤ i + 1 → Extends o first end x0 y0 from e
+module _ {d : List ℕ} {p0 : Position} {from e : OptionOf Extent} {p : Position} {i : ℕ} (g : Grows d p0 from e p i) where
+  pub grown_done : length d / 2 ≤ i → Extends d p0 from e
   unfolding box_from
   grown_done h b k =
       let w = g.whole b k in
-      subst (λ (c : Option Bounds). HoldsBox c e) (sym (w.1.1 ∙ ap (box_from w.0) (reach_done o i end x y h))) w.1.0
+      let l = length-drop (i * 2) d in
+      subst (λ (c : Option Bounds). HoldsBox c e) (sym (w.1.1 ∙ ap (box_from w.0) (reach_done p (drop (i * 2) d) (omega arith)))) w.1.0
 
-  module _ (more : i + 1 < end) {v u : ℕ} (a : v ≡ get_or o i 0) (b : u ≡ get_or o (i + 1) 0) where
-    first_of : reach (point_at x y) (part i end o) ≡ point_at (x + v - 2147483648) (y + u - 2147483648) ∷ reach (point_at (x + v - 2147483648) (y + u - 2147483648)) (part (i + 2) end o)
-    first_of = reach_more o i end x y v u more (omega arith) g.near_x g.near_y a b
+  module _ (more : i < length d / 2) {v u : ℕ} (a : v ≡ get_or d (i * 2) 0) (b : u ≡ get_or d (i * 2 + 1) 0) where
+    abbrev q : Position
+    q = moved_by p v u
 
-    parts : (is_near (x + v - 2147483648) ≡ true) × (is_near (y + u - 2147483648) ≡ true) × (all_small (reach (point_at (x + v - 2147483648) (y + u - 2147483648)) (part (i + 2) end o)) ≡ true)
-    parts = all_parts (x + v - 2147483648) (y + u - 2147483648) _ (sym (ap all_small first_of) ∙ g.small)
+    first_of : reach (point_at p) (held (drop (i * 2) d)) ≡ point_at q ∷ reach (point_at q) (held (drop ((i + 1) * 2) d))
+    first_of = first_pair d i p g.near more a b
 
-    pub grows_more : (r : Extent) → r ≡ extent_with e (x + v - 2147483648) (y + u - 2147483648) → Grows o first end x0 y0 from r (x + v - 2147483648) (y + u - 2147483648) (i + 2)
-    grows_more r t =
-        let p = parts in
-        let n = near_of (x + v - 2147483648) p.0 in
-        let m = near_of (y + u - 2147483648) p.1 in
-        rw t
-        (record {
-          inside = omega arith;
-          near_x = p.0;
-          near_y = p.1;
-          bounds_x = n;
-          bounds_y = m;
-          small = p.2;
-          whole = λ c k. further c k (g.whole c k) n m;
-        })
+    parts : (is_near q ≡ true) × (all_small (reach (point_at q) (held (drop ((i + 1) * 2) d))) ≡ true)
+    parts = both (is_near q) _ (sym (ap all_small first_of ∙ all_more q _) ∙ g.small)
+
+    pub grows_more : Grows d p0 from (Some (extent_with e q)) q (i + 1)
+    grows_more =
+        let w = parts in
+        let n = near_parts q w.0 in
+        let x = near_of q.x n.0 in
+        let y = near_of q.y n.1 in
+        record { near = w.0; near_x = x; near_y = y; small = w.1; whole = λ c k. further c k (g.whole c k) x y }
       where
-        further : (c : Option Bounds) → HoldsBox c from → (d : Option Bounds) × (HoldsBox d e × (box_from c (reach (point_at x0 y0) (part first end o)) ≡ box_from d (reach (point_at x y) (part i end o)))) → Near (x + v - 2147483648) → Near (y + u - 2147483648)
-            → (d : Option Bounds) × (HoldsBox d (extent_with e (x + v - 2147483648) (y + u - 2147483648)) × (box_from c (reach (point_at x0 y0) (part first end o)) ≡ box_from d (reach (point_at (x + v - 2147483648) (y + u - 2147483648)) (part (i + 2) end o))))
-        further c k (d, (h, q)) n m = (
-          grow d (point_at (x + v - 2147483648) (y + u - 2147483648)),
+        further : (c : Option Bounds) → HoldsBox c from → (f : Option Bounds) × (HoldsBox f e × (box_from c (reach (point_at p0) (held d)) ≡ box_from f (reach (point_at p) (held (drop (i * 2) d))))) → Near q.x → Near q.y
+            → (f : Option Bounds) × (HoldsBox f (Some (extent_with e q)) × (box_from c (reach (point_at p0) (held d)) ≡ box_from f (reach (point_at q) (held (drop ((i + 1) * 2) d)))))
+        further c k (f, (h, r)) x y = (
+          grow f (point_at q),
           (
-            holds_more d e (x + v - 2147483648) (y + u - 2147483648) h n m,
-            q ∙ ap (box_from d) first_of ∙ box_more d (point_at (x + v - 2147483648) (y + u - 2147483648)) _,
+            holds_more f e q h x y,
+            r ∙ ap (box_from f) first_of ∙ box_more f (point_at q) _,
           ),
         )
 
 -- ---- the answer
-pub limited : (b : Option Bounds) (e : Extent) → HoldsBox b e → Limited e
-limited none e h = rw h (record { left = omega arith; bottom = omega arith; right = omega arith; top = omega arith })
-limited (some b) e h =
+pub limited : (b : Option Bounds) (e : OptionOf Extent) → HoldsBox b e → IfSome e Limited
+limited none None h = tt
+limited none (Some e) h = absurd h
+limited (some b) None h = absurd h
+limited (some b) (Some e) h =
     let p = h.near_left.below in
     let q = h.near_bottom.below in
     let r = h.near_right.below in
@@ -185,12 +172,12 @@ pub bounds_are : (e : Extent) (l b r u : ℤ) → Limited e → l ≡ coordinate
     → ◌≡◌ {A = Bounds} (record { left = to_z w64 (of_z w64 l); bottom = to_z w64 (of_z w64 b); right = to_z w64 (of_z w64 r); top = to_z w64 (of_z w64 u) }) (bounds_at e)
 bounds_are e l b r u h p q s t = same (back l e.left h.left p) (back b e.bottom h.bottom q) (back r e.right h.right s) (back u e.top h.top t)
 
-pub answers_none : (e : Extent) (w : Bounds) → e.right < e.left → (b : Option Bounds) → HoldsBox b e → Refused ≡ answer_of b w
-answers_none e w h none k = refl
-answers_none e w h (some b) k = absurd (let o = k.across in let z : ⊥ = omega arith in z)
+pub answers_none : (w : Bounds) (b : Option Bounds) → HoldsBox b None → refused ≡ answer_of b w
+answers_none w none k = refl
+answers_none w (some b) k = absurd k
 
-pub answers_some : (e : Extent) (w a : Bounds) (v : Verdict) → e.left ≤ e.right → a ≡ bounds_at e → v ≡ verdict_of a w → (b : Option Bounds) → HoldsBox b e → Boxed a v ≡ answer_of b w
-answers_some e w a v h p q none k = absurd (let l : e.left ≡ 4611686018427387903 = rw k in let r : e.right ≡ 0 = rw k in let z : ⊥ = omega arith in z)
-answers_some e w a v h p q (some b) k =
+pub answers_some : (e : Extent) (w a : Bounds) (v : Verdict) → a ≡ bounds_at e → v ≡ verdict_of a w → (b : Option Bounds) → HoldsBox b (Some e) → boxed a v ≡ answer_of b w
+answers_some e w a v p q none k = absurd k
+answers_some e w a v p q (some b) k =
     let s : a ≡ b = p ∙ sym k.bounds in
     rw (q, s)

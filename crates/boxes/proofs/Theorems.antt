@@ -1,5 +1,5 @@
 -- Theorems: box, verdict and answer are what document 02, (a), says, in the terms of `Points`; and nothing else is.
-use Rattle.std.specs.Prelude.{◌≡◌, refl, ℕ, ◌↔◌, ◌⊎◌, ℤ, ◌≤ℤ◌}
+use Rattle.std.specs.Prelude.{◌≡◌, refl, ℕ, ◌↔◌, ◌⊎◌, ℤ, ◌≤ℤ◌, Ok, Err}
 use Rattle.std.proofs.Common.{sym, ap, ap₂, ◌∙◌, subst, inl, inr, T_not}
 use mathlib.Core.List.Memᴰ
 use mathlib.Core.List.{List, [], ◌∷◌, cons≢nil, Memᴰ as OneOf}
@@ -8,15 +8,13 @@ use Rattle.renderer.specs.Machine.{Point, Entry, State, Result, failed, ended, m
 use Rattle.type2.specs.Bools.{choose}
 use Rattle.boxes.specs.Box.{lesser, greater, box_from, points, box_of}
 use Rattle.boxes.specs.Window.{share, holds_all, verdict_of}
-use Rattle.boxes.specs.Answers.{answer_of, answer}
+use Rattle.boxes.specs.Answers.{Answer, refused, boxed, answer_of, answer}
 use Rattle.boxes.specs.Points.{HasPoint, IsBox, Says, NoBox, HasBox, Means}
 use Rattle.boxes.specs.Order.{≤ℤ_trans, ≤ℤ_antisymm}
 use Rattle.boxes.proofs.PointLaws.{box_of_lem, corner, corner_in, share_yes, share_of, all_yes, all_no}
 use Rattle.boxes.specs.declared.Bounds.{Bounds}
 use Rattle.boxes.specs.declared.Verdict.{Verdict}
 use Rattle.boxes.specs.declared.Verdict.TheVariants.{Within, Crossing, Outside}
-use Rattle.boxes.specs.declared.Answer.{Answer}
-use Rattle.boxes.specs.declared.Answer.TheVariants.{Refused, Boxed}
 
 -- ---- the points
 
@@ -107,13 +105,13 @@ verdict_only b w v h s = says_once b w h v (verdict_of b w) s (verdict_says b w 
 
 module _ (program : List ℕ) (w : Bounds) where
   means_of_end : (s : State) (rest : List ℕ) → machine program ≡ ended s rest → (o : Option Bounds) → box_of (ended s rest) ≡ o → Means program w (answer_of o w)
-  means_of_end s rest e none q = inr (s, rest, e, (no_box s rest).0 q)
+  means_of_end s rest e none q = (refl, inr (s, rest, e, (no_box s rest).0 q))
   means_of_end s rest e (some b) q =
       let i = box_of_drawn s rest b q in
       record { end = s; rest = rest; ran = e; box = i; verdict = verdict_says b w (box_has-point (points s.drawn) b i) }
 
   means_of : (r : Result) → machine program ≡ r → Means program w (answer_of (box_of r) w)
-  means_of failed e = inl e
+  means_of failed e = (refl, inl e)
   means_of (ended s rest) e = means_of_end s rest e (box_of (ended s rest)) refl
 
   -- for every program and window: a box is that of all points drawn, with its verdict, and a refusal is for "bytes on which the machine faults and for a glyph that draws no point"
@@ -123,35 +121,35 @@ module _ (program : List ℕ) (w : Bounds) where
   ends_once : (s : State) (k : List ℕ) (t : State) (l : List ℕ) → machine program ≡ ended s k → machine program ≡ ended t l → s ≡ t
   ends_once s k t l d e = let f : ended s k ≡ ended t l = sym d ∙ e in cc
 
-  not_both : (b : Bounds) (v : Verdict) → HasBox program w b v → NoBox program → Boxed b v ≡ Refused
-  not_both b v h (inl e) = let f : ended h.end h.rest ≡ failed = sym h.ran ∙ e in cc
+  not_both : (b : Bounds) (v : Verdict) → HasBox program w b v → NoBox program → ⊥
+  not_both b v h (inl e) = let f : ended h.end h.rest ≡ failed = sym h.ran ∙ e in let z : ⊥ = cc in z
   not_both b v h (inr (s, rest, e, n)) =
       let (p, o, q) = h.box.left in
       let same : h.end ≡ s = ends_once h.end h.rest s rest h.ran e in
-      absurd (Memᴰ.not-nil (subst (OneOf p) (ap (λ (x : State). points x.drawn) same ∙ n) o))
+      Memᴰ.not-nil (subst (OneOf p) (ap (λ (x : State). points x.drawn) same ∙ n) o)
 
   means_once : (a c : Answer) → Means program w a → Means program w c → a ≡ c
-  means_once Refused Refused s t = refl
-  means_once Refused (Boxed c v) s t = sym (not_both c v t s)
-  means_once (Boxed b u) Refused s t = not_both b u s t
-  means_once (Boxed b u) (Boxed c v) s t =
+  means_once (Err r) (Err q) s t = ap Err (s.0 ∙ sym t.0)
+  means_once (Err r) (Ok c) s t = absurd (not_both c.bounds c.verdict t s.1)
+  means_once (Ok b) (Err q) s t = absurd (not_both b.bounds b.verdict s t.1)
+  means_once (Ok b) (Ok c) s t =
       let same : s.end ≡ t.end = ends_once s.end s.rest t.end t.rest s.ran t.ran in
-      let i : IsBox (points t.end.drawn) b = subst (λ (x : State). IsBox (points x.drawn) b) same s.box in
-      let e = box_once (points t.end.drawn) b c i t.box in
-      ap₂ Boxed e (says_once c w (box_has-point (points t.end.drawn) c t.box) u v (subst (λ (x : Bounds). Says x w u) e s.verdict) t.verdict)
+      let i : IsBox (points t.end.drawn) b.bounds = subst (λ (x : State). IsBox (points x.drawn) b.bounds) same s.box in
+      let e = box_once (points t.end.drawn) b.bounds c.bounds i t.box in
+      ap₂ boxed e (says_once c.bounds w (box_has-point (points t.end.drawn) c.bounds t.box) b.verdict c.verdict (subst (λ (x : Bounds). Says x w b.verdict) e s.verdict) t.verdict)
 
   -- no other answer is so
   pub answer_only : (a : Answer) → Means program w a → a ≡ answer program w
   answer_only a m = means_once a (answer program w) m answer_says
 
   -- the same of a program whose run is known
-  pub boxed_says : (s : State) (rest : List ℕ) (b : Bounds) (v : Verdict) → machine program ≡ ended s rest → answer program w ≡ Boxed b v → IsBox (points s.drawn) b × Says b w v
+  pub boxed_says : (s : State) (rest : List ℕ) (b : Bounds) (v : Verdict) → machine program ≡ ended s rest → answer program w ≡ boxed b v → IsBox (points s.drawn) b × Says b w v
   boxed_says s rest b v e a =
       let h : HasBox program w b v = subst (Means program w) a answer_says in
       (subst (λ (x : State). IsBox (points x.drawn) b) (ends_once h.end h.rest s rest h.ran e) h.box, h.verdict)
 
-  pub refused_exactly : (s : State) (rest : List ℕ) → machine program ≡ ended s rest → (answer program w ≡ Refused) ↔ (points s.drawn ≡ [])
-  refused_exactly s rest e = (λ a. drew_none (subst (Means program w) a answer_says), λ n. sym (answer_only Refused (inr (s, rest, e, n))))
+  pub refused_exactly : (s : State) (rest : List ℕ) → machine program ≡ ended s rest → (answer program w ≡ refused) ↔ (points s.drawn ≡ [])
+  refused_exactly s rest e = (λ a. drew_none (subst (Means program w) a answer_says).1, λ n. sym (answer_only refused (refl, inr (s, rest, e, n))))
     where
       drew_none : NoBox program → points s.drawn ≡ []
       drew_none (inl f) = let d : failed ≡ ended s rest = sym f ∙ e in cc

@@ -1,56 +1,19 @@
 -- Laws: a box and a window, as the code compares them.
-use mathlib.Core.Path.{◌≡◌, refl, sym, ap, ap₂, ◌∙◌}
-use Prim.Native.Nat.{ℕ}
+use mathlib.Core.Path.{◌≡◌, refl, ◌∙◌}
 use mathlib.Core.Bool.{Bool, true, false, not, ◌&&◌, ◌||◌, cond}
-use lib.Dec.{leb, ltb}
-use lib.Signed.{lt_z, le_z}
-use lib.IntN.{ℤ, pos, negsuc}
+use lib.Signed.{le_z}
+use lib.IntN.{ℤ}
 use mir.Syntax.{w64}
 use mir.Val.{SFits, to_z, of_z}
 use mir.ValLaws.{to_z-of_z}
-use borrow.Author.Tests.{not-true, not-false, ltb-true, ltb-false}
-use Rattle.type2.specs.Bools.{is_le, not_le}
 use Rattle.boxes.specs.Window.{meet, holds_all, verdict_of}
 use Rattle.boxes.specs.declared.Bounds.{Bounds}
 use Rattle.boxes.specs.declared.Verdict.{Verdict}
 use Rattle.boxes.specs.declared.Verdict.TheVariants.{Within, Crossing, Outside}
 
-lt_not_le : (m n : ℕ) → ltb m n ≡ not (leb n m)
-lt_not_le m n = go (ltb m n) refl
-  where
-    go : (x : Bool) → ltb m n ≡ x → x ≡ not (leb n m)
-    go true e = rw (not_le n m (ltb-true m n e))
-    go false e = rw (is_le n m (ltb-false m n e))
-
-lt_is : (a b : ℤ) → lt_z a b ≡ not (le_z b a)
-lt_is (pos m) (pos n) = lt_not_le m n
-lt_is (pos m) (negsuc n) = refl
-lt_is (negsuc m) (pos n) = refl
-lt_is (negsuc m) (negsuc n) = lt_not_le n m
-
 -- a signed number that a local has held
 abbrev again : ℤ → ℤ
 again z = to_z w64 (of_z w64 z)
-
-pub below_is : (a b : ℤ) → SFits w64 a → SFits w64 b → lt_z (again a) (again b) ≡ not (le_z b a)
-below_is a b h k = ap₂ lt_z (to_z-of_z w64 a h) (to_z-of_z w64 b k) ∙ lt_is a b
-
--- what a call of `below` said of two numbers that locals held
-pub said : (a b : ℤ) (x : Bool) → SFits w64 a → SFits w64 b → x ≡ not (le_z (again a) (again b)) → x ≡ not (le_z a b)
-said a b x h k e = e ∙ ap not (ap₂ le_z (to_z-of_z w64 a h) (to_z-of_z w64 b k))
-
-pub said_no : (a b : ℤ) (x : Bool) → SFits w64 a → SFits w64 b → x ≡ not (le_z (again a) (again b)) → x ≡ false → le_z a b ≡ true
-said_no a b x h k e t = not-false (le_z a b) (sym (said a b x h k e) ∙ t)
-
-pub said_yes : (a b : ℤ) (x : Bool) → SFits w64 a → SFits w64 b → x ≡ not (le_z (again a) (again b)) → x ≡ true → le_z a b ≡ false
-said_yes a b x h k e t = not-true (le_z a b) (sym (said a b x h k e) ∙ t)
-
-not_not : (x y : Bool) → x ≡ not y → not x ≡ y
-not_not x true e = ap not e
-not_not x false e = ap not e
-
-pub said_not : (a b : ℤ) (x : Bool) → SFits w64 a → SFits w64 b → x ≡ not (le_z (again a) (again b)) → not x ≡ le_z a b
-said_not a b x h k e = not_not x (le_z a b) (said a b x h k e)
 
 -- ---- both spans
 -- what `apart` and `inside` said of numbers that locals held

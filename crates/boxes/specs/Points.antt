@@ -1,13 +1,13 @@
 -- Definitions: what box, verdict and answer mean of points, in document 02's words, (a). `Theorems` proves it of `box_of`, `verdict_of` and `answer`.
-use Rattle.std.specs.Prelude.{ℕ, ◌≡◌, ◌⊎◌, ◌≤ℤ◌}
+use Rattle.std.specs.Prelude.{ℕ, ◌≡◌, ◌⊎◌, ◌≤ℤ◌, Ok, Err}
 use mathlib.Core.List.{List, [], Memᴰ as OneOf}
 use Rattle.renderer.specs.Machine.{Point, State, failed, ended, machine}
 use Rattle.boxes.specs.Box.{points}
 use Rattle.boxes.specs.declared.Bounds.{Bounds}
 use Rattle.boxes.specs.declared.Verdict.{Verdict}
 use Rattle.boxes.specs.declared.Verdict.TheVariants.{Within, Crossing, Outside}
-use Rattle.boxes.specs.declared.Answer.{Answer}
-use Rattle.boxes.specs.declared.Answer.TheVariants.{Refused, Boxed}
+use Rattle.refusal.specs.declared.Refusal.TheVariants.{NothingDrawn}
+use Rattle.boxes.specs.Answers.{Answer}
 
 -- p is a point of the box or window b: each coordinate lies between the least and the greatest, "touching edges included"
 abbrev pub In : Point → Bounds → Type 0
@@ -48,6 +48,7 @@ pub record HasBox (program : List ℕ) (w b : Bounds) (v : Verdict) : Type 0 whe
   pub box : IsBox (points end.drawn) b
   pub verdict : Says b w v
 
+-- the one refusal is 21
 abbrev pub Means : List ℕ → Bounds → Answer → Type 0
-Means program w Refused = NoBox program
-Means program w (Boxed b v) = HasBox program w b v
+Means program w (Err r) = (r ≡ NothingDrawn) × NoBox program
+Means program w (Ok a) = HasBox program w a.bounds a.verdict

@@ -1,8 +1,6 @@
 -- Definitions: a cursor that decrypts as it reads. Document 01, "Cipher" and "Forms of the Rust that need another" (a cursor with the running key).
-use Rattle.std.specs.Prelude.{◌≡◌, ℕ, ◌+◌, ◌<◌, true, false, cond, List, [], ◌∷◌, length, take, drop, ◌==◌, slice_index}
+use Rattle.std.specs.Prelude.{◌≡◌, ℕ, ◌+◌, ◌<◌, true, false, cond, Option, None, Some, List, [], ◌∷◌, length, take, drop, ◌==◌, slice_index}
 use Rattle.charstring.specs.declared.Cursor.{Cursor}
-use Rattle.charstring.specs.declared.Read.{Read}
-use Rattle.charstring.specs.declared.Read.TheVariants.{Byte, End}
 use Rattle.charstring.specs.Cipher.{start_key, step, byte_of, decrypt, key_after, not_encrypted}
 
 -- the plain bytes still to come from a cursor
@@ -25,12 +23,12 @@ after k code =
 unfoldable pub byte_at : Cursor → List ℕ → ℕ
 byte_at k code = byte_of (slice_index code k.at) k.key k.encrypted
 
--- the first of the bytes still to come, with the cursor after it; the end where none is to come
-abbrev pub first_of : List ℕ → Cursor → Read
-first_of [] k = End
-first_of (b ∷ bs) k = Byte b k
+-- the first of the bytes still to come, with the cursor after it; `None` where none is to come
+abbrev pub first_of : List ℕ → Cursor → Option (ℕ × Cursor)
+first_of [] k = None
+first_of (b ∷ bs) k = Some (b, k)
 
-unfoldable pub read : Cursor → List ℕ → Read
+unfoldable pub read : Cursor → List ℕ → Option (ℕ × Cursor)
 read k code = first_of (rest k code) (after k code)
 
 -- what a read of the byte b, with the cursor next after it, says: the list of bytes still to come is one shorter

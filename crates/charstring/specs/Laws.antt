@@ -8,7 +8,7 @@
 --     read_more, read_none           the cursor's place says what is read
 --     plain_not_encrypted, plain-none, plain-length    the strip of the first lenIV bytes
 --     rest-bytes, plain-bytes        what is read are bytes
-use Rattle.std.specs.Prelude.{◌≡◌, ℕ, zero, suc, ◌+◌, ◌-◌, ◌*◌, ◌/◌, ◌%◌, ◌<◌, ◌≤◌, Bool, true, false, cond, ◌⊎◌, List, [], ◌∷◌, ◌++◌, length, take, drop, ◌==◌, ◌≢◌, nat_lt, slice_index}
+use Rattle.std.specs.Prelude.{◌≡◌, ℕ, zero, suc, ◌+◌, ◌-◌, ◌*◌, ◌/◌, ◌%◌, ◌<◌, ◌≤◌, Bool, true, false, cond, Some, None, ◌⊎◌, List, [], ◌∷◌, ◌++◌, length, take, drop, ◌==◌, ◌≢◌, nat_lt, slice_index}
 use Rattle.std.proofs.Math.Nat.{mod-add-mod, mul-add-mod_self_left}
 use Rattle.std.proofs.Common.{add-one, arith, inl, inr, ltb-true, ltb-false, ne_eqb, sym, ◌∙◌, lit<, length-take, get_or-drop}
 use Rattle.std.proofs.Math.Logic.{⊎_elim}
@@ -17,7 +17,6 @@ use Rattle.std.proofs.lemmas.Nat.{xor_lt}
 use Rattle.std.proofs.Math.ListN.{length-drop, drop_of_length-le}
 use Rattle.std.proofs.Math.Seq.{drop-cons}
 use Rattle.charstring.specs.declared.Cursor.{Cursor}
-use Rattle.charstring.specs.declared.Read.TheVariants.{Byte, End}
 use Rattle.charstring.specs.Cipher.{Bytes, start_key, step, key_part, plain_byte, decrypt, key_after, not_encrypted, plain}
 use Rattle.charstring.specs.Cursor.{rest, start, after, byte_at, read, Passed}
 
@@ -120,33 +119,34 @@ module _ (k : Cursor) (code : List ℕ) where
       by_mode false = refl
 
   -- what reading gives, by the cursor's place
-  pub read_more : k.at < length code → read k code ≡ Byte (byte_at k code) (after k code)
+  pub read_more : k.at < length code → read k code ≡ Some (byte_at k code, after k code)
   unfolding read
   read_more h = rw (rest_more h)
 
-  pub read_none : length code ≤ k.at → read k code ≡ End
+  pub read_none : length code ≤ k.at → read k code ≡ None
   unfolding read
   read_none h = rw (rest-none h)
 
   -- what reading found says of the bytes still to come
-  pub read_byte : {b : ℕ} {next : Cursor} → read k code ≡ Byte b next → Passed k code b next
+  pub read_byte : {b : ℕ} {next : Cursor} → read k code ≡ Some (b, next) → Passed k code b next
   unfolding after
   read_byte {b} {next} e = ⊎_elim within (λ h. absurd (beyond h)) (below_or_not k.at (length code))
     where
       within : k.at < length code → Passed k code b next
       within h =
-          let p : byte_at k code ≡ b = cc (read_more h, e) in
-          let q : next ≡ after k code = cc (read_more h, e) in
+          let same : (byte_at k code, after k code) ≡ (b, next) = cc (read_more h, e) in
+          let p : byte_at k code ≡ b = ap (λ (x : ℕ × Cursor). x.0) same in
+          let q : next ≡ after k code = sym (ap (λ (x : ℕ × Cursor). x.1) same) in
           record { within = h; place = ap (λ (x : Cursor). x.at) q; same = q; bytes = rw (p, ← q) at (rest_more h) }
 
       beyond : length code ≤ k.at → ⊥
       beyond h = let z : ◌≡◌ {A = ℕ} 0 1 = cc (read_none h, e) in omega arith
 
-  pub read_end : read k code ≡ End → rest k code ≡ []
+  pub read_end : read k code ≡ None → rest k code ≡ []
   read_end e = ⊎_elim (λ h. cc (read_more h, e)) rest-none (below_or_not k.at (length code))
 
   -- the other way: the list of bytes still to come says what reading finds
-  pub read_first : {b : ℕ} {bs : List ℕ} → rest k code ≡ b ∷ bs → (read k code ≡ Byte b (after k code)) × (rest (after k code) code ≡ bs)
+  pub read_first : {b : ℕ} {bs : List ℕ} → rest k code ≡ b ∷ bs → (read k code ≡ Some (b, after k code)) × (rest (after k code) code ≡ bs)
   unfolding read
   read_first {b} {bs} e = (rw e, ⊎_elim within beyond (below_or_not k.at (length code)))
     where
@@ -156,7 +156,7 @@ module _ (k : Cursor) (code : List ℕ) where
       beyond : length code ≤ k.at → rest (after k code) code ≡ bs
       beyond h = cc (rest-none h, e)
 
-  pub read_last : rest k code ≡ [] → read k code ≡ End
+  pub read_last : rest k code ≡ [] → read k code ≡ None
   unfolding read
   read_last e = rw e
 

@@ -1,10 +1,12 @@
 //! The Type 1 charstring cipher: its key step, a cursor that decrypts as it reads, and a whole charstring decrypted.
 #![tactic(auto)]
 
-ghost use Rattle.std.specs.Prelude.{◌≡◌, ◌*◌, ◌%◌, ◌^◌, ◌≤◌, true, length, take};
-ghost use Rattle.charstring.specs.Cipher.{start_key, step, key_part, plain_byte, byte_of, key_after};
-ghost use Rattle.charstring.specs.Cursor.{start, rest, read};
-ghost use Rattle.charstring.specs.Charstring.{Copied, decrypted, written};
+ghost use Rattle.std.specs.Prelude.{◌≡◌, ◌*◌, ◌%◌, ◌^◌, ◌≤◌, ◌++◌, length, drop, cond};
+ghost use Rattle.charstring.specs.Cipher.{start_key, step, key_part, plain_byte, byte_of, key_after, decrypt};
+ghost use Rattle.charstring.specs.Cursor.{start, read};
+ghost use Rattle.charstring.specs.Charstring.{decrypted, written};
+
+use refusal::Refusal;
 
 // The most charstring bytes that one glyph may run.
 pub const MAX_CHARSTRING_BYTES: usize = 1_048_576;
@@ -18,9 +20,7 @@ const KEY_FACTOR: u16 = 52845;
 
 const KEY_TERM: u16 = 22719;
 
-const OUTPUT_SHORT: u64 = 18;
-
-// a * b, modulo 2^16.
+// a * b, modulo 2^16: document 01 asks for a helper, over std's wrapping add.
 fn wrapping_mul_u16(a: u16, b: u16) -> u16
     ensures { result ≡ (a * b) % 2 ^ 16 }
 {
@@ -64,29 +64,15 @@ pub struct Cursor {
     pub encrypted: bool,
 }
 
-// What a cursor reads: a plain byte and the cursor after it, or the end.
-#[derive(Clone, Copy)]
-pub enum Read {
-    Byte(u8, Cursor),
-    End,
-}
-
-// The cursor after the first count bytes of an encrypted charstring.
-fn skip(code: &[u8], count: usize) -> Cursor
-    requires { count ≤ length code.now }
-    ensures { (result.at ≡ count) × (result.key ≡ key_after start_key (take count code.now)) × (result.encrypted ≡ true) }
+// The key after cipher bytes, from the start key on.
+fn key_past(bytes: &[u8]) -> u16
+    ensures { result ≡ key_after start_key bytes.now }
 {
-    let mut at: usize = 0;
     let mut key = START_KEY;
-    while at < count {
-        key = next_key(code[at], key);
-        at += 1;
+    for &c in bytes {
+        key = next_key(c, key);
     }
-    Cursor {
-        at,
-        key,
-        encrypted: true,
-    }
+    key
 }
 
 impl Cursor {
@@ -101,87 +87,83 @@ impl Cursor {
                 encrypted: false,
             };
         }
-        if len_iv < code.len() {
-            skip(code, len_iv)
-        } else {
-            skip(code, code.len())
+        let at = len_iv.min(code.len());
+        Cursor {
+            at,
+            key: key_past(&code[..at]),
+            encrypted: true,
         }
     }
 
-    // The next plain byte.
-    pub fn next(self, code: &[u8]) -> Read
+    // The next plain byte and the cursor after it; `None` at the end.
+    pub fn next(self, code: &[u8]) -> Option<(u8, Cursor)>
         ensures { result ≡ read self code.now }
     {
-        let at = self.at;
-        if code.len() <= at {
-            return Read::End;
-        }
-        let c = code[at];
-        let key = self.key;
-        if self.encrypted {
-            let b = plain_byte(c, key);
-            Read::Byte(
-                b,
-                Cursor {
-                    at: at + 1,
-                    key: next_key(c, key),
-                    encrypted: true,
-                },
-            )
+        let c = *code.get(self.at)?;
+        let b = byte_of(c, self.key, self.encrypted);
+        let key = if self.encrypted {
+            next_key(c, self.key)
         } else {
-            Read::Byte(
-                c,
-                Cursor {
-                    at: at + 1,
-                    key,
-                    encrypted: false,
-                },
-            )
-        }
-    }
-}
-
-// Writes the bytes still to come from a cursor to the front of out; answers how many there are.
-fn copy_rest(code: &[u8], cursor: Cursor, out: &mut [u8]) -> usize
-    requires { length (rest cursor code.now) ≤ length out.old }
-    ensures { Copied (rest cursor code.now) out.old out.new result }
-{
-    let mut k = cursor;
-    let mut i: usize = 0;
-    loop {
-        let Read::Byte(b, after) = k.next(code) else {
-            return i;
+            self.key
         };
-        out[i] = b;
-        k = after;
-        i += 1;
+        Some((
+            b,
+            Cursor {
+                at: self.at + 1,
+                key,
+                encrypted: self.encrypted,
+            },
+        ))
     }
 }
 
-#[derive(Clone, Copy)]
-pub struct Decrypted {
-    pub number: u64,
-    pub length: usize,
+// Writes the plain bytes of cipher bytes, from a key on, to the front of out.
+fn copy_plain(bytes: &[u8], start: u16, out: &mut [u8])
+    requires { length bytes.now ≤ length out.old }
+    ensures { out.new ≡ decrypt start bytes.now ++ drop (length bytes.now) out.old }
+{
+    let mut key = start;
+    for (i, &c) in bytes.iter().enumerate() {
+        out[i] = plain_byte(c, key);
+        key = next_key(c, key);
+    }
 }
 
-// The plain bytes of a charstring, then zeros. Where the output is short: number 18, and zeros only.
-pub fn decrypt_charstring(data: &[u8], len_iv: usize, out: &mut [u8]) -> Decrypted
-    ensures { (result ≡ decrypted len_iv «data».now (length out.old))
-        × (out.new ≡ written len_iv «data».now (length out.old)) }
+// Bytes copied one by one: the archive has no `memmove` to call.
+fn copy(from: &[u8], to: &mut [u8])
+    requires { length to.old ≡ length from.now }
+    ensures { to.new ≡ from.now }
+{
+    for (i, &b) in from.iter().enumerate() {
+        to[i] = b;
+    }
+}
+
+// The bytes still to come from a cursor, to the front of out.
+fn copy_rest(bytes: &[u8], cursor: Cursor, out: &mut [u8])
+    requires { length bytes.now ≤ length out.old }
+    ensures { out.new ≡ cond cursor.encrypted (decrypt cursor.key bytes.now) bytes.now ++ drop (length bytes.now) out.old }
+{
+    if cursor.encrypted {
+        copy_plain(bytes, cursor.key, out);
+    } else {
+        copy(bytes, &mut out[..bytes.len()]);
+    }
+}
+
+// Writes the plain bytes of a charstring, then zeros; answers how many plain bytes there are. Where the output is
+// short: zeros only.
+pub fn decrypt_charstring(data: &[u8], len_iv: usize, out: &mut [u8]) -> Result<usize, Refusal>
+    ensures value { result ≡ decrypted len_iv «data».now (length out.old) }
+    ensures out_after { out.new ≡ written len_iv «data».now (length out.old) }
 {
     let cursor = Cursor::new(data, len_iv);
-    let length = data.len() - cursor.at;
-    if out.len() < length {
+    let bytes = &data[cursor.at..];
+    if out.len() < bytes.len() {
         stores::zero_from(out, 0);
-        return Decrypted {
-            number: OUTPUT_SHORT,
-            length: 0,
-        };
+        return Err(Refusal::OutputShort);
     }
-    let end = copy_rest(data, cursor, out);
-    stores::zero_from(out, end);
-    Decrypted {
-        number: 0,
-        length: end,
-    }
+    copy_rest(bytes, cursor, out);
+    stores::zero_from(out, bytes.len());
+    Ok(bytes.len())
 }

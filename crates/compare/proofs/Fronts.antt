@@ -1,11 +1,8 @@
 -- Laws: a list that agrees at each index with a front, and past its end with one value, is that front and then that value.
-use mathlib.Core.Path.{◌≡◌, refl, sym, ap, ◌∙◌, subst}
-use mathlib.Core.Bool.{Bool, true, false}
+use mathlib.Core.Path.{◌≡◌, refl, sym, ap, ◌∙◌}
 use Prim.Native.Nat.{ℕ, zero, suc, ◌+◌, ◌-◌, ◌≤◌, ◌<◌}
 use native.Mathlib.Nat.{not-suc-le-zero, le_of_suc-le-suc}
 use native.Mathlib.Omega.{arith}
-use borrow.Author.Tests.{eqb-true, eqb-false}
-use lib.Dec.{eqb}
 use mathlib.Core.List.{List, [], ◌∷◌, ◌++◌}
 use lib.ListN.{length, get_or, replicate, length-append, length-replicate, get_or-replicate}
 use lib.Seq.{ext_get_or}
@@ -38,11 +35,3 @@ module _ {A : Type 0} where
   get_d_any [] i d e h = absurd (not-suc-le-zero h)
   get_d_any (x ∷ xs) zero d e h = refl
   get_d_any (x ∷ xs) (suc i) d e h = get_d_any xs i d e (le_of_suc-le-suc h)
-
--- what holds below i and at i holds below i + 1
-pub one_more : (P : ℕ → Type 0) (i : ℕ) → ((k : ℕ) → k < i → P k) → P i → (k : ℕ) → k < i + 1 → P k
-one_more P i h p k l = go (eqb k i) refl
-  where
-    go : (b : Bool) → eqb k i ≡ b → P k
-    go true e = subst P (sym (eqb-true k i e)) p
-    go false e = let n = eqb-false k i e in h k (omega arith)

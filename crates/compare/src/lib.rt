@@ -26,28 +26,27 @@ pub fn same(x: f64, y: f64) -> bool
     ensures { Tells result (x ≡ y) }
 {
     if x == y {
-        return if x == 0.0 { 1.0 / x == 1.0 / y } else { true };
+        x != 0.0 || 1.0 / x == 1.0 / y
+    } else {
+        x != x && y != y
     }
-    if x == x { false } else { y != y }
 }
 
 // The byte at a place; rest beyond the end.
 fn byte_or(front: &[u8], at: usize, rest: u8) -> u8
     ensures { result ≡ get_or front.now at rest }
 {
-    if at < front.len() { front[at] } else { rest }
+    front.get(at).copied().unwrap_or(rest)
 }
 
 // The bytes of out are those of front, then each is rest.
 pub fn holds(out: &[u8], front: &[u8], rest: u8) -> bool
     ensures { Tells result (out.now ≡ padded front.now rest (length out.now)) }
 {
-    let mut i: usize = 0;
-    while i < out.len() {
-        if out[i] != byte_or(front, i, rest) {
+    for (i, &b) in out.iter().enumerate() {
+        if b != byte_or(front, i, rest) {
             return false;
         }
-        i += 1;
     }
     front.len() <= out.len()
 }
@@ -63,12 +62,10 @@ fn zero_or(n: usize, at: usize, rest: f64) -> f64
 pub fn is_cleared(xs: &[f64], n: usize, rest: f64) -> bool
     ensures { Tells result (xs.now ≡ padded (replicate n plus_zero) rest (length xs.now)) }
 {
-    let mut i: usize = 0;
-    while i < xs.len() {
-        if !same(xs[i], zero_or(n, i, rest)) {
+    for (i, &x) in xs.iter().enumerate() {
+        if !same(x, zero_or(n, i, rest)) {
             return false;
         }
-        i += 1;
     }
     n <= xs.len()
 }

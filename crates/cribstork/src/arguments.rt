@@ -1,38 +1,26 @@
 // The program's arguments, as bytes.
-ghost use Rattle.std.specs.Prelude.{◌≡◌, ◌≤◌, length};
-
+use std::alloc::{AllocError, Global};
 use std::env::{Env, FillError};
 
-// Zeros, with room for an argument.
-pub(crate) fn buffer() -> [u8; 4096]
-    ensures { 4096 ≡ length result }
-{
-    [0; 4096]
-}
-
-// Puts argument i at the start of a buffer. The answer is its length; 0 where it is missing or longer than the buffer.
-pub(crate) fn read(rt: &HostRuntime, i: usize, buf: &mut [u8]) -> usize
-    ensures { result ≤ length buf.new }
-{
-    match rt.arg(i, buf) {
-        Ok(n) => n,
-        Err(_) => 0,
+// Argument i; None after the last. One of more than 4096 bytes is read as an empty one. std's `env::args` takes
+// UTF-8 alone, and a path may have any bytes.
+fn argument(rt: &impl Env, alloc: Global, i: usize) -> Result<Option<Vec<u8>>, AllocError> {
+    let mut buf = [0u8; 4096];
+    match rt.arg(i, &mut buf) {
+        Ok(n) => Ok(Some(Vec::from_slice(alloc, &buf[..n])?)),
+        Err(FillError::TooLong) => Ok(Some(Vec::new(alloc))),
+        Err(FillError::NotPresent) => Ok(None),
     }
 }
 
-fn is_there(rt: &HostRuntime, i: usize) -> bool {
-    match rt.arg(i, &mut []) {
-        Err(FillError::NotPresent) => false,
-        _ => true,
+// The arguments after the program's name.
+pub(crate) fn read(rt: &impl Env, alloc: Global) -> Result<Vec<Vec<u8>>, AllocError> {
+    let mut all = Vec::new(alloc);
+    for i in 1..usize::MAX {
+        let Some(word) = argument(rt, alloc, i)? else {
+            break;
+        };
+        all.push(word)?;
     }
-}
-
-// How many arguments there are, the program's name among them.
-pub(crate) fn count(rt: &HostRuntime) -> usize {
-    for n in 0..usize::MAX {
-        if !is_there(rt, n) {
-            return n;
-        }
-    }
-    usize::MAX
+    Ok(all)
 }

@@ -1,135 +1,74 @@
 // What is asked of the charstrings of a font: none is shorter than lenIV, and none is a multiple-master font's.
-use crate::bytes::{less, listed, span_at, span_len, word};
-use crate::trouble;
-use crate::trouble::Trouble;
+use crate::bytes::Span;
+use crate::font::Font;
+use crate::trouble::{Trouble, What};
+use std::alloc::Global;
 
-// The first of the listed charstrings that is shorter than lenIV; as many as there are where none is. One
-// that is not defined has no bytes and is passed over.
-fn first_short(list: &[u64], count: usize, len_iv: usize) -> usize {
-    let mut i: usize = 0;
-    while i < count {
-        let s = word(list, i);
-        if s != 0 && span_len(s) < len_iv {
-            return i;
-        }
-        i += 1;
-    }
-    count
-}
-
-fn shortest(len_iv: usize) -> usize {
-    if len_iv == usize::MAX {
-        return 0;
-    }
-    len_iv
-}
-
-// Where a charstring stands in a number's bytes: how many of them are still to come, the number, and whether
-// an escape stands before the next byte.
+// Where a charstring stands before a byte: between numbers and operators, with the number that stands there if
+// it is one of a few; in a number, with so many bytes to come; or after an escape, with the number before it.
 #[derive(Clone, Copy)]
-struct Scan {
-    left: usize,
-    number: u8,
-    escape: bool,
+enum Scan {
+    Plain { number: u8 },
+    Number { left: usize },
+    Escape { number: u8 },
 }
 
-fn scan_of(left: usize, number: u8, escape: bool) -> Scan {
-    Scan {
-        left,
-        number,
-        escape,
+impl Scan {
+    // The state after a plain byte (T1 6.2, 6.3).
+    fn after(self, b: u8) -> Scan {
+        match (self, b) {
+            (Scan::Number { left }, _) if left > 1 => Scan::Number { left: left - 1 },
+            (Scan::Number { .. }, _) => Scan::Plain { number: b },
+            (Scan::Escape { .. }, _) => Scan::Plain { number: 0 },
+            (Scan::Plain { number }, 12) => Scan::Escape { number },
+            (_, 255) => Scan::Number { left: 4 },
+            (_, 247..=254) => Scan::Number { left: 1 },
+            _ => Scan::Plain {
+                number: b.saturating_sub(139),
+            },
+        }
     }
-}
 
-// The state after a plain byte (T1 6.2, 6.3).
-fn scanned(s: Scan, b: u8) -> Scan {
-    if s.left > 0 {
-        return scan_of(less(s.left, 1), if s.left == 1 { b } else { 0 }, false);
+    // A callothersubr of 14 to 18 ends here.
+    fn calls_blend(self, b: u8) -> bool {
+        matches!((self, b), (Scan::Escape { number: 14..=18 }, 16))
     }
-    if s.escape || b < 32 && b != 12 {
-        return scan_of(0, 0, false);
-    }
-    if b == 12 {
-        return scan_of(0, s.number, true);
-    }
-    if b == 255 {
-        return scan_of(4, 0, false);
-    }
-    if b > 246 {
-        return scan_of(1, 0, false);
-    }
-    scan_of(0, if b > 139 { b - 139 } else { 0 }, false)
-}
-
-// A callothersubr of 14 to 18 ends here.
-fn calls_blend(s: Scan, b: u8) -> bool {
-    s.left == 0 && s.escape && b == 16 && 14 <= s.number && s.number <= 18
 }
 
 // The charstring calls one of OtherSubrs 14 to 18, by a number that stands before the call.
 fn blends(code: &[u8], len_iv: usize) -> bool {
-    let mut c = charstring::Cursor::new(code, len_iv);
-    let mut s = scan_of(0, 0, false);
-    let mut turns = code.len();
-    while turns > 0 {
-        turns -= 1;
-        let charstring::Read::Byte(b, after) = c.next(code) else {
+    let mut cursor = charstring::Cursor::new(code, len_iv);
+    let mut scan = Scan::Plain { number: 0 };
+    for _ in 0..code.len() {
+        let Some((b, after)) = cursor.next(code) else {
             return false;
         };
-        if calls_blend(s, b) {
+        if scan.calls_blend(b) {
             return true;
         }
-        s = scanned(s, b);
-        c = after;
+        scan = scan.after(b);
+        cursor = after;
     }
     false
 }
 
-// The first of the listed charstrings that calls one of them; as many as there are where none does.
-fn first_blend(v: &[u8], list: &[u64], count: usize, len_iv: usize) -> usize {
-    let mut i: usize = 0;
-    while i < count {
-        if blends(listed(v, list, i), len_iv) {
-            return i;
-        }
-        i += 1;
+// What is wrong with charstrings: one is too short, or blends.
+fn check_all(font: &Font<'_>, codes: &[Span], short: What) -> Result<(), Trouble> {
+    let least = font.head.len_iv.unwrap_or(0);
+    if let Some(code) = codes.iter().find(|code| code.len < least) {
+        return Err(short.at(code.at));
     }
-    count
-}
-
-fn found_at(list: &[u64], i: usize, count: usize, what: usize) -> Trouble {
-    if i >= count {
-        return trouble::none();
+    let len_iv = font.len_iv();
+    if let Some(code) = codes.iter().find(|code| blends(code.of(font.text), len_iv)) {
+        return Err(What::Blends.at(code.at));
     }
-    trouble::seen(what, span_at(word(list, i)))
-}
-
-// What is wrong with listed charstrings: one is too short, or blends.
-fn check_list(v: &[u8], list: &[u64], count: usize, len_iv: usize, short: usize) -> Trouble {
-    let i = first_short(list, count, shortest(len_iv));
-    if i < count {
-        return found_at(list, i, count, short);
-    }
-    found_at(
-        list,
-        first_blend(v, list, count, len_iv),
-        count,
-        trouble::BLENDS,
-    )
+    Ok(())
 }
 
 // What is wrong with the subroutines and charstrings of a font.
-pub(crate) fn check(
-    v: &[u8],
-    len_iv: usize,
-    list: &[u64],
-    count: usize,
-    codes: &[u64],
-    glyphs: usize,
-) -> Trouble {
-    let t = check_list(v, list, count, len_iv, trouble::SHORT_BODY);
-    if t.what != 0 {
-        return t;
-    }
-    check_list(v, codes, glyphs, len_iv, trouble::SHORT_CHARSTRING)
+pub(crate) fn check(alloc: Global, font: &Font<'_>) -> Result<(), Trouble> {
+    let bodies: Vec<Span> = font.bodies().iter().flatten().copied().collect(alloc)?;
+    let codes: Vec<Span> = font.charstrings.glyphs.values().copied().collect(alloc)?;
+    check_all(font, &bodies, What::ShortBody)?;
+    check_all(font, &codes, What::ShortCharstring)
 }

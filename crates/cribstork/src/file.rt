@@ -1,23 +1,16 @@
 // A font's file: what kind it is, PFB segments, the eexec part.
-use crate::bytes::{byte, copy, is_space, less, place, put, smaller, starts, wide};
-use crate::number::{hex_value, is_hex};
-use crate::trouble;
+ghost use Rattle.std.specs.Prelude.{◌-◌, length};
+ghost use Rattle.std.specs.Iterator.{at_most};
+
+use crate::bytes::{byte, is_space, starts};
+use crate::number::hex_value;
+use crate::trouble::{Kind, Trouble, What};
+use std::alloc::{AllocError, Global};
 use std::fs::File;
 use std::io::Read;
 use std::{io, str};
 
-// How many bytes a file has, or what is wrong with it.
-#[derive(Clone, Copy)]
-pub(crate) struct Loaded {
-    pub what: usize,
-    pub len: usize,
-}
-
-fn not_loaded(what: usize) -> Loaded {
-    Loaded { what, len: 0 }
-}
-
-// The system's numbers of errors: no such file, no permission, a directory.
+// The system's numbers of errors: no such file, no permission, a directory. ErrorKind takes other numbers along.
 const ENOENT: i32 = 2;
 
 const EACCES: i32 = 13;
@@ -25,378 +18,239 @@ const EACCES: i32 = 13;
 const EISDIR: i32 = 21;
 
 // Why a file could not be opened.
-fn not_opened(error: io::Error) -> usize {
+fn not_opened(error: io::Error) -> What {
     match error.raw_os_error() {
-        Some(ENOENT) => trouble::MISSING,
-        Some(EACCES) => trouble::NO_PERMISSION,
-        _ => trouble::NOT_OPENED,
+        Some(ENOENT) => What::Missing,
+        Some(EACCES) => What::NoPermission,
+        _ => What::NotOpened,
     }
 }
 
 // Why nothing was read, where a read failed.
-fn nothing_read(error: io::Error) -> usize {
+fn nothing_read(error: io::Error) -> What {
     match error.raw_os_error() {
-        Some(EISDIR) => trouble::DIRECTORY,
-        _ => trouble::NOT_READ,
+        Some(EISDIR) => What::Directory,
+        _ => What::NotRead,
     }
 }
 
 // Opens a file for reading, or says what is wrong. A path that is not UTF-8 cannot be opened.
-fn open(rt: &HostRuntime, path: &[u8]) -> Result<File, usize> {
+fn open(rt: &HostRuntime, path: &[u8]) -> Result<File, What> {
     let Ok(path) = str::from_utf8(path) else {
-        return Err(trouble::NOT_OPENED);
+        return Err(What::NotOpened);
     };
-    match File::open(rt, path) {
-        Ok(file) => Ok(file),
-        Err(e) => Err(not_opened(e)),
-    }
+    File::open(rt, path).map_err(not_opened)
 }
 
-// Reads until the store is full, the file ends or a read fails: how many bytes are at the store's start, and why nothing more was read.
-fn read_full(file: &mut File, store: &mut [u8]) -> Loaded {
-    let mut done: usize = 0;
-    while done < store.len() {
-        match file.read(&mut store[done..]) {
-            Ok(0) => {
-                return Loaded {
-                    what: trouble::EMPTY,
-                    len: done,
-                };
-            }
-            Ok(n) => done += n,
-            Err(e) => {
-                return Loaded {
-                    what: nothing_read(e),
-                    len: done,
-                };
-            }
-        }
+// A file's bytes, which are fewer than `most`. Where a read fails after some bytes, these are the file's.
+pub(crate) fn load(rt: &HostRuntime, path: &[u8], most: usize) -> Result<Vec<u8>, What> {
+    let file = open(rt, path)?;
+    let mut bytes = Vec::with_capacity(rt.alloc(), most)?;
+    let read = file.take(most as u64).read_to_end(&mut bytes);
+    if bytes.is_empty() {
+        read.map_err(nothing_read)?;
+        return Err(What::Empty);
     }
-    Loaded { what: 0, len: done }
+    if bytes.len() >= most {
+        return Err(What::TooLarge {
+            limit: most.saturating_sub(1),
+        });
+    }
+    Ok(bytes)
 }
 
-// Reads a file into a store. The file is too large where it fills the store.
-pub(crate) fn load(rt: &HostRuntime, path: &[u8], store: &mut [u8]) -> Loaded {
-    let mut file = match open(rt, path) {
-        Ok(file) => file,
-        Err(what) => return not_loaded(what),
-    };
-    let l = read_full(&mut file, store);
-    if l.len == 0 {
-        return not_loaded(l.what);
-    }
-    if l.len >= store.len() {
-        return not_loaded(trouble::TOO_LARGE);
-    }
-    Loaded {
-        what: 0,
-        len: l.len,
-    }
-}
+// The bytes that files of other kinds begin with.
+const HEADS: [(&[u8], Kind); 14] = [
+    (&[0, 1, 0, 0], Kind::TrueType),
+    (b"true", Kind::TrueType),
+    (b"ttcf", Kind::Collection),
+    (b"OTTO", Kind::OpenType),
+    (b"wOFF", Kind::WebFont),
+    (b"wOF2", Kind::WebFont),
+    (&[137, 80, 78, 71], Kind::Png),
+    (b"%PDF", Kind::Pdf),
+    (b"StartFontMetrics", Kind::Metrics),
+    (&[0, 1], Kind::WindowsMetrics),
+    (&[31, 139], Kind::Gzip),
+    (b"PK", Kind::Zip),
+    (b"STARTFONT", Kind::Bitmap),
+    (&[1, 0, 4], Kind::BareCff),
+];
 
-// The kinds of files that are no Type 1 font, in the order of say's words; 0 for any other.
-pub(crate) fn other_kind(v: &[u8]) -> usize {
-    if starts(v, 0, &[0, 1, 0, 0]) || starts(v, 0, b"true") {
-        return 1;
-    }
-    if starts(v, 0, b"ttcf") {
-        return 2;
-    }
-    if starts(v, 0, b"OTTO") {
-        return 3;
-    }
-    if starts(v, 0, b"wOFF") || starts(v, 0, b"wOF2") {
-        return 4;
-    }
-    if starts(v, 0, &[137, 80, 78, 71]) {
-        return 5;
-    }
-    if starts(v, 0, b"%PDF") {
-        return 6;
-    }
-    other_text(v)
-}
-
-fn other_text(v: &[u8]) -> usize {
-    if starts(v, 0, b"StartFontMetrics") {
-        return 7;
-    }
-    if starts(v, 0, &[0, 1]) {
-        return 8;
-    }
-    if starts(v, 0, &[31, 139]) {
-        return 9;
-    }
-    if starts(v, 0, b"PK") {
-        return 10;
-    }
-    if starts(v, 0, b"STARTFONT") {
-        return 11;
-    }
-    if starts(v, 0, &[1, 0, 4]) {
-        return 12;
-    }
-    0
+// The kind of a file that is no Type 1 font; none for any other.
+pub(crate) fn other_kind(v: &[u8]) -> Option<Kind> {
+    HEADS
+        .iter()
+        .find(|(head, _)| v.starts_with(head))
+        .map(|&(_, kind)| kind)
 }
 
 // A PFB segment's length: four bytes, the lowest first.
 fn segment_length(v: &[u8], at: usize) -> usize {
-    wide(byte(v, at))
-        + 256 * wide(byte(v, place(at, 1)))
-        + 65536 * wide(byte(v, place(at, 2)))
-        + 16777216 * wide(byte(v, place(at, 3)))
+    let bytes = [0, 1, 2, 3].map(|i| byte(v, at.saturating_add(i)));
+    u32::from_le_bytes(bytes) as usize
 }
 
-// The text of a file's segments: what is wrong and where, the place of the next segment, the text's length.
-#[derive(Clone, Copy)]
-pub(crate) struct Joined {
-    pub what: usize,
-    pub at: usize,
-    pub len: usize,
-    pub done: bool,
+// The bytes of the segment at a place.
+fn segment(v: &[u8], at: usize) -> Option<&[u8]> {
+    let rest = v.get(at.saturating_add(6)..).unwrap_or(&[]);
+    rest.get(..segment_length(v, at.saturating_add(2)))
 }
 
-fn join_end(what: usize, at: usize, len: usize) -> Joined {
-    Joined {
-        what,
-        at,
-        len,
-        done: true,
-    }
-}
-
-// Copies the bytes of a segment to the text's end.
-fn copy_segment(v: &[u8], at: usize, text: &mut [u8], len: usize) -> Joined {
-    let size = segment_length(v, place(at, 2));
-    let body = place(at, 6);
-    if less(v.len(), body) < size {
-        return join_end(trouble::SEGMENT_CUT, at, len);
-    }
-    copy(v, body, size, text, len);
-    let next = place(body, size);
-    Joined {
-        what: 0,
-        at: next,
-        len: place(len, size),
-        done: next >= v.len(),
-    }
-}
-
-// One segment. The mark of the end ends the text.
-fn join_segment(v: &[u8], at: usize, text: &mut [u8], len: usize) -> Joined {
-    let kind = byte(v, place(at, 1));
-    if byte(v, at) != 128 || kind == 0 || kind > 3 {
-        return join_end(trouble::NO_SEGMENT, at, len);
-    }
-    if kind == 3 {
-        return join_end(0, at, len);
-    }
-    copy_segment(v, at, text, len)
-}
-
-fn join_segments(v: &[u8], text: &mut [u8]) -> Joined {
-    let mut at: usize = 0;
-    let mut len: usize = 0;
-    let mut turns = v.len();
-    while turns > 0 {
-        turns -= 1;
-        let s = join_segment(v, at, text, len);
-        if s.done {
-            return s;
+// The text of a file's segments. The mark of the end ends it.
+fn join_segments(alloc: Global, v: &[u8]) -> Result<Vec<u8>, Trouble> {
+    let mut text = Vec::new(alloc);
+    let mut at = 0;
+    // Each turn goes on by a segment's length.
+    while at < v.len() {
+        match (byte(v, at), byte(v, at.saturating_add(1))) {
+            (128, 1 | 2) => {
+                let Some(body) = segment(v, at) else {
+                    return Err(What::SegmentCut.at(at));
+                };
+                text.extend_from_slice(body)?;
+                at = at.saturating_add(6).saturating_add(body.len());
+            }
+            (128, 3) => break,
+            _ => return Err(What::NoSegment.at(at)),
         }
-        at = s.at;
-        len = s.len;
     }
-    join_end(trouble::NO_SEGMENT, at, len)
+    Ok(text)
 }
 
 // A file's bytes, or those of its segments, in a row.
-pub(crate) fn join(v: &[u8], text: &mut [u8]) -> Joined {
-    if byte(v, 0) == 128 {
-        return join_segments(v, text);
+pub(crate) fn join(alloc: Global, v: &[u8]) -> Result<Vec<u8>, Trouble> {
+    if v.starts_with(&[128]) {
+        return join_segments(alloc, v);
     }
-    copy(v, 0, v.len(), text, 0);
-    join_end(0, 0, v.len())
+    Ok(Vec::from_slice(alloc, v)?)
 }
 
-// The byte of two hexadecimal digits.
-fn two_digits(high: u8, low: u8) -> u8 {
-    if high >= 16 {
-        return 0;
-    }
-    if low >= 16 {
-        return 0;
-    }
-    high * 16 + low
-}
-
-// The end of the bytes so far, and the digit that waits for the next, or 16.
-#[derive(Clone, Copy)]
-struct Half {
-    to: usize,
-    high: u8,
-}
-
-// Takes the byte at a place, which is a digit or white space.
-fn take_digit(v: &mut [u8], at: usize, h: Half) -> Half {
-    let d = hex_value(byte(v, at));
-    if d >= 16 {
-        return h;
-    }
-    if h.high == 16 {
-        return Half { to: h.to, high: d };
-    }
-    put(v, h.to, two_digits(h.high, d));
-    Half {
-        to: place(h.to, 1),
-        high: 16,
-    }
-}
-
-// The end of a private part, and the place of the byte that cuts its hexadecimal digits, or the file's end.
+// Whether a private part was in hexadecimal digits, and the place of the byte that cuts these, if one does.
 #[derive(Clone, Copy)]
 pub(crate) struct Private {
-    pub end: usize,
-    pub stop: usize,
     pub hex: bool,
+    pub cut: Option<usize>,
 }
 
-// Where digits that stop at a place are cut: there, or at their end where the word cleartomark follows them,
-// whose first letter is a digit.
-fn digits_end(v: &[u8], stop: usize, end: usize) -> usize {
-    if starts(v, less(stop, 1), b"cleartomark") {
-        return end;
-    }
-    stop
+// The first place from `from` on that is neither a digit nor white space.
+fn digits_end(text: &[u8], from: usize) -> Option<usize> {
+    (from..text.len()).find(|&at| {
+        let b = byte(text, at);
+        !b.is_ascii_hexdigit() && !is_space(b)
+    })
 }
 
-// Two hexadecimal digits become a byte, in place, up to the first byte that is neither a digit nor white
-// space.
-fn unhex(v: &mut [u8], from: usize, end: usize) -> Private {
-    let mut h = Half { to: from, high: 16 };
-    let mut i = from;
-    while i < end {
-        let b = byte(v, i);
-        if !is_hex(b) && !is_space(b) {
-            return Private {
-                end: h.to,
-                stop: digits_end(v, i, end),
-                hex: true,
-            };
-        }
-        h = take_digit(v, i, h);
-        i += 1;
+// Two hexadecimal digits become a byte, in place, up to an end, which becomes the text's.
+fn unhex(text: &mut Vec<u8>, from: usize, end: usize) {
+    let mut to = from;
+    let mut high = None;
+    for at in from..end {
+        let Some(d) = hex_value(byte(text, at)) else {
+            continue;
+        };
+        high = match high {
+            None => Some(d),
+            Some(h) => {
+                if let Some(b) = text.get_mut(to) {
+                    *b = h << 4 | d;
+                }
+                to = to.saturating_add(1);
+                None
+            }
+        };
     }
-    Private {
-        end: h.to,
-        stop: end,
-        hex: true,
-    }
+    text.truncate(to);
 }
 
 // The key that eexec starts with.
 const EEXEC_KEY: u16 = 55665;
 
-// The bytes from a place to an end become plain, in place.
-fn decrypt(v: &mut [u8], from: usize, end: usize) {
+// The bytes from a place on become plain, in place.
+fn decrypt(text: &mut [u8], from: usize) {
     let mut key = EEXEC_KEY;
-    let mut i = from;
-    while i < end {
-        let c = byte(v, i);
-        put(v, i, charstring::plain_byte(c, key));
+    for b in text.iter_mut().skip(from) {
+        let c = *b;
+        *b = charstring::plain_byte(c, key);
         key = charstring::next_key(c, key);
-        i += 1;
     }
 }
 
 // The four bytes from a place on are hexadecimal digits.
-fn is_hex_text(v: &[u8], at: usize) -> bool {
-    is_hex(byte(v, at))
-        && is_hex(byte(v, place(at, 1)))
-        && is_hex(byte(v, place(at, 2)))
-        && is_hex(byte(v, place(at, 3)))
+fn is_hex_text(text: &[u8], at: usize) -> bool {
+    text.get(at..at.saturating_add(4))
+        .is_some_and(|bytes| bytes.iter().all(u8::is_ascii_hexdigit))
 }
 
-// A part in hexadecimal digits becomes bytes.
-fn binary(v: &mut [u8], from: usize, end: usize) -> Private {
-    if is_hex_text(v, from) {
-        return unhex(v, from, end);
+// The part of a text from a place on becomes plain, in place, and the text's end (T1 7.2). Hexadecimal digits are not
+// cut where the word cleartomark follows them, whose first letter is a digit.
+pub(crate) fn open_private(text: &mut Vec<u8>, from: usize) -> Private {
+    let hex = is_hex_text(text, from);
+    let mut cut = None;
+    if hex {
+        let stop = digits_end(text, from);
+        cut = stop.filter(|&at| !starts(text, at.saturating_sub(1), b"cleartomark"));
+        unhex(text, from, stop.unwrap_or(text.len()));
     }
-    Private {
-        end,
-        stop: end,
-        hex: false,
-    }
+    decrypt(text, from);
+    Private { hex, cut }
 }
 
-// The part from a place to an end becomes plain, in place (T1 7.2).
-pub(crate) fn open_private(v: &mut [u8], from: usize, end: usize) -> Private {
-    let p = binary(v, from, end);
-    decrypt(v, from, p.end);
-    p
-}
-
-// A walk along a file: the place, the bytes left of its segment, and the bytes and the hexadecimal digits
-// of its text before it.
-#[derive(Clone, Copy)]
-struct Walk {
+// The places of a file that its text is read from.
+#[derive(Drop)]
+struct Places<'a> {
+    file: &'a [u8],
     at: usize,
+    // The bytes left of a segment.
     left: usize,
-    bytes: usize,
-    digits: usize,
 }
 
-// A byte further, or past a segment's head.
-fn walked(v: &[u8], from: usize, w: Walk) -> Walk {
-    if w.left == 0 {
-        return Walk {
-            at: place(w.at, 6),
-            left: segment_length(v, place(w.at, 2)),
-            bytes: w.bytes,
-            digits: w.digits,
-        };
-    }
-    let one: usize = if w.bytes >= from && is_hex(byte(v, w.at)) {
-        1
-    } else {
-        0
-    };
-    Walk {
-        at: place(w.at, 1),
-        left: less(w.left, 1),
-        bytes: place(w.bytes, 1),
-        digits: place(w.digits, one),
+impl<'a> Places<'a> {
+    fn of(file: &'a [u8]) -> Places<'a> {
+        Places {
+            file,
+            at: 0,
+            left: if byte(file, 0) == 128 { 0 } else { file.len() },
+        }
     }
 }
 
-// The place in its text that a walk has reached.
-fn reached(from: usize, hex: bool, w: Walk) -> usize {
-    if hex && w.bytes >= from {
-        return place(from, w.digits / 2);
-    }
-    w.bytes
-}
+impl<'a> Iterator for Places<'a> {
+    type Item = usize;
 
-fn is_reached(target: usize, from: usize, hex: bool, w: Walk) -> bool {
-    w.left != 0 && reached(from, hex, w) >= target
+    ghost remaining = { λ s. at_most (length s.file.now - s.at) };
+
+    fn next(&mut self) -> Option<usize> {
+        let mut at = self.at;
+        let mut left = self.left;
+        while left == 0 && at < self.file.len() {
+            left = segment_length(self.file, at.saturating_add(2));
+            at = at.saturating_add(6);
+        }
+        self.at = at.saturating_add(1);
+        self.left = left.saturating_sub(1);
+        (at < self.file.len()).then_some(at)
+    }
 }
 
 // The byte of the file that a place of its text was read from. From `from` on the text is in hexadecimal
 // digits, if it is so.
-pub(crate) fn file_place(v: &[u8], from: usize, hex: bool, target: usize) -> usize {
-    let mut w = Walk {
-        at: 0,
-        left: if byte(v, 0) == 128 { 0 } else { usize::MAX },
-        bytes: 0,
-        digits: 0,
-    };
-    let mut turns = v.len();
-    while turns > 0 {
-        turns -= 1;
-        if w.at >= v.len() || is_reached(target, from, hex, w) {
-            return smaller(w.at, v.len());
+pub(crate) fn file_place(file: &[u8], from: usize, hex: bool, target: usize) -> usize {
+    let mut digits: usize = 0;
+    let mut text: usize = 0;
+    for at in Places::of(file) {
+        let reached = if hex && text >= from {
+            from.saturating_add(digits / 2)
+        } else {
+            text
+        };
+        if reached >= target {
+            return at;
         }
-        w = walked(v, from, w);
+        if text >= from && byte(file, at).is_ascii_hexdigit() {
+            digits = digits.saturating_add(1);
+        }
+        text = text.saturating_add(1);
     }
-    v.len()
+    file.len()
 }

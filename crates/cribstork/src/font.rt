@@ -1,589 +1,386 @@
 // What a Type 1 font defines: the clear part up to eexec, and the private part.
-use crate::bytes::{less, line_number, part, place, skip_space};
-use crate::file::{Joined, Private};
-use crate::tokens::Token;
-use crate::{checks, entries, file, tokens, trouble};
+use crate::bytes::Span;
+use crate::entries::{Charstrings, Step, Subroutines, take_steps};
+use crate::file::Private;
+use crate::tokens::{Kind, Token};
+use crate::trouble::{Place, Trouble, What};
+use crate::{SUBROUTINES, checks, entries, file, tokens};
 use geometry::Matrix;
+use std::alloc::Global;
+use std::ops::ControlFlow;
 
-// What was read so far: what is wrong and where, and whether that is in the encrypted part; the next place,
-// whether reading is done, and the text's end; the places after eexec and of the matrix, Subrs and
-// CharStrings, 0 where there is none; lenIV; how many subroutines and glyphs are declared and are there, and
-// how many glyphs were defined again; whether FontType was defined, how many subroutines were defined again,
-// and the word that reads them.
+// A number of the font's matrix, and where it stands.
 #[derive(Clone, Copy)]
-pub(crate) struct Font {
-    pub what: usize,
-    pub at: usize,
-    pub hidden: bool,
-    pub len: usize,
-    pub next: usize,
-    pub done: bool,
-    pub eexec: usize,
-    pub matrix: usize,
-    pub len_iv: usize,
-    pub subrs: usize,
-    pub count: usize,
-    pub bodies: usize,
-    pub chars: usize,
-    pub room: usize,
-    pub glyphs: usize,
-    pub again: usize,
-    pub typed: bool,
-    pub rewritten: usize,
-    pub reads: u64,
+pub(crate) struct Number {
+    pub span: Span,
+    pub value: f64,
 }
 
-fn begin() -> Font {
-    Font {
-        what: 0,
-        at: 0,
-        hidden: false,
-        len: 0,
-        next: 0,
-        done: false,
-        eexec: 0,
-        matrix: 0,
-        len_iv: 4,
-        subrs: 0,
-        count: 0,
-        bodies: 0,
-        chars: 0,
-        room: 0,
-        glyphs: 0,
-        again: 0,
-        typed: false,
-        rewritten: 0,
-        reads: 0,
+// The six numbers of FontMatrix.
+#[derive(Clone, Copy)]
+pub(crate) struct FontMatrix {
+    pub a: Number,
+    pub b: Number,
+    pub c: Number,
+    pub d: Number,
+    pub tx: Number,
+    pub ty: Number,
+}
+
+impl FontMatrix {
+    // In thousandths: the usual one is the identity.
+    fn in_thousandths(self) -> Matrix {
+        Matrix {
+            a: 1000.0 * self.a.value,
+            b: 1000.0 * self.b.value,
+            c: 1000.0 * self.c.value,
+            d: 1000.0 * self.d.value,
+            tx: 1000.0 * self.tx.value,
+            ty: 1000.0 * self.ty.value,
+        }
     }
 }
 
-fn failed(f: Font, what: usize, at: usize) -> Font {
-    let mut g = f;
-    g.what = what;
-    g.at = at;
-    g.done = true;
-    g
+// What both parts define: whether FontType was defined, the matrix, and lenIV; none where nothing is encrypted.
+#[derive(Clone, Copy)]
+pub(crate) struct Head {
+    pub typed: bool,
+    pub matrix: Option<FontMatrix>,
+    pub len_iv: Option<usize>,
 }
 
-fn passed(f: Font, next: usize) -> Font {
-    let mut g = f;
-    g.next = next;
-    g
+// A font: its plain text, and what was read in it.
+#[derive(Drop)]
+pub(crate) struct Font<'a> {
+    pub text: &'a [u8],
+    pub head: Head,
+    pub subroutines: Option<Subroutines<'a>>,
+    pub charstrings: Charstrings<'a>,
 }
 
-fn ended(f: Font) -> Font {
-    let mut g = f;
-    g.done = true;
-    g
+impl Font<'_> {
+    // FontMatrix in thousandths; the identity where it is not defined.
+    pub(crate) fn matrix(&self) -> Matrix {
+        self.head
+            .matrix
+            .map_or_else(Matrix::identity, FontMatrix::in_thousandths)
+    }
+
+    // lenIV as a charstring's reading takes it: the largest number where nothing is encrypted.
+    pub(crate) fn len_iv(&self) -> usize {
+        self.head.len_iv.unwrap_or(usize::MAX)
+    }
+
+    // No glyph has a name.
+    pub(crate) fn lacks(&self, name: &[u8]) -> bool {
+        !self.charstrings.glyphs.contains_key(name)
+    }
+
+    // Where its subroutines stand, those that are defined.
+    pub(crate) fn bodies(&self) -> &[Option<Span>] {
+        match &self.subroutines {
+            Some(subroutines) => subroutines.list.as_slice(),
+            None => &[],
+        }
+    }
+
+    // How many subroutines are defined, and how many were defined again.
+    pub(crate) fn defined(&self) -> usize {
+        self.bodies().iter().flatten().count()
+    }
+
+    pub(crate) fn rewritten(&self) -> usize {
+        self.subroutines.as_ref().map_or(0, |s| s.again)
+    }
 }
 
 // A word that takes the name before it and defines nothing.
-fn takes_name(v: &[u8], t: Token) -> bool {
-    t.kind == tokens::WORD
-        && line_number(
-            b"known\nget\nexch\nload\nwhere\nundef",
-            6,
-            tokens::text(v, t),
-        ) < 6
+fn takes_name(t: Token<'_>) -> bool {
+    t.kind == Kind::Word
+        && matches!(
+            t.text,
+            b"known" | b"get" | b"exch" | b"load" | b"where" | b"undef"
+        )
 }
 
 // The token after a value is a word that is no number, as `def` is.
-fn is_stored(v: &[u8], t: Token) -> bool {
-    let u = tokens::next(v, t.end);
-    u.kind == tokens::WORD && !tokens::is_number(v, u)
+fn is_stored(text: &[u8], t: Token<'_>) -> bool {
+    let u = tokens::next(text, t.end());
+    u.kind == Kind::Word && !u.is_number()
 }
 
-// FontType: it is 1.
-fn font_type(v: &[u8], f: Font, t: Token) -> Font {
-    let u = tokens::next(v, t.end);
-    let n = tokens::whole(v, u);
-    if takes_name(v, u) {
-        return passed(f, t.end);
-    }
-    if n.found && !n.negative && n.value == 1 && is_stored(v, u) {
-        let mut g = passed(f, u.end);
-        g.typed = true;
-        return g;
-    }
-    failed(f, trouble::FONT_TYPE, u.at)
+// The finite number that stands from a place on, which moves past it.
+fn next_number(text: &[u8], at: &mut usize) -> Option<Number> {
+    let t = tokens::next(text, *at);
+    *at = t.end();
+    Some(Number {
+        span: t.span(),
+        value: t.real().filter(|&x| binary64::is_finite(x))?,
+    })
 }
 
-// The bytes that a charstring drops; the largest number where nothing is encrypted, as -1 says.
-fn len_iv(v: &[u8], f: Font, t: Token) -> Font {
-    let u = tokens::next(v, t.end);
-    let n = tokens::whole(v, u);
-    if takes_name(v, u) {
-        return passed(f, t.end);
-    }
-    let mut g = passed(f, u.end);
-    if !is_stored(v, u) {
-        return failed(f, trouble::BAD_LEN_IV, u.at);
-    }
-    if n.found && n.negative && n.value == 1 {
-        g.len_iv = usize::MAX;
-        return g;
-    }
-    if n.found && !n.negative && n.value <= 65535 {
-        g.len_iv = n.value as usize;
-        return g;
-    }
-    failed(f, trouble::BAD_LEN_IV, u.at)
-}
-
-// The place after six finite numbers and the bracket that closes them; 0 where they are not so.
-fn matrix_end(v: &[u8], from: usize) -> usize {
+// Six finite numbers and the bracket that closes them, from a place on; and the place after them.
+fn six_numbers(text: &[u8], from: usize) -> Option<(FontMatrix, usize)> {
     let mut at = from;
-    let mut left: usize = 6;
-    while left > 0 {
-        left -= 1;
-        let t = tokens::next(v, at);
-        if !binary64::is_finite(tokens::real(v, t)) {
-            return 0;
+    let matrix = FontMatrix {
+        a: next_number(text, &mut at)?,
+        b: next_number(text, &mut at)?,
+        c: next_number(text, &mut at)?,
+        d: next_number(text, &mut at)?,
+        tx: next_number(text, &mut at)?,
+        ty: next_number(text, &mut at)?,
+    };
+    let t = tokens::next(text, at);
+    matches!(t.kind, Kind::Close | Kind::CloseArray).then_some((matrix, t.end()))
+}
+
+impl Head {
+    // FontType: it is 1.
+    fn font_type(&mut self, text: &[u8], t: Token<'_>) -> Result<usize, Trouble> {
+        if t.natural() != Some(1) || !is_stored(text, t) {
+            return Err(What::FontType.at(t.at));
         }
-        at = t.end;
+        self.typed = true;
+        Ok(t.end())
     }
-    let t = tokens::next(v, at);
-    if t.kind == tokens::CLOSE || t.kind == tokens::CLOSE_ARRAY {
-        return t.end;
-    }
-    0
-}
 
-fn opens(t: Token) -> bool {
-    t.kind == tokens::OPEN || t.kind == tokens::OPEN_ARRAY
-}
+    // The bytes that a charstring drops; -1 says that nothing is encrypted.
+    fn len_iv(&mut self, text: &[u8], t: Token<'_>) -> Result<usize, Trouble> {
+        let bad = What::BadLenIv.at(t.at);
+        let n = t.whole().filter(|_| is_stored(text, t)).ok_or(bad)?;
+        self.len_iv = match (n.negative, n.value) {
+            (true, 1) => None,
+            (false, n @ 0..=65535) => Some(n as usize),
+            _ => return Err(bad),
+        };
+        Ok(t.end())
+    }
 
-fn font_matrix(v: &[u8], f: Font, t: Token) -> Font {
-    let u = tokens::next(v, t.end);
-    if takes_name(v, u) {
-        return passed(f, t.end);
-    }
-    let end = matrix_end(v, u.end);
-    if !opens(u) || end == 0 {
-        return failed(f, trouble::BAD_MATRIX, u.at);
-    }
-    let mut g = passed(f, end);
-    g.matrix = u.end;
-    g
-}
-
-// WeightVector: the font is a multiple-master font.
-fn weight_vector(v: &[u8], f: Font, t: Token) -> Font {
-    let u = tokens::next(v, t.end);
-    if takes_name(v, u) {
-        return passed(f, t.end);
-    }
-    failed(f, trouble::MULTIPLE_MASTER, t.at)
-}
-
-// A literal name outside procedures.
-fn named(v: &[u8], f: Font, t: Token) -> Font {
-    match line_number(
-        b"FontType\nFontMatrix\nWeightVector\nlenIV",
-        4,
-        tokens::text(v, t),
-    ) {
-        0 => font_type(v, f, t),
-        1 => font_matrix(v, f, t),
-        2 => weight_vector(v, f, t),
-        3 => len_iv(v, f, t),
-        _ => passed(f, t.end),
-    }
-}
-
-fn after_procedure(v: &[u8], f: Font, t: Token) -> Font {
-    let end = tokens::procedure_end(v, t.end);
-    if end == usize::MAX {
-        return failed(f, trouble::NOT_CLOSED, t.at);
-    }
-    passed(f, end)
-}
-
-// A token of either part.
-fn step(v: &[u8], f: Font, t: Token) -> Font {
-    if t.kind == tokens::BROKEN || t.kind == tokens::CLOSE {
-        return failed(f, trouble::NOT_CLOSED, t.at);
-    }
-    if t.kind == tokens::OPEN {
-        return after_procedure(v, f, t);
-    }
-    if t.kind == tokens::OPEN_ARRAY {
-        return passed(f, tokens::array_end(v, t.end));
-    }
-    if t.kind == tokens::NAME {
-        return named(v, f, t);
-    }
-    passed(f, t.end)
-}
-
-// A token of the clear part: `eexec` ends it.
-fn clear_step(v: &[u8], f: Font) -> Font {
-    let t = tokens::next(v, f.next);
-    if t.kind == tokens::END {
-        return failed(f, trouble::NO_EEXEC, t.at);
-    }
-    if tokens::is_word(v, t, b"eexec") {
-        let mut g = ended(f);
-        g.eexec = t.end;
-        return g;
-    }
-    step(v, f, t)
-}
-
-// Reads the clear part.
-fn read_clear(v: &[u8]) -> Font {
-    let mut f = begin();
-    let mut turns = place(v.len(), 1);
-    while turns > 0 {
-        turns -= 1;
-        f = clear_step(v, f);
-        if f.done {
-            return f;
+    fn font_matrix(&mut self, text: &[u8], t: Token<'_>) -> Result<usize, Trouble> {
+        match six_numbers(text, t.end()) {
+            Some((matrix, end)) if matches!(t.kind, Kind::Open | Kind::OpenArray) => {
+                self.matrix = Some(matrix);
+                Ok(end)
+            }
+            _ => Err(What::BadMatrix.at(t.at)),
         }
     }
-    f
-}
 
-// Subrs: an array of so many, or an empty one in brackets.
-fn subrs(v: &[u8], f: Font, t: Token, list: &mut [u64]) -> Font {
-    let u = tokens::next(v, t.end);
-    let n = tokens::whole(v, u);
-    let w = tokens::next(v, u.end);
-    if takes_name(v, u) {
-        return passed(f, t.end);
-    }
-    if u.kind == tokens::OPEN_ARRAY && w.kind == tokens::CLOSE_ARRAY {
-        let mut g = passed(f, w.end);
-        g.subrs = t.at;
-        return g;
-    }
-    if !n.found || n.negative || !tokens::is_word(v, w, b"array") {
-        return failed(f, trouble::DAMAGED_SUBRS, t.at);
-    }
-    bodies(v, f, t.at, n.value as usize, w.end, list)
-}
-
-// The subroutines of the array that was named at a place.
-fn bodies(v: &[u8], f: Font, at: usize, count: usize, from: usize, list: &mut [u64]) -> Font {
-    if f.subrs != 0 {
-        return failed(f, trouble::SECOND, at);
-    }
-    if count > list.len() || count > 65535 {
-        return failed(f, trouble::TOO_MANY_SUBROUTINES, at);
-    }
-    let e = entries::list_bodies(v, from, count, list);
-    if e.what != 0 {
-        return failed(f, e.what, e.at);
-    }
-    let mut g = passed(f, e.next);
-    g.subrs = at;
-    g.count = count;
-    g.bodies = e.found;
-    g.rewritten = e.again;
-    g.reads = e.reads;
-    g
-}
-
-// CharStrings: a dictionary with room for so many.
-fn charstrings(
-    v: &[u8],
-    f: Font,
-    t: Token,
-    glyphs: &mut [u64],
-    codes: &mut [u64],
-    table: &mut [u64],
-) -> Font {
-    let u = tokens::next(v, t.end);
-    let n = tokens::whole(v, u);
-    let w = tokens::next(v, u.end);
-    if takes_name(v, u) {
-        return passed(f, t.end);
-    }
-    if !n.found || n.negative || !tokens::is_word(v, w, b"dict") {
-        return failed(f, trouble::DAMAGED, t.at);
-    }
-    if f.chars != 0 {
-        return failed(f, trouble::SECOND, t.at);
-    }
-    let e = entries::list_glyphs(v, w.end, f.reads, glyphs, codes, table);
-    if e.what != 0 {
-        return failed(f, e.what, e.at);
-    }
-    let mut g = passed(f, e.next);
-    g.chars = t.at;
-    g.room = n.value as usize;
-    g.glyphs = e.found;
-    g.again = e.again;
-    g
-}
-
-// The end of the private part.
-fn private_end(f: Font, at: usize) -> Font {
-    if f.chars == 0 {
-        return failed(f, trouble::NO_CHARSTRINGS, at);
-    }
-    if f.glyphs == 0 {
-        return failed(f, trouble::NO_GLYPHS, f.chars);
-    }
-    ended(f)
-}
-
-// What a step gives: once CharStrings is read, what does not end ends the private part.
-fn private_after(f: Font, g: Font) -> Font {
-    if f.chars != 0 && g.what == trouble::NOT_CLOSED {
-        return private_end(f, g.at);
-    }
-    g
-}
-
-// A token of the private part: `closefile` ends it.
-fn private_step(
-    v: &[u8],
-    f: Font,
-    list: &mut [u64],
-    glyphs: &mut [u64],
-    codes: &mut [u64],
-    table: &mut [u64],
-) -> Font {
-    let t = tokens::next(v, f.next);
-    if t.kind == tokens::END || tokens::is_word(v, t, b"closefile") {
-        return private_end(f, t.at);
-    }
-    if t.kind != tokens::NAME {
-        return private_after(f, step(v, f, t));
-    }
-    match line_number(b"Subrs\nCharStrings", 2, tokens::text(v, t)) {
-        0 => subrs(v, f, t, list),
-        1 => charstrings(v, f, t, glyphs, codes, table),
-        _ => step(v, f, t),
-    }
-}
-
-// Reads the private part, from f's next place on.
-fn read_private(
-    v: &[u8],
-    begun: Font,
-    list: &mut [u64],
-    glyphs: &mut [u64],
-    codes: &mut [u64],
-    table: &mut [u64],
-) -> Font {
-    let mut f = begun;
-    let mut turns = place(v.len(), 1);
-    while turns > 0 {
-        turns -= 1;
-        f = private_step(v, f, list, glyphs, codes, table);
-        if f.done {
-            return f;
+    // A literal name outside procedures, and its value; the answer is the next place. WeightVector makes the
+    // font a multiple-master font.
+    fn name(&mut self, text: &[u8], t: Token<'_>) -> Result<usize, Trouble> {
+        let value = tokens::next(text, t.end());
+        match t.text {
+            _ if takes_name(value) => Ok(t.end()),
+            b"FontType" => self.font_type(text, value),
+            b"FontMatrix" => self.font_matrix(text, value),
+            b"WeightVector" => Err(What::MultipleMaster.at(t.at)),
+            b"lenIV" => self.len_iv(text, value),
+            _ => Ok(t.end()),
         }
     }
-    f
-}
 
-// 1000 times the number of the matrix at a place, and the place after it.
-#[derive(Clone, Copy)]
-struct Item {
-    value: f64,
-    next: usize,
-}
+    // A token of either part; the answer is the next place.
+    fn token(&mut self, text: &[u8], t: Token<'_>) -> Result<usize, Trouble> {
+        let not_closed = What::NotClosed.at(t.at);
+        match t.kind {
+            Kind::Broken | Kind::Close => Err(not_closed),
+            Kind::Open => tokens::procedure_end(text, t.end()).ok_or(not_closed),
+            Kind::OpenArray => Ok(tokens::array_end(text, t.end()).unwrap_or(t.end())),
+            Kind::Name => self.name(text, t),
+            _ => Ok(t.end()),
+        }
+    }
 
-fn item_at(v: &[u8], at: usize) -> Item {
-    let t = tokens::next(v, at);
-    Item {
-        value: 1000.0 * tokens::real(v, t),
-        next: t.end,
+    // A token of the clear part: `eexec` ends it.
+    fn clear_step(&mut self, text: &[u8], at: usize) -> Step {
+        let t = tokens::next(text, at);
+        if t.kind == Kind::End {
+            return Err(What::NoEexec.at(t.at));
+        }
+        if t.is_word(b"eexec") {
+            return Ok(ControlFlow::Break(t.end()));
+        }
+        Ok(ControlFlow::Continue(self.token(text, t)?))
     }
 }
 
-// The font's matrix in thousandths: the usual one is the identity.
-pub(crate) fn matrix(v: &[u8], at: usize) -> Matrix {
-    if at == 0 {
-        return Matrix::identity();
+// Reads the clear part: what it defines, and the place after eexec.
+fn read_clear(text: &[u8]) -> Result<(Head, usize), Trouble> {
+    let mut head = Head {
+        typed: false,
+        matrix: None,
+        len_iv: Some(4),
+    };
+    let eexec = take_steps(text, 0, |at| head.clear_step(text, at))?;
+    Ok((head, eexec))
+}
+
+// What was read of the private part so far.
+#[derive(Drop)]
+struct Reader<'a> {
+    alloc: Global,
+    text: &'a [u8],
+    head: Head,
+    subroutines: Option<Subroutines<'a>>,
+    charstrings: Option<Charstrings<'a>>,
+}
+
+impl<'a> Reader<'a> {
+    // Subrs: an array of so many, or an empty one in brackets.
+    fn subrs(&mut self, t: Token<'a>) -> Result<usize, Trouble> {
+        let u = tokens::next(self.text, t.end());
+        let w = tokens::next(self.text, u.end());
+        if takes_name(u) {
+            return Ok(t.end());
+        }
+        if u.kind == Kind::OpenArray && w.kind == Kind::CloseArray {
+            if self.subroutines.is_none() {
+                self.subroutines = Some(Subroutines::none(self.alloc));
+            }
+            return Ok(w.end());
+        }
+        let count = match u.natural() {
+            Some(count) if w.is_word(b"array") => count,
+            _ => return Err(What::DamagedSubrs.at(t.at)),
+        };
+        if self.subroutines.is_some() {
+            return Err(What::Second.at(t.at));
+        }
+        if count > SUBROUTINES {
+            return Err(What::TooManySubroutines.into());
+        }
+        let (subroutines, end) = entries::list_bodies(self.alloc, self.text, w.end(), count)?;
+        self.subroutines = Some(subroutines);
+        Ok(end)
     }
-    let a = item_at(v, at);
-    let b = item_at(v, a.next);
-    let c = item_at(v, b.next);
-    let d = item_at(v, c.next);
-    let tx = item_at(v, d.next);
-    let ty = item_at(v, tx.next);
-    Matrix {
-        a: a.value,
-        b: b.value,
-        c: c.value,
-        d: d.value,
-        tx: tx.value,
-        ty: ty.value,
+
+    // CharStrings: a dictionary with room for so many.
+    fn charstrings(&mut self, t: Token<'a>) -> Result<usize, Trouble> {
+        let u = tokens::next(self.text, t.end());
+        let w = tokens::next(self.text, u.end());
+        if takes_name(u) {
+            return Ok(t.end());
+        }
+        let room = match u.natural() {
+            Some(room) if w.is_word(b"dict") => room,
+            _ => return Err(What::Damaged.at(t.at)),
+        };
+        if self.charstrings.is_some() {
+            return Err(What::Second.at(t.at));
+        }
+        let reads = self.subroutines.as_ref().and_then(|s| s.reads);
+        let (glyphs, again, end) = entries::list_glyphs(self.alloc, self.text, w.end(), reads)?;
+        self.charstrings = Some(Charstrings {
+            at: t.at,
+            room,
+            glyphs,
+            again,
+        });
+        Ok(end)
+    }
+
+    // A token of the private part: `closefile` ends it. Once CharStrings is read, what does not end does so too.
+    fn step(&mut self, at: usize) -> Step {
+        let t = tokens::next(self.text, at);
+        if t.kind == Kind::End || t.is_word(b"closefile") {
+            return Ok(ControlFlow::Break(t.at));
+        }
+        let next = match t.text {
+            b"Subrs" if t.kind == Kind::Name => self.subrs(t)?,
+            b"CharStrings" if t.kind == Kind::Name => self.charstrings(t)?,
+            _ => match self.head.token(self.text, t) {
+                Err(
+                    Trouble {
+                        what: What::NotClosed,
+                        ..
+                    },
+                ) if self.charstrings.is_some() => {
+                    return Ok(ControlFlow::Break(t.at));
+                }
+                next => next?,
+            },
+        };
+        Ok(ControlFlow::Continue(next))
+    }
+
+    // The font, at the end of its private part.
+    fn finish(self, end: usize) -> Result<Font<'a>, Trouble> {
+        let Reader {
+            text,
+            head,
+            subroutines,
+            charstrings,
+            ..
+        } = self;
+        let charstrings = charstrings.ok_or(What::NoCharstrings.at(end))?;
+        if charstrings.glyphs.is_empty() {
+            return Err(What::NoGlyphs.at(charstrings.at));
+        }
+        Ok(Font {
+            text,
+            head,
+            subroutines,
+            charstrings,
+        })
     }
 }
 
-fn is_eexec_space(b: u8) -> bool {
-    b == 32 || b == 9 || b == 10 || b == 13
+// Reads the private part, which begins at a place, and checks what is in it.
+fn read_private(alloc: Global, text: &[u8], head: Head, from: usize) -> Result<Font<'_>, Trouble> {
+    let mut reader = Reader {
+        alloc,
+        text,
+        head,
+        subroutines: None,
+        charstrings: None,
+    };
+    let end = take_steps(text, from.saturating_add(4), |at| reader.step(at))?;
+    let font = reader.finish(end)?;
+    checks::check(alloc, &font)?;
+    Ok(font)
 }
 
 // The first byte of the encrypted part: eexec passes over white space (T1 7.2).
-fn private_from(v: &[u8], from: usize) -> usize {
-    let mut at = from;
-    while at < v.len() {
-        if !is_eexec_space(v[at]) {
-            return at;
-        }
-        at += 1;
+fn private_from(text: &[u8], from: usize) -> usize {
+    (from..text.len())
+        .find(|&at| !matches!(text[at], b' ' | b'\t' | b'\n' | b'\r'))
+        .unwrap_or(from.max(text.len()))
+}
+
+// The trouble of a text, said of its file. From `from` on the text is of the encrypted part, in hexadecimal
+// digits if it is so.
+fn in_file(file: &[u8], t: Trouble, from: usize, hex: bool) -> Trouble {
+    Trouble {
+        what: t.what,
+        place: t.place.map(|place| Place {
+            at: file::file_place(file, from, hex, place.at),
+            hidden: place.at >= from,
+        }),
     }
-    at
 }
 
-// A font with something wrong at a byte of its file.
-fn wrong(f: Font, what: usize, at: usize, hidden: bool) -> Font {
-    let mut g = failed(f, what, at);
-    g.hidden = hidden;
-    g
-}
-
-// The trouble of a private part from a place on, which ends at an end, said of the file. A part in
-// hexadecimal digits that stops at another byte is cut there.
-fn in_file(v: &[u8], f: Font, from: usize, end: usize, p: Private) -> Font {
-    if p.hex && p.stop < end && trouble::is_cut(f.what) {
-        return wrong(
-            f,
-            trouble::NO_DIGIT,
-            file::file_place(v, from, false, p.stop),
-            false,
-        );
+// The trouble of a private part from a place on, said of the file. A part in hexadecimal digits that stops at
+// another byte is cut there.
+fn in_private(file: &[u8], t: Trouble, from: usize, p: Private) -> Trouble {
+    match p.cut {
+        Some(cut) if t.what.is_cut() => What::NoDigit.at(file::file_place(file, from, false, cut)),
+        _ => in_file(file, t, from, p.hex),
     }
-    wrong(
-        f,
-        f.what,
-        file::file_place(v, from, p.hex, f.at),
-        f.at >= from,
-    )
 }
 
-// What is wrong with the lists joins the font.
-fn checked(v: &[u8], f: Font, list: &[u64], codes: &[u64]) -> Font {
-    if f.what != 0 {
-        return f;
+// Reads a font from a file's bytes: its plain text goes to `text`.
+pub(crate) fn read<'a>(
+    alloc: Global,
+    file: &[u8],
+    text: &'a mut Vec<u8>,
+) -> Result<Font<'a>, Trouble> {
+    if let Some(kind) = file::other_kind(file) {
+        return Err(What::OtherKind(kind).into());
     }
-    let t = checks::check(v, f.len_iv, list, f.count, codes, f.glyphs);
-    if t.what == 0 {
-        return f;
-    }
-    failed(f, t.what, t.at)
-}
-
-// The same, where something is wrong.
-fn placed(v: &[u8], f: Font, from: usize, end: usize, p: Private) -> Font {
-    if f.what == 0 {
-        return f;
-    }
-    in_file(v, f, from, end, p)
-}
-
-// Reads a plain private part, and checks its lists.
-fn read_plain(
-    v: &[u8],
-    f: Font,
-    list: &mut [u64],
-    glyphs: &mut [u64],
-    codes: &mut [u64],
-    table: &mut [u64],
-) -> Font {
-    let g = read_private(v, f, list, glyphs, codes, table);
-    checked(v, g, list, codes)
-}
-
-// What was read of the clear part, before the private one, which begins at a place and ends at an end.
-fn before_private(f: Font, from: usize, end: usize) -> Font {
-    let mut g = passed(f, place(from, 4));
-    g.done = false;
-    g.len = end;
-    g
-}
-
-// Reads the private part of a text, from a place on, that was made plain.
-fn read_opened(
-    v: &[u8],
-    f: Font,
-    text: &[u8],
-    from: usize,
-    len: usize,
-    p: Private,
-    list: &mut [u64],
-    glyphs: &mut [u64],
-    codes: &mut [u64],
-    table: &mut [u64],
-) -> Font {
-    let g = before_private(f, from, p.end);
-    let h = read_plain(part(text, 0, p.end), g, list, glyphs, codes, table);
-    placed(v, h, from, len, p)
-}
-
-// Reads the private part of a text whose clear part was read.
-fn open_private(
-    v: &[u8],
-    f: Font,
-    text: &mut [u8],
-    len: usize,
-    list: &mut [u64],
-    glyphs: &mut [u64],
-    codes: &mut [u64],
-    table: &mut [u64],
-) -> Font {
-    let from = private_from(part(text, 0, len), f.eexec);
-    let p = file::open_private(text, from, len);
-    read_opened(v, f, text, from, len, p, list, glyphs, codes, table)
-}
-
-// Reads a text of so many bytes.
-fn read_text(
-    v: &[u8],
-    text: &mut [u8],
-    len: usize,
-    list: &mut [u64],
-    glyphs: &mut [u64],
-    codes: &mut [u64],
-    table: &mut [u64],
-) -> Font {
-    let f = read_clear(part(text, 0, len));
-    if f.what != 0 {
-        return wrong(f, f.what, file::file_place(v, len, false, f.at), false);
-    }
-    open_private(v, f, text, len, list, glyphs, codes, table)
-}
-
-// Reads a text that was joined.
-fn read_joined(
-    v: &[u8],
-    j: Joined,
-    text: &mut [u8],
-    list: &mut [u64],
-    glyphs: &mut [u64],
-    codes: &mut [u64],
-    table: &mut [u64],
-) -> Font {
-    if j.what != 0 {
-        return failed(begin(), j.what, j.at);
-    }
-    read_text(v, text, j.len, list, glyphs, codes, table)
-}
-
-// Reads a font from a file's bytes: its plain text goes to `text`, its subroutines and glyphs to the lists.
-pub(crate) fn read(
-    v: &[u8],
-    text: &mut [u8],
-    list: &mut [u64],
-    glyphs: &mut [u64],
-    codes: &mut [u64],
-    table: &mut [u64],
-) -> Font {
-    let kind = file::other_kind(v);
-    if kind != 0 {
-        return failed(begin(), trouble::OTHER_KIND, kind);
-    }
-    let j = file::join(v, text);
-    read_joined(v, j, text, list, glyphs, codes, table)
-}
-
-// A font that cannot be read at all.
-pub(crate) fn unreadable(what: usize) -> Font {
-    failed(begin(), what, 0)
+    *text = file::join(alloc, file)?;
+    let (head, eexec) = read_clear(text).map_err(|t| in_file(file, t, usize::MAX, false))?;
+    let from = private_from(text, eexec);
+    let p = file::open_private(text, from);
+    read_private(alloc, text, head, from).map_err(|t| in_private(file, t, from, p))
 }

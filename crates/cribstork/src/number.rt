@@ -1,407 +1,293 @@
 // Numbers in text.
-use crate::bytes::{byte, less, place, smaller, sum};
+ghost use Rattle.std.specs.Prelude.{◌<◌, ◌≤◌, length, IfSome};
 
-pub(crate) fn is_digit(b: u8) -> bool {
-    48 <= b && b <= 57
+use crate::bytes::byte;
+
+// The value of a hexadecimal digit.
+pub(crate) fn hex_value(b: u8) -> Option<u8> {
+    match b {
+        b'0'..=b'9' => Some(b - b'0'),
+        b'A'..=b'F' => Some(b - b'A' + 10),
+        b'a'..=b'f' => Some(b - b'a' + 10),
+        _ => None,
+    }
 }
 
-// A digit's value; 0 where it is none.
-fn digit(b: u8) -> u64 {
-    if b < 48 {
-        return 0;
-    }
-    if b > 57 {
-        return 0;
-    }
-    (b - 48) as u64
-}
-
-// The value of a digit up to base 36; 36 where it is none.
-fn letter_value(b: u8) -> u8 {
-    if 48 <= b && b <= 57 {
-        return b - 48;
-    }
-    if 65 <= b && b <= 90 {
-        return b - 55;
-    }
-    if 97 <= b && b <= 122 {
-        return b - 87;
-    }
-    36
-}
-
-// The value of a hexadecimal digit; 16 or more where it is none.
-pub(crate) fn hex_value(b: u8) -> u8 {
-    letter_value(b)
-}
-
-pub(crate) fn is_hex(b: u8) -> bool {
-    hex_value(b) < 16
-}
-
-// A number so many times; the largest number where that is too large.
-fn times(n: u64, base: u64) -> u64 {
-    let mut total: u64 = 0;
-    let mut left = base;
-    while left > 0 {
-        left -= 1;
-        total = sum(total, n);
-    }
-    total
-}
-
-// A whole number, and the place after it; next is the place asked where none stands there.
+// The digits that a text begins with: what they spell, the largest number where that is too large, and how many
+// there are.
 #[derive(Clone, Copy)]
-struct Whole {
+struct Digits {
     value: u64,
-    next: usize,
+    count: usize,
 }
 
-// The digits of a base from a place on.
-fn digits(v: &[u8], from: usize, base: u64) -> Whole {
-    let mut at = from;
+fn read_digits(text: &[u8], base: u32) -> Digits
+    requires least { 2 ≤ base }
+    requires most { base ≤ 36 }
+    ensures { result.count ≤ length text.now }
+{
     let mut value: u64 = 0;
-    while at < v.len() {
-        let d = letter_value(v[at]) as u64;
-        if d >= base {
-            return Whole { value, next: at };
-        }
-        value = sum(times(value, base), d);
-        at += 1;
+    for (count, &b) in text.iter().enumerate() {
+        let Some(d) = char::from(b).to_digit(base) else {
+            return Digits { value, count };
+        };
+        value = value
+            .saturating_mul(u64::from(base))
+            .saturating_add(u64::from(d));
     }
-    Whole { value, next: at }
+    Digits {
+        value,
+        count: text.len(),
+    }
 }
 
-// A whole number with its sign, if one was found.
-#[derive(Clone, Copy)]
+// What a text spells that is digits alone.
+fn all_digits(text: &[u8], base: u32) -> Option<u64>
+    requires least { 2 ≤ base }
+    requires most { base ≤ 36 }
+{
+    let n = read_digits(text, base);
+    (n.count > 0 && n.count == text.len()).then_some(n.value)
+}
+
+// A whole number with its sign, which -0 has too.
+#[derive(Clone, Copy, Debug, PartialEq, Eq)]
 pub(crate) struct Signed {
-    pub found: bool,
     pub negative: bool,
     pub value: u64,
 }
 
-pub(crate) fn no_whole() -> Signed {
-    Signed {
-        found: false,
-        negative: false,
-        value: 0,
+impl Signed {
+    // The number, where no minus stands before it.
+    pub(crate) fn natural(self) -> Option<usize> {
+        (!self.negative).then_some(self.value as usize)
     }
 }
 
-fn is_sign(b: u8) -> bool {
-    b == b'-' || b == b'+'
-}
-
-// The place after a sign, if one stands at a place.
-fn after_sign(v: &[u8], at: usize) -> usize {
-    if is_sign(byte(v, at)) {
-        place(at, 1)
-    } else {
-        at
+// Whether a text begins with a minus, and what stands after its sign.
+fn after_sign(text: &[u8]) -> (bool, &[u8]) {
+    match text {
+        [b'-', rest @ ..] => (true, rest),
+        [b'+', rest @ ..] => (false, rest),
+        _ => (false, text),
     }
 }
 
-// The digits after 'base#', up to the end.
-fn with_base(v: &[u8], base: u64, from: usize) -> Signed {
+// The number that the digits after 'base#' spell.
+fn with_base(base: u64, text: &[u8]) -> Option<Signed> {
     if base < 2 || base > 36 {
-        return no_whole();
+        return None;
     }
-    let n = digits(v, from, base);
-    Signed {
-        found: n.next > from && n.next == v.len(),
+    let value = all_digits(text, base as u32)?;
+    Some(Signed {
         negative: false,
-        value: n.value,
-    }
+        value,
+    })
 }
 
 // The whole number that a text is: digits after a sign, or base#digits.
-pub(crate) fn read_signed(v: &[u8]) -> Signed {
-    let from = after_sign(v, 0);
-    let n = digits(v, from, 10);
-    if from == 0 && n.next > 0 && byte(v, n.next) == b'#' {
-        return with_base(v, n.value, place(n.next, 1));
+pub(crate) fn read_signed(text: &[u8]) -> Option<Signed> {
+    let n = read_digits(text, 10);
+    if let [b'#', rest @ ..] = &text[n.count..]
+        && n.count > 0
+    {
+        return with_base(n.value, rest);
     }
-    Signed {
-        found: n.next > from && n.next == v.len(),
-        negative: byte(v, 0) == b'-',
-        value: n.value,
-    }
+    let (negative, rest) = after_sign(text);
+    let value = all_digits(rest, 10)?;
+    Some(Signed { negative, value })
 }
 
 // 10 to the n, for n up to 300.
 fn power_of_ten(n: usize) -> f64 {
-    let mut x = 1.0;
-    let mut left = smaller(n, 300);
-    while left > 0 {
-        left -= 1;
-        x = x * 10.0;
-    }
-    x
+    (0..n.min(300)).fold(1.0, |x, _| x * 10.0)
 }
 
 fn raised(m: f64, up: usize) -> f64 {
-    m * power_of_ten(up) * power_of_ten(less(up, 300)) * power_of_ten(less(up, 600))
+    m * power_of_ten(up)
+        * power_of_ten(up.saturating_sub(300))
+        * power_of_ten(up.saturating_sub(600))
 }
 
 fn lowered(m: f64, down: usize) -> f64 {
-    m / power_of_ten(down) / power_of_ten(less(down, 300)) / power_of_ten(less(down, 600))
+    m / power_of_ten(down)
+        / power_of_ten(down.saturating_sub(300))
+        / power_of_ten(down.saturating_sub(600))
 }
 
-// A mantissa times ten to the up, over ten to the down.
+// A mantissa times ten to the up, over ten to the down. std's parse rounds otherwise, and what is printed may not
+// change.
 fn scaled(mantissa: u64, up: usize, down: usize) -> f64 {
     let m = std::num::nearest_u64_to_f64(mantissa);
     if mantissa == 0 {
-        return 0.0;
+        0.0
+    } else if down <= up {
+        raised(m, up - down)
+    } else {
+        lowered(m, down - up)
     }
-    if down <= up {
-        return raised(m, up - down);
-    }
-    lowered(m, down - up)
 }
 
-// The first digits of a number, as many as fit, how many more there are, and the place after them.
+// The first digits of a number, as many as fit, how many more there are, and how many there are in all.
 #[derive(Clone, Copy)]
 struct Mantissa {
     value: u64,
     dropped: usize,
-    next: usize,
+    count: usize,
 }
 
-fn fits(n: u64) -> bool {
-    n < 1_000_000_000_000_000_000
-}
-
-// Ten times a number and a digit, where that fits; else the number.
-fn ten_times(n: u64, d: u64) -> u64 {
-    if n >= 1_000_000_000_000_000_000 {
-        return n;
-    }
-    if d >= 10 {
-        return n;
-    }
-    n * 10 + d
-}
-
-// The digits from a place on, after a number that was read before them.
-fn mantissa_at(v: &[u8], from: usize, before: u64) -> Mantissa {
-    let mut at = from;
+// The digits that a text begins with, after a number that was read before them.
+fn read_mantissa(text: &[u8], before: u64) -> Mantissa
+    ensures { result.count ≤ length text.now }
+{
     let mut value = before;
     let mut dropped: usize = 0;
-    while at < v.len() {
-        let b = v[at];
-        if !is_digit(b) {
+    for (count, &b) in text.iter().enumerate() {
+        let Some(d) = char::from(b).to_digit(10) else {
             return Mantissa {
                 value,
                 dropped,
-                next: at,
+                count,
             };
+        };
+        if value < 1_000_000_000_000_000_000 {
+            value = value * 10 + u64::from(d);
+        } else {
+            dropped = dropped.saturating_add(1);
         }
-        dropped = place(dropped, if fits(value) { 0 } else { 1 });
-        value = ten_times(value, digit(b));
-        at += 1;
     }
     Mantissa {
         value,
         dropped,
-        next: at,
+        count: text.len(),
     }
 }
 
-// The exponent at a place: its size up or down, and the place after it.
+// A power of ten, up or down.
 #[derive(Clone, Copy)]
 struct Exponent {
     up: usize,
     down: usize,
-    next: usize,
 }
 
-fn is_e(b: u8) -> bool {
-    b == b'e' || b == b'E'
-}
-
-fn signed_exponent(n: Whole, minus: bool) -> Exponent {
-    let size = smaller(n.value as usize, 100000);
-    Exponent {
-        up: if minus { 0 } else { size },
-        down: if minus { size } else { 0 },
-        next: n.next,
-    }
-}
-
-fn read_exponent(v: &[u8], at: usize) -> Exponent {
-    let none = Exponent {
-        up: 0,
-        down: 0,
-        next: at,
+// The exponent that ends a number: nothing, or an e and a whole number.
+fn read_exponent(text: &[u8]) -> Option<Exponent> {
+    let [b'e' | b'E', signed @ ..] = text else {
+        return text.is_empty().then_some(Exponent { up: 0, down: 0 });
     };
-    if !is_e(byte(v, at)) {
-        return none;
-    }
-    let sign = place(at, 1);
-    let from = after_sign(v, sign);
-    let n = digits(v, from, 10);
-    if n.next == from {
-        return none;
-    }
-    signed_exponent(n, byte(v, sign) == b'-')
+    let (minus, rest) = after_sign(signed);
+    let size = all_digits(rest, 10)?.min(100000) as usize;
+    Some(if minus {
+        Exponent { up: 0, down: size }
+    } else {
+        Exponent { up: size, down: 0 }
+    })
 }
 
-// A decimal number, and the place after it; next is the place asked where none stands there.
-#[derive(Clone, Copy)]
-struct Decimal {
-    value: f64,
-    next: usize,
-}
-
-// The digits before the point and those after it, times the power of ten that stands from `end` on.
-fn decimal_of(v: &[u8], m: Mantissa, up: usize, after: usize, end: usize) -> Decimal {
-    let e = read_exponent(v, end);
-    Decimal {
-        value: scaled(m.value, place(e.up, up), place(e.down, after)),
-        next: e.next,
-    }
-}
-
-// The unsigned decimal number at a place.
-fn unsigned(v: &[u8], from: usize) -> Decimal {
-    let front = mantissa_at(v, from, 0);
-    let point = front.next;
-    if byte(v, point) != b'.' {
-        if point == from {
-            return Decimal {
-                value: 0.0,
-                next: from,
-            };
+// The unsigned decimal number that a text is.
+fn unsigned(text: &[u8]) -> Option<f64> {
+    let whole = read_mantissa(text, 0);
+    let rest = &text[whole.count..];
+    let Some(fraction) = rest.strip_prefix(b".") else {
+        if whole.count == 0 {
+            return None;
         }
-        return decimal_of(v, front, front.dropped, 0, point);
+        let e = read_exponent(rest)?;
+        return Some(scaled(whole.value, e.up.saturating_add(whole.dropped), e.down));
+    };
+    let all = read_mantissa(fraction, whole.value);
+    if whole.count == 0 && all.count == 0 {
+        return None;
     }
-    let first = place(point, 1);
-    let all = mantissa_at(v, first, front.value);
-    let after = less(all.next, first);
-    if point == from && after == 0 {
-        return Decimal {
-            value: 0.0,
-            next: from,
-        };
-    }
-    decimal_of(v, all, front.dropped, less(after, all.dropped), all.next)
+    let e = read_exponent(&fraction[all.count..])?;
+    let places = all.count.saturating_sub(all.dropped);
+    Some(scaled(
+        all.value,
+        e.up.saturating_add(whole.dropped),
+        e.down.saturating_add(places),
+    ))
 }
 
-// The number that a text is; NaN where it is none.
-pub(crate) fn read_real(v: &[u8]) -> f64 {
-    let from = after_sign(v, 0);
-    let n = unsigned(v, from);
-    if n.next == from || n.next != v.len() {
-        return 0.0 / 0.0;
-    }
-    if byte(v, 0) == b'-' {
-        return 0.0 - n.value;
-    }
-    n.value
+// The number that a text is.
+pub(crate) fn read_real(text: &[u8]) -> Option<f64> {
+    let (negative, rest) = after_sign(text);
+    let x = unsigned(rest)?;
+    Some(if negative { 0.0 - x } else { x })
 }
 
-// A decimal number in a text: where its digits begin, how many there are, and how many of them stand before the
-// written point; by its power of ten, the zeros that come before them and how many digits then stand before the
-// point; and the place after it.
+// A decimal number in a text: its digits before and after the written point; by its power of ten, the zeros that
+// come before them and how many digits then stand before the point.
 #[derive(Clone, Copy)]
-struct Spelled {
-    from: usize,
-    count: usize,
-    whole: usize,
+struct Spelled<'a> {
+    whole: &'a [u8],
+    fraction: &'a [u8],
     zeros: usize,
     before: usize,
-    next: usize,
 }
 
-// The unsigned number at a place.
-fn spelled_at(v: &[u8], from: usize) -> Spelled {
-    let front = digits(v, from, 10);
-    let point = front.next;
-    let first = if byte(v, point) == b'.' {
-        place(point, 1)
-    } else {
-        point
-    };
-    let rest = digits(v, first, 10);
-    let e = read_exponent(v, rest.next);
-    let whole = less(point, from);
-    let up = place(whole, e.up);
-    Spelled {
-        from,
-        count: place(whole, less(rest.next, first)),
-        whole,
-        zeros: less(e.down, up),
-        before: less(up, e.down),
-        next: e.next,
+impl<'a> Spelled<'a> {
+    // The unsigned number that a text is.
+    fn of(text: &'a [u8]) -> Option<Spelled<'a>> {
+        let front = read_digits(text, 10);
+        let (whole, rest) = text.split_at(front.count);
+        let rest = rest.strip_prefix(b".").unwrap_or(rest);
+        let (fraction, end) = rest.split_at(read_digits(rest, 10).count);
+        if whole.is_empty() && fraction.is_empty() {
+            return None;
+        }
+        let e = read_exponent(end)?;
+        let up = whole.len().saturating_add(e.up);
+        Some(Spelled {
+            whole,
+            fraction,
+            zeros: e.down.saturating_sub(up),
+            before: up.saturating_sub(e.down),
+        })
     }
-}
 
-// Digit k of those that are written; 0 beyond them.
-fn written_digit(v: &[u8], s: Spelled, k: usize) -> u64 {
-    if k >= s.count {
-        return 0;
+    // Digit k, the zeros before those that are written among them; 0 beyond them.
+    fn digit(self, k: usize) -> u64 {
+        let Some(i) = k.checked_sub(self.zeros) else {
+            return 0;
+        };
+        let b = if i < self.whole.len() {
+            self.whole[i]
+        } else {
+            byte(self.fraction, i - self.whole.len())
+        };
+        char::from(b).to_digit(10).map_or(0, u64::from)
     }
-    let point: usize = if k < s.whole { 0 } else { 1 };
-    digit(byte(v, place(s.from, place(k, point))))
-}
 
-// Digit k, the zeros before those that are written among them.
-fn spelled_digit(v: &[u8], s: Spelled, k: usize) -> u64 {
-    if k < s.zeros {
-        return 0;
+    // What so many digits from digit k on spell; the largest number where that is too large.
+    fn value_of(self, k: usize, count: usize) -> u64 {
+        (k..k.saturating_add(count)).fold(0u64, |value, at| {
+            value.saturating_mul(10).saturating_add(self.digit(at))
+        })
     }
-    written_digit(v, s, less(k, s.zeros))
-}
-
-// What so many digits from digit k on spell; the largest number where that is too large.
-fn value_of(v: &[u8], s: Spelled, k: usize, count: usize) -> u64 {
-    let mut value: u64 = 0;
-    let mut at = k;
-    let mut left = count;
-    while left > 0 {
-        left -= 1;
-        value = sum(times(value, 10), spelled_digit(v, s, at));
-        at = place(at, 1);
-    }
-    value
 }
 
 // 1/65536s: those of a whole part, and the nearest to a fraction of 17 decimal places, half away from zero. The
 // largest number where there are too many.
 fn units(whole: u64, places: u64) -> u64 {
-    if whole >= 0x1_0000_0000_0000 {
-        return u64::MAX;
-    }
-    sum(65536 * whole, sum(places / 762_939_453_125, 1) / 2)
+    whole
+        .saturating_mul(65536)
+        .saturating_add((places / 762_939_453_125).saturating_add(1) / 2)
 }
 
 // The nearest 1/65536 to the number that a text is, half away from zero. A multiple of 1/131072 has at most 17
 // decimal places, so the places after these do not count: 762939453125 is 5 ^ 17, and the first 17 places divided by
 // it are the fraction in whole 1/131072s.
-pub(crate) fn read_units(v: &[u8]) -> Signed {
-    let from = after_sign(v, 0);
-    let s = spelled_at(v, from);
-    if s.count == 0 || s.next != v.len() {
-        return no_whole();
-    }
-    Signed {
-        found: true,
-        negative: byte(v, 0) == b'-',
-        value: units(value_of(v, s, 0, s.before), value_of(v, s, s.before, 17)),
-    }
+pub(crate) fn read_units(text: &[u8]) -> Option<Signed> {
+    let (negative, rest) = after_sign(text);
+    let s = Spelled::of(rest)?;
+    Some(Signed {
+        negative,
+        value: units(s.value_of(0, s.before), s.value_of(s.before, 17)),
+    })
 }
 
 // A count that a text is, if it is a whole number of 0 or more.
-#[derive(Clone, Copy)]
-pub(crate) struct Count {
-    pub found: bool,
-    pub value: usize,
-}
-
-pub(crate) fn read_count(v: &[u8]) -> Count {
-    let x = read_real(v);
-    Count {
-        found: 0.0 <= x && binary64::floor(x) == x,
-        value: binary64::to_usize(x),
-    }
+pub(crate) fn read_count(text: &[u8]) -> Option<usize> {
+    let x = read_real(text)?;
+    (0.0 <= x && binary64::floor(x) == x).then_some(binary64::to_usize(x))
 }

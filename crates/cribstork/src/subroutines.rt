@@ -1,49 +1,36 @@
 // The subroutine bank of a font: a count, the offsets, the bodies.
-use crate::bytes::{copy, four_times, low_byte, place, put, span_at, span_len, word};
+use crate::BANK_BYTES;
+use crate::bytes::Span;
+use crate::trouble::{Trouble, What};
+use std::alloc::Global;
 
-// The bytes that a bank of the listed subroutines has.
-pub(crate) fn bank_length(list: &[u64], count: usize) -> usize {
-    let mut n = place(6, four_times(count));
-    let mut i: usize = 0;
-    while i < count {
-        n = place(n, span_len(word(list, i)));
-        i += 1;
+// The bytes of a subroutine; none where it is not defined.
+fn body(text: &[u8], span: Option<Span>) -> &[u8] {
+    match span {
+        Some(span) => span.of(text),
+        None => &[],
     }
-    n
 }
 
-fn put_u16(v: &mut [u8], at: usize, n: usize) {
-    put(v, at, low_byte(n / 256));
-    put(v, place(at, 1), low_byte(n));
-}
-
-fn put_u32(v: &mut [u8], at: usize, n: usize) {
-    put_u16(v, at, n / 65536);
-    put_u16(v, place(at, 2), n);
-}
-
-// Offset i of a bank.
-fn put_offset(bank: &mut [u8], i: usize, offset: usize) {
-    put_u32(bank, place(2, four_times(i)), offset);
-}
-
-// Offset i of a bank, and the body that begins there.
-fn put_body(v: &[u8], s: u64, i: usize, offset: usize, to: usize, bank: &mut [u8]) {
-    put_offset(bank, i, offset);
-    copy(v, span_at(s), span_len(s), bank, to);
-}
-
-// The bank. Its length is bank_length's.
-pub(crate) fn build_bank(v: &[u8], list: &[u64], count: usize, bank: &mut [u8]) {
-    let table = place(6, four_times(count));
+// The bank of the listed subroutines: a count of two bytes, offsets of four, and the bodies.
+pub(crate) fn build_bank(
+    alloc: Global,
+    text: &[u8],
+    list: &[Option<Span>],
+) -> Result<Vec<u8>, Trouble> {
+    let mut bank = Vec::new(alloc);
     let mut offset: usize = 0;
-    let mut i: usize = 0;
-    put_u16(bank, 0, count);
-    while i < count {
-        let s = word(list, i);
-        put_body(v, s, i, offset, place(table, offset), bank);
-        offset = place(offset, span_len(s));
-        i += 1;
+    bank.extend_from_slice(&list.len().to_be_bytes()[6..])?;
+    bank.extend_from_slice(&offset.to_be_bytes()[4..])?;
+    for &span in list {
+        offset = offset.saturating_add(body(text, span).len());
+        bank.extend_from_slice(&offset.to_be_bytes()[4..])?;
     }
-    put_offset(bank, count, offset);
+    if bank.len().saturating_add(offset) > BANK_BYTES {
+        return Err(What::TooLargeBank.into());
+    }
+    for &span in list {
+        bank.extend_from_slice(body(text, span))?;
+    }
+    Ok(bank)
 }

@@ -1,595 +1,412 @@
 // The table of a font's glyphs, and the row of a font.
-use crate::bytes::{larger, less, listed, part, place, put_word, sum, word};
-use crate::converting::{Measured, Setup};
+use crate::converting::{Conversion, Measured, Setup, Sizes, Stores};
+use crate::doubles::Double;
 use crate::font::Font;
+use crate::names::Names;
 use crate::options::Options;
-use crate::window::Judged;
-use crate::{converting, doubles, names, page, say, tokens, window};
-use boxes::Bounds;
+use crate::page::Page;
+use crate::source::{Code, Source};
+use crate::window;
+use crate::window::{Columns, Corners};
+use boxes::{Bounds, Boxed, Verdict};
+use refusal::Refusal;
+use std::alloc::{AllocError, Global};
+use std::collections::BTreeMap;
+use std::fmt;
+use type2::Widths;
 
-// What a font's glyphs add up to: how many there are, are shown and convert, the largest stores that one
-// needs, and how many lie how to the window.
+// How many glyphs are refused so.
 #[derive(Clone, Copy)]
-pub(crate) struct Totals {
-    pub glyphs: usize,
-    pub shown: usize,
-    pub converted: usize,
-    pub stems: usize,
-    pub commands: usize,
-    pub output: usize,
-    pub within: usize,
-    pub crossing: usize,
-    pub outside: usize,
-    pub no_point: usize,
+struct Refused {
+    why: Refusal,
+    glyphs: u64,
 }
 
-fn no_totals() -> Totals {
-    Totals {
-        glyphs: 0,
-        shown: 0,
-        converted: 0,
-        stems: 0,
-        commands: 0,
-        output: 0,
-        within: 0,
-        crossing: 0,
-        outside: 0,
-        no_point: 0,
+// What a font's glyphs add up to: how many there are and convert, the largest stores that one needs, how many
+// lie how to the window, and how many are refused with which number.
+#[derive(Drop)]
+struct Totals {
+    glyphs: usize,
+    converted: usize,
+    needs: Sizes,
+    within: usize,
+    crossing: usize,
+    outside: usize,
+    no_point: usize,
+    refused: BTreeMap<u8, Refused>,
+}
+
+impl Totals {
+    fn new(alloc: Global) -> Totals {
+        Totals {
+            glyphs: 0,
+            converted: 0,
+            needs: Sizes::NONE,
+            within: 0,
+            crossing: 0,
+            outside: 0,
+            no_point: 0,
+            refused: BTreeMap::new(alloc),
+        }
     }
-}
 
-fn one_if(counts: bool) -> usize {
-    if counts { 1 } else { 0 }
-}
-
-// The totals with one more glyph that lies so to the window.
-fn with_verdict(t: Totals, what: usize) -> Totals {
-    let mut u = t;
-    u.within = place(t.within, one_if(what == window::WITHIN));
-    u.crossing = place(t.crossing, one_if(what == window::CROSSING));
-    u.outside = place(t.outside, one_if(what == window::OUTSIDE));
-    u.no_point = place(t.no_point, one_if(what == window::NO_POINT));
-    u
-}
-
-// The totals with one more glyph.
-fn with_glyph(t: Totals, m: Measured, shown: usize) -> Totals {
-    let mut u = t;
-    u.glyphs = place(t.glyphs, 1);
-    u.shown = place(t.shown, shown);
-    if m.number == 0 {
-        u.converted = place(t.converted, 1);
+    // One more glyph.
+    fn add(&mut self, m: Measured) -> Result<(), AllocError> {
+        self.glyphs = self.glyphs.saturating_add(1);
+        self.needs = self.needs.max(m.needs);
+        match m.answer {
+            Ok(_) => self.converted = self.converted.saturating_add(1),
+            Err(why) => self.add_refused(why)?,
+        }
+        Ok(())
     }
-    u.stems = larger(t.stems, m.stems);
-    u.commands = larger(t.commands, m.commands);
-    u.output = larger(t.output, m.output);
-    u
-}
 
-// A line of the table.
-fn print_row(
-    rt: &HostRuntime,
-    page: &mut [u8],
-    name: &[u8],
-    m: Measured,
-    windowed: bool,
-    j: Judged,
-) {
-    page::left(rt, page, name, 28);
-    page::whole_right(rt, page, m.number, 6);
-    if m.number != 0 {
-        page::text(rt, page, b"      -           -      -  ");
-        page::text_if(rt, page, windowed, b"-         ");
-        say::refusal(rt, page, m.number as usize);
-        page::end(rt, page);
-        return;
+    fn add_refused(&mut self, why: Refusal) -> Result<(), AllocError> {
+        let none = Refused { why, glyphs: 0 };
+        let refused = self.refused.entry(why.number())?.or_insert(none);
+        refused.glyphs = refused.glyphs.saturating_add(1);
+        Ok(())
     }
-    page::count_right(rt, page, m.len, 7);
-    doubles::right(rt, page, m.width, 12);
-    page::count_right(rt, page, m.ran, 7);
-    window::column_if(rt, page, windowed, j);
-    page::end(rt, page);
-}
 
-// Prints a glyph's bytes, where they are wanted and it has some.
-fn show_bytes(rt: &HostRuntime, page: &mut [u8], m: Measured, wanted: bool, out: &mut [u8]) {
-    if wanted && m.number == 0 {
-        let program = type1_to_type2::finished_program(out, m.len);
-        page::hex_line(rt, page, program);
+    // One more glyph that lies so to the window.
+    fn add_boxed(&mut self, boxed: Option<Boxed>) {
+        match boxed.map(|p| p.verdict) {
+            None => self.no_point = self.no_point.saturating_add(1),
+            Some(Verdict::Within) => self.within = self.within.saturating_add(1),
+            Some(Verdict::Crossing) => self.crossing = self.crossing.saturating_add(1),
+            Some(Verdict::Outside) => self.outside = self.outside.saturating_add(1),
+        }
     }
-}
 
-// Prints a glyph's line, and its bytes, where they are shown; the answer is how many lines.
-fn show(
-    rt: &HostRuntime,
-    page: &mut [u8],
-    name: &[u8],
-    m: Measured,
-    j: Judged,
-    marked: bool,
-    o: Options,
-    out: &mut [u8],
-) -> usize {
-    if !o.table || !marked {
-        return 0;
+    fn refused_glyphs(&self) -> usize {
+        self.glyphs.saturating_sub(self.converted)
     }
-    print_row(rt, page, name, m, o.window != 0, j);
-    show_bytes(rt, page, m, o.hex, out);
-    1
-}
 
-// Holds a glyph that was measured to the window, and shows it; the answer is the totals with it.
-fn with_shown(
-    rt: &HostRuntime,
-    page: &mut [u8],
-    name: &[u8],
-    m: Measured,
-    marked: bool,
-    s: Setup,
-    o: Options,
-    t: Totals,
-    out: &mut [u8],
-) -> Totals {
-    let j = window::judge(part(out, 0, m.len), s.has_window && m.number == 0, s.window);
-    let shown = show(rt, page, name, m, j, marked, o, out);
-    with_verdict(with_glyph(t, m, shown), j.what)
-}
-
-// One more glyph has this number.
-fn count_number(refusals: &mut [u64], number: u64) {
-    let at = number as usize;
-    let before = word(refusals, at);
-    put_word(refusals, at, sum(before, 1));
-}
-
-// Measures glyph i, shows it where it is marked, and counts its number.
-fn glyph(
-    rt: &HostRuntime,
-    page: &mut [u8],
-    v: &[u8],
-    list: &[u64],
-    codes: &[u64],
-    marks: &[u64],
-    i: usize,
-    bank: &[u8],
-    s: Setup,
-    most: widths::Chosen,
-    w: widths::Chosen,
-    o: Options,
-    t: Totals,
-    words: &mut [u64],
-    refusals: &mut [u64],
-) -> Totals {
-    let mut program = converting::output_store();
-    let mut out = converting::output_store();
-    let code = listed(v, codes, i);
-    let m = converting::measure(code, bank, s, most, w, words, &mut program, &mut out);
-    count_number(refusals, m.number);
-    let name = listed(v, list, i);
-    let marked = names::is_marked(marks, i);
-    with_shown(rt, page, name, m, marked, s, o, t, &mut out)
-}
-
-// Measures so many glyphs, counts the numbers, and shows those that are marked.
-pub(crate) fn glyphs(
-    rt: &HostRuntime,
-    page: &mut [u8],
-    v: &[u8],
-    list: &[u64],
-    codes: &[u64],
-    marks: &[u64],
-    count: usize,
-    bank: &[u8],
-    s: Setup,
-    most: widths::Chosen,
-    w: widths::Chosen,
-    o: Options,
-    words: &mut [u64],
-    refusals: &mut [u64],
-) -> Totals {
-    let mut t = no_totals();
-    let mut left = count;
-    while left > 0 {
-        let i = less(count, left);
-        t = glyph(
-            rt, page, v, list, codes, marks, i, bank, s, most, w, o, t, words, refusals,
+    // The lines below the table.
+    fn print(&self, page: &mut Page, widths: Widths) {
+        write!(
+            page,
+            "glyphs: {}; converted: {}; refused: {}\n",
+            self.glyphs,
+            self.converted,
+            self.refused_glyphs(),
         );
-        left -= 1;
+        for (number, refused) in self.refused.iter() {
+            write!(
+                page,
+                "  refused with {number}, glyphs: {}; {}\n",
+                refused.glyphs, refused.why,
+            );
+        }
+        write!(
+            page,
+            "default width: {}; nominal width: {}\n",
+            Double(widths.default_width_x),
+            Double(widths.nominal_width_x),
+        );
+        let [stems, commands, output] = self.needs.as_needs();
+        write!(
+            page,
+            "largest stores needed: stems {stems}, commands {commands}, output {output}\n",
+        );
     }
-    t
-}
 
-// A label and a number, or a width.
-fn print_item(rt: &HostRuntime, page: &mut [u8], label: &[u8], n: usize) {
-    page::text(rt, page, label);
-    page::count(rt, page, n);
-}
-
-fn print_width(rt: &HostRuntime, page: &mut [u8], label: &[u8], x: f64) {
-    page::text(rt, page, label);
-    doubles::text(rt, page, x);
-}
-
-// A number that was given, with its count and its meaning.
-fn print_refusal(rt: &HostRuntime, page: &mut [u8], number: usize, n: u64) {
-    if n == 0 {
-        return;
+    // How many glyphs lie how to the window.
+    fn print_window(&self, page: &mut Page, window: Bounds) {
+        write!(
+            page,
+            "window: {}; within: {}; crossing: {}; outside: {}; no point: {}\n",
+            Corners(window),
+            self.within,
+            self.crossing,
+            self.outside,
+            self.no_point,
+        );
     }
-    print_item(rt, page, b"  refused with ", number);
-    page::text(rt, page, b", glyphs: ");
-    page::whole(rt, page, n);
-    page::text(rt, page, b"; ");
-    say::refusal(rt, page, number);
-    page::end(rt, page);
-}
 
-fn print_refusals(rt: &HostRuntime, page: &mut [u8], refusals: &[u64]) {
-    let mut i: usize = 1;
-    while i < refusals.len() {
-        print_refusal(rt, page, i, refusals[i]);
-        i += 1;
+    // The row of a font: cells with tabs between them.
+    fn print_row(&self, page: &mut Page, source: Source, widths: Widths) {
+        page.name(source.path);
+        write!(
+            page,
+            "\t{}\t{}\t{}\t",
+            self.glyphs,
+            self.converted,
+            self.refused_glyphs(),
+        );
+        self.print_numbers(page);
+        let [stems, commands, output] = self.needs.as_needs();
+        write!(
+            page,
+            "\t{}\t{}\t{stems}\t{commands}\t{output}\t{}\n",
+            Double(widths.default_width_x),
+            Double(widths.nominal_width_x),
+            Notes(source.font),
+        );
     }
-}
 
-// What is needed of a store, or that it is over what the program lends.
-pub(crate) fn print_need(rt: &HostRuntime, page: &mut [u8], n: usize, limit: usize) {
-    if n > limit {
-        page::text(rt, page, b"over ");
-        page::count(rt, page, limit);
-        return;
+    // The cell of the numbers that were given, with their counts.
+    fn print_numbers(&self, page: &mut Page) {
+        if self.refused.is_empty() {
+            write!(page, "-");
+        }
+        for (i, (number, refused)) in self.refused.iter().enumerate() {
+            if i > 0 {
+                write!(page, " ");
+            }
+            write!(page, "{number}x{}", refused.glyphs);
+        }
     }
-    page::count(rt, page, n);
-}
-
-fn print_stores(rt: &HostRuntime, page: &mut [u8], t: Totals) {
-    page::text(rt, page, b"largest stores needed: stems ");
-    print_need(rt, page, t.stems, crate::STEMS);
-    page::text(rt, page, b", commands ");
-    print_need(rt, page, t.commands, converting::ENTRIES);
-    page::text(rt, page, b", output ");
-    print_need(rt, page, t.output, converting::OUTPUT);
-    page::end(rt, page);
-}
-
-fn print_counts(rt: &HostRuntime, page: &mut [u8], t: Totals) {
-    print_item(rt, page, b"glyphs: ", t.glyphs);
-    print_item(rt, page, b"; converted: ", t.converted);
-    print_item(rt, page, b"; refused: ", less(t.glyphs, t.converted));
-    page::end(rt, page);
-}
-
-fn print_widths(rt: &HostRuntime, page: &mut [u8], w: widths::Chosen) {
-    print_width(rt, page, b"default width: ", w.widths.default_width_x);
-    print_width(rt, page, b"; nominal width: ", w.widths.nominal_width_x);
-    page::end(rt, page);
-}
-
-fn print_totals(rt: &HostRuntime, page: &mut [u8], t: Totals, w: widths::Chosen, refusals: &[u64]) {
-    print_counts(rt, page, t);
-    print_refusals(rt, page, refusals);
-    print_widths(rt, page, w);
-    print_stores(rt, page, t);
-}
-
-// How many glyphs lie how to the window.
-fn print_window(rt: &HostRuntime, page: &mut [u8], b: Bounds, t: Totals) {
-    page::text(rt, page, b"window: ");
-    window::numbers(rt, page, b);
-    print_item(rt, page, b"; within: ", t.within);
-    print_item(rt, page, b"; crossing: ", t.crossing);
-    print_item(rt, page, b"; outside: ", t.outside);
-    print_item(rt, page, b"; no point: ", t.no_point);
-    page::end(rt, page);
-}
-
-pub(crate) fn window_if(rt: &HostRuntime, page: &mut [u8], wanted: bool, b: Bounds, t: Totals) {
-    if wanted {
-        print_window(rt, page, b, t);
-    }
-}
-
-// A number that was given, with its count, in a cell; the answer is whether one stands there.
-fn print_number(rt: &HostRuntime, page: &mut [u8], number: usize, n: u64, before: bool) -> bool {
-    if n == 0 {
-        return before;
-    }
-    page::text_if(rt, page, before, b" ");
-    page::count(rt, page, number);
-    page::text(rt, page, b"x");
-    page::whole(rt, page, n);
-    true
-}
-
-fn print_numbers(rt: &HostRuntime, page: &mut [u8], refusals: &[u64]) {
-    let mut i: usize = 1;
-    let mut before = false;
-    while i < refusals.len() {
-        before = print_number(rt, page, i, refusals[i], before);
-        i += 1;
-    }
-    page::text_if(rt, page, !before, b"-");
-}
-
-fn cell(rt: &HostRuntime, page: &mut [u8], n: usize) {
-    page::tab(rt, page);
-    page::count(rt, page, n);
-}
-
-// So many cells with nothing in them.
-pub(crate) fn empty_cells(rt: &HostRuntime, page: &mut [u8], n: usize) {
-    let mut left = n;
-    while left > 0 {
-        left -= 1;
-        page::text(rt, page, b"\t-");
-    }
-}
-
-// Between two notes.
-fn note_after(rt: &HostRuntime, page: &mut [u8], before: bool) {
-    page::text_if(rt, page, before, b"; ");
-}
-
-// So many of those declared.
-fn note_count(
-    rt: &HostRuntime,
-    page: &mut [u8],
-    n: usize,
-    declared: usize,
-    what: &[u8],
-    before: bool,
-) -> bool {
-    if n == declared {
-        return before;
-    }
-    note_after(rt, page, before);
-    page::text(rt, page, what);
-    page::count(rt, page, n);
-    print_item(rt, page, b", declared ", declared);
-    true
-}
-
-// So many that were defined again.
-fn note_again(rt: &HostRuntime, page: &mut [u8], n: usize, what: &[u8], before: bool) -> bool {
-    if n == 0 {
-        return before;
-    }
-    note_after(rt, page, before);
-    page::text(rt, page, what);
-    print_item(rt, page, b" defined again ", n);
-    true
-}
-
-// What the font does not define.
-fn note_lack(rt: &HostRuntime, page: &mut [u8], defined: bool, label: &[u8], before: bool) -> bool {
-    if defined {
-        return before;
-    }
-    note_after(rt, page, before);
-    page::text(rt, page, label);
-    true
-}
-
-// What is lawful but worth knowing of a font; the answer is whether there is something.
-fn some_notes(rt: &HostRuntime, page: &mut [u8], f: Font) -> bool {
-    let before = note_counts(rt, page, f);
-    note_lacks(rt, page, f, before)
-}
-
-fn note_counts(rt: &HostRuntime, page: &mut [u8], f: Font) -> bool {
-    let a = note_count(rt, page, f.glyphs, f.room, b"glyphs ", false);
-    let b = note_count(rt, page, f.bodies, f.count, b"subroutines ", a);
-    let c = note_again(rt, page, f.again, b"glyphs", b);
-    note_again(rt, page, f.rewritten, b"subroutines", c)
-}
-
-fn note_lacks(rt: &HostRuntime, page: &mut [u8], f: Font, before: bool) -> bool {
-    let a = note_lack(rt, page, f.matrix != 0, b"no FontMatrix", before);
-    let b = note_lack(rt, page, f.typed, b"no FontType", a);
-    note_lack(rt, page, f.subrs != 0, b"no Subrs", b)
-}
-
-fn has_notes(f: Font) -> bool {
-    f.glyphs != f.room
-        || f.bodies != f.count
-        || f.again != 0
-        || f.rewritten != 0
-        || f.matrix == 0
-        || !f.typed
-        || f.subrs == 0
-}
-
-// The cell of notes.
-pub(crate) fn notes(rt: &HostRuntime, page: &mut [u8], f: Font) {
-    page::tab(rt, page);
-    let some = some_notes(rt, page, f);
-    page::text_if(rt, page, !some, b"-");
-    page::end(rt, page);
-}
-
-// A row for a font: cells with tabs between them.
-fn print_line(
-    rt: &HostRuntime,
-    page: &mut [u8],
-    path: &[u8],
-    f: Font,
-    t: Totals,
-    w: widths::Chosen,
-    refusals: &[u64],
-) {
-    page::name(rt, page, path);
-    count_cells(rt, page, t);
-    page::tab(rt, page);
-    print_numbers(rt, page, refusals);
-    width_cell(rt, page, w.widths.default_width_x);
-    width_cell(rt, page, w.widths.nominal_width_x);
-    need_cell(rt, page, t.stems, crate::STEMS);
-    need_cell(rt, page, t.commands, converting::ENTRIES);
-    need_cell(rt, page, t.output, converting::OUTPUT);
-    notes(rt, page, f);
-}
-
-fn count_cells(rt: &HostRuntime, page: &mut [u8], t: Totals) {
-    cell(rt, page, t.glyphs);
-    cell(rt, page, t.converted);
-    cell(rt, page, less(t.glyphs, t.converted));
-}
-
-fn width_cell(rt: &HostRuntime, page: &mut [u8], x: f64) {
-    page::tab(rt, page);
-    doubles::text(rt, page, x);
-}
-
-fn need_cell(rt: &HostRuntime, page: &mut [u8], n: usize, limit: usize) {
-    page::tab(rt, page);
-    print_need(rt, page, n, limit);
 }
 
 // The row of a font that cannot be read.
-pub(crate) fn print_unreadable(rt: &HostRuntime, page: &mut [u8], path: &[u8]) {
-    page::name(rt, page, path);
-    empty_cells(rt, page, 9);
-    page::text(rt, page, b"\tunreadable\n");
+pub(crate) fn print_unreadable(page: &mut Page, path: &[u8]) {
+    page.name(path);
+    write!(page, "\t-\t-\t-\t-\t-\t-\t-\t-\t-\tunreadable\n");
+}
+
+// What is lawful but worth knowing of a font.
+#[derive(Clone, Copy)]
+enum Note {
+    // So many of those declared.
+    Count {
+        what: &'static str,
+        n: usize,
+        declared: usize,
+    },
+    // So many that were defined again.
+    Again {
+        what: &'static str,
+        n: usize,
+    },
+    // What the font does not define.
+    Lacks(&'static str),
+}
+
+impl fmt::Display for Note {
+    fn fmt<W: fmt::Write>(&self, f: &mut fmt::Formatter<W>) -> fmt::Result {
+        match self {
+            Note::Count { what, n, declared } => write!(f, "{what} {n}, declared {declared}"),
+            Note::Again { what, n } => write!(f, "{what} defined again {n}"),
+            Note::Lacks(what) => write!(f, "no {what}"),
+        }
+    }
+}
+
+fn count_note(what: &'static str, n: usize, declared: usize) -> Option<Note> {
+    (n != declared).then_some(Note::Count { what, n, declared })
+}
+
+fn again_note(what: &'static str, n: usize) -> Option<Note> {
+    (n != 0).then_some(Note::Again { what, n })
+}
+
+fn lack_note(what: &'static str, defined: bool) -> Option<Note> {
+    (!defined).then_some(Note::Lacks(what))
+}
+
+// The notes on a font, or '-'.
+#[derive(Clone, Copy)]
+pub(crate) struct Notes<'a, 't>(pub &'a Font<'t>);
+
+impl Notes<'_, '_> {
+    fn notes(&self) -> [Option<Note>; 7] {
+        let f = self.0;
+        let glyphs = f.charstrings.glyphs.len();
+        [
+            count_note("glyphs", glyphs, f.charstrings.room),
+            count_note("subroutines", f.defined(), f.bodies().len()),
+            again_note("glyphs", f.charstrings.again),
+            again_note("subroutines", f.rewritten()),
+            lack_note("FontMatrix", f.head.matrix.is_some()),
+            lack_note("FontType", f.head.typed),
+            lack_note("Subrs", f.subroutines.is_some()),
+        ]
+    }
+
+    fn are_none(&self) -> bool {
+        self.notes().iter().all(|note| note.is_none())
+    }
+}
+
+impl fmt::Display for Notes<'_, '_> {
+    fn fmt<W: fmt::Write>(&self, f: &mut fmt::Formatter<W>) -> fmt::Result {
+        if self.are_none() {
+            return f.write_str("-");
+        }
+        for (i, note) in self.notes().into_iter().flatten().enumerate() {
+            if i > 0 {
+                f.write_str("; ")?;
+            }
+            write!(f, "{note}")?;
+        }
+        Ok(())
+    }
 }
 
 // The six numbers of the font's matrix.
-fn print_matrix(rt: &HostRuntime, page: &mut [u8], v: &[u8], from: usize) {
-    if from == 0 {
-        page::text(rt, page, b"-");
+fn print_matrix(page: &mut Page, font: &Font) {
+    let Some(m) = font.head.matrix else {
+        write!(page, "-");
         return;
-    }
-    let mut at = from;
-    let mut left: usize = 6;
-    while left > 0 {
-        left -= 1;
-        let t = tokens::next(v, at);
-        page::name(rt, page, tokens::text(v, t));
-        page::text_if(rt, page, left > 0, b" ");
-        at = t.end;
-    }
-}
-
-// The bytes that a charstring drops, or that there are none.
-fn print_len_iv(rt: &HostRuntime, page: &mut [u8], len_iv: usize) {
-    if len_iv == usize::MAX {
-        page::text(rt, page, b"; not encrypted");
-        return;
-    }
-    print_item(rt, page, b"; lenIV: ", len_iv);
-}
-
-// A line of notes, if there are any.
-fn notes_line(rt: &HostRuntime, page: &mut [u8], f: Font) {
-    if has_notes(f) {
-        page::text(rt, page, b"notes: ");
-        some_notes(rt, page, f);
-        page::end(rt, page);
+    };
+    for (i, number) in [m.a, m.b, m.c, m.d, m.tx, m.ty].iter().enumerate() {
+        if i > 0 {
+            write!(page, " ");
+        }
+        page.name(number.span.of(font.text));
     }
 }
 
 // The line of what the font defines.
-fn definitions(rt: &HostRuntime, page: &mut [u8], v: &[u8], f: Font, bank: &[u8]) {
-    page::text(rt, page, b"FontMatrix: ");
-    print_matrix(rt, page, v, f.matrix);
-    print_len_iv(rt, page, f.len_iv);
-    print_item(rt, page, b"; subroutines: ", f.count);
-    print_item(rt, page, b"; bytes of the bank: ", bank.len());
-    page::end(rt, page);
+fn print_definitions(page: &mut Page, source: Source) {
+    write!(page, "FontMatrix: ");
+    print_matrix(page, source.font);
+    match source.font.head.len_iv {
+        Some(n) => write!(page, "; lenIV: {n}"),
+        None => write!(page, "; not encrypted"),
+    }
+    write!(
+        page,
+        "; subroutines: {}; bytes of the bank: {}\n",
+        source.font.bodies().len(),
+        source.bank.len(),
+    );
 }
 
 // What is known of a font before its glyphs are converted.
-fn print_font(
-    rt: &HostRuntime,
-    page: &mut [u8],
-    windowed: bool,
-    path: &[u8],
-    v: &[u8],
-    f: Font,
-    bank: &[u8],
-) {
-    page::name(rt, page, path);
-    page::end(rt, page);
-    definitions(rt, page, v, f, bank);
-    notes_line(rt, page, f);
-    page::text(
-        rt,
+fn print_font(page: &mut Page, source: Source, windowed: bool) {
+    page.name(source.path);
+    write!(page, "\n");
+    print_definitions(page, source);
+    let notes = Notes(source.font);
+    if !notes.are_none() {
+        write!(page, "notes: {notes}\n");
+    }
+    let columns = if windowed { "  window    box" } else { "" };
+    write!(
         page,
-        b"glyph                       number  bytes       width    run",
+        "glyph                       number  bytes       width    run{columns}\n",
     );
-    page::text_if(rt, page, windowed, b"  window    box");
-    page::end(rt, page);
 }
 
-// A name that was asked, if no glyph has it.
-fn print_missing(rt: &HostRuntime, page: &mut [u8], name: &[u8], lacks: bool) {
-    if !lacks {
-        return;
+// A line of the table; how the glyph lies to the window, where there is one.
+fn print_glyph(page: &mut Page, name: &[u8], m: Measured, windowed: bool, boxed: Option<Boxed>) {
+    page.left(name, 28);
+    match m.answer {
+        Err(why) => {
+            let number = why.number();
+            let column = if windowed { "-         " } else { "" };
+            write!(
+                page,
+                "{number:>6}      -           -      -  {column}{why}\n"
+            );
+        }
+        Ok(done) => {
+            write!(
+                page,
+                "     0{:>7} {:>11}{:>7}",
+                done.len,
+                Double(done.width),
+                done.ran,
+            );
+            if windowed {
+                write!(page, "  {}", Columns(boxed));
+            }
+            write!(page, "\n");
+        }
     }
-    page::text(rt, page, b"no glyph named ");
-    page::name(rt, page, name);
-    page::end(rt, page);
 }
 
 // The names that were asked and no glyph has.
-pub(crate) fn print_all_missing(
-    rt: &HostRuntime,
-    page: &mut [u8],
-    v: &[u8],
-    list: &[u64],
-    table: &[u64],
-    asked: &[u8],
-) {
-    let mut at: usize = 0;
-    let mut turns = asked.len();
-    while turns > 0 {
-        turns -= 1;
-        let n = names::next(asked, at);
-        if names::is_none(asked, n) {
-            return;
+fn print_missing(page: &mut Page, source: Source, asked: &Names) {
+    for name in asked.listed() {
+        if source.font.lacks(*name) {
+            write!(page, "no glyph named ");
+            page.name(*name);
+            write!(page, "\n");
         }
-        let lacks = names::is_missing(v, list, table, asked, n);
-        print_missing(rt, page, names::text(asked, n), lacks);
-        at = n.end;
     }
 }
 
-pub(crate) fn font_if(
-    rt: &HostRuntime,
-    page: &mut [u8],
-    o: Options,
-    path: &[u8],
-    v: &[u8],
-    f: Font,
-    bank: &[u8],
-) {
+// The table of a font: the glyphs on a bank, whether there is a table, and whether it has the bytes of the glyphs.
+#[derive(Clone, Copy)]
+struct Table<'a, 't> {
+    conversion: Conversion<'a, 't>,
+    printed: bool,
+    hex: bool,
+}
+
+impl Table<'_, '_> {
+    // Measures a glyph, holds it to the window, and prints its line and its bytes where they are shown.
+    fn do_glyph(
+        &self,
+        page: &mut Page,
+        name: &[u8],
+        code: Code,
+        shown: bool,
+        stores: &mut Stores,
+        totals: &mut Totals,
+    ) -> Result<(), AllocError> {
+        let m = self.conversion.measure(code, stores);
+        let window = self.conversion.setup.window;
+        totals.add(m)?;
+        let finished = stores.finished(m.answer.map_or(0, |done| done.len));
+        let mut boxed = None;
+        if let (Ok(_), Some(window)) = (m.answer, window) {
+            boxed = window::judge(finished, window);
+            totals.add_boxed(boxed);
+        }
+        if self.printed && shown {
+            print_glyph(page, name, m, window.is_some(), boxed);
+            if self.hex {
+                page.hex_line(finished);
+            }
+        }
+        Ok(())
+    }
+}
+
+// The table of a font, or its row; the answer is whether all glyphs convert.
+pub(crate) fn print(
+    alloc: Global,
+    page: &mut Page,
+    source: Source,
+    setup: Setup,
+    o: &Options,
+    asked: &Names,
+) -> Result<bool, AllocError> {
+    let mut stores = Stores::new();
+    let table = Table {
+        conversion: Conversion::new(alloc, source, setup, &mut stores)?,
+        printed: o.table,
+        hex: o.hex,
+    };
     if o.table {
-        print_font(rt, page, o.window != 0, path, v, f, bank);
+        print_font(page, source, setup.window.is_some());
     }
-}
-
-pub(crate) fn totals_if(
-    rt: &HostRuntime,
-    page: &mut [u8],
-    wanted: bool,
-    t: Totals,
-    w: widths::Chosen,
-    refusals: &[u64],
-) {
-    if wanted {
-        print_totals(rt, page, t, w, refusals);
+    let mut totals = Totals::new(alloc);
+    for (name, charstring) in source.font.charstrings.glyphs.iter() {
+        let code = source.code(*charstring);
+        table.do_glyph(
+            page,
+            *name,
+            code,
+            asked.has(*name),
+            &mut stores,
+            &mut totals,
+        )?;
     }
-}
-
-pub(crate) fn line_if(
-    rt: &HostRuntime,
-    page: &mut [u8],
-    wanted: bool,
-    path: &[u8],
-    f: Font,
-    t: Totals,
-    w: widths::Chosen,
-    refusals: &[u64],
-) {
-    if wanted {
-        print_line(rt, page, path, f, t, w, refusals);
+    print_missing(page, source, asked);
+    let widths = table.conversion.widths;
+    if o.table {
+        totals.print(page, widths);
     }
+    if let Some(window) = setup.window {
+        totals.print_window(page, window);
+    }
+    if o.fonts.len() > 1 {
+        totals.print_row(page, source, widths);
+    }
+    Ok(totals.converted == totals.glyphs)
 }

@@ -1,5 +1,5 @@
 -- Definitions: how the box of the finished bytes (document 02, (a)) lies to the points of the Type 1 run, folded (demand 3). `Theorem.folded_in_box` proves it of every input that converts and every two widths that finishing accepts.
-use Rattle.std.specs.Prelude.{ℕ, ◌≡◌, ◌↔◌, ◌⊎◌, true, false, ℤ, Float}
+use Rattle.std.specs.Prelude.{ℕ, ◌≡◌, ◌↔◌, ◌⊎◌, true, false, ℤ, Float, Err}
 use mathlib.Core.List.{List, [], ◌∷◌, ◌++◌, Memᴰ as OneOf}
 use Rattle.geometry.specs.declared.Point.{Point}
 use Rattle.geometry.specs.declared.Matrix.{Matrix}
@@ -11,11 +11,11 @@ use Rattle.type1.specs.Run as Run
 use Rattle.folding.specs.Folding.{is_identity, fold_of, folded_list}
 use Rattle.type2.specs.Number.{Is}
 use Rattle.type1_to_type2.specs.Emission.{points_of}
+use Rattle.refusal.specs.declared.Refusal.TheVariants.{NothingDrawn}
 use Rattle.renderer.specs.Machine as Machine
 use Rattle.boxes.specs.declared.Bounds.{Bounds}
 use Rattle.boxes.specs.declared.Verdict.{Verdict}
-use Rattle.boxes.specs.declared.Answer.TheVariants.{Refused, Boxed}
-use Rattle.boxes.specs.Answers.{answer}
+use Rattle.boxes.specs.Answers.{boxed, answer}
 use Rattle.boxes.specs.Points.{In, Says}
 use Rattle.agreement.specs.Demand3.{Near, SamePoint, unlimited_run}
 
@@ -40,10 +40,10 @@ pub record FoldedInBox (x : Source) (reading : Reading) (m : Matrix) (program : 
   pub state : State
   pub run : (unlimited_run x reading ≡ Run.going state) ⊎ (unlimited_run x reading ≡ Run.ending state)
   -- 21 is for "a glyph that draws no point": the run lists nothing. The machine does not fault.
-  pub refused : (answer program w ≡ Refused) ↔ (state.drawn ≡ [])
+  pub refused : (answer program w ≡ Err NothingDrawn) ↔ (state.drawn ≡ [])
   -- else the box is that of the folded points, each coordinate within 1/65536
-  pub near : (b : Bounds) (v : Verdict) → answer program w ≡ Boxed b v → BoxAround Near (all_points (folded_list (fold_of m) state.drawn)) b
+  pub near : (b : Bounds) (v : Verdict) → answer program w ≡ boxed b v → BoxAround Near (all_points (folded_list (fold_of m) state.drawn)) b
   -- and exactly "if the matrix is the identity and no div ran"
-  pub exact : is_identity m ≡ true → state.divided ≡ false → (b : Bounds) (v : Verdict) → answer program w ≡ Boxed b v → BoxAround Is (all_points (folded_list (fold_of m) state.drawn)) b
+  pub exact : is_identity m ≡ true → state.divided ≡ false → (b : Bounds) (v : Verdict) → answer program w ≡ boxed b v → BoxAround Is (all_points (folded_list (fold_of m) state.drawn)) b
   -- and the verdict is that box's
-  pub verdict : (b : Bounds) (v : Verdict) → answer program w ≡ Boxed b v → Says b w v
+  pub verdict : (b : Bounds) (v : Verdict) → answer program w ≡ boxed b v → Says b w v

@@ -1,5 +1,5 @@
 -- Laws: folding, test by test.
-use mathlib.Core.Path.{◌≡◌, sym, ap}
+use mathlib.Core.Path.{◌≡◌}
 use mathlib.Core.Bool.{Bool, true, false, ◌&&◌}
 use lib.Ieee.{Float, binary64, add, sub, mul, eq, lt}
 use Rattle.geometry.specs.declared.Point.{Point}

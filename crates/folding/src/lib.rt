@@ -8,47 +8,16 @@ use geometry::{Matrix, Point};
 use outline::Stem;
 
 // Whether every entry of the matrix is finite.
+#[tactic(auto, unfolding(crate::specs::Folding::finite_matrix))]
 pub fn finite_matrix(m: Matrix) -> bool
     ensures { result ≡ Folding.finite_matrix m }
 {
-    if !binary64::is_finite(m.a) {
-        return false;
-    }
-    if !binary64::is_finite(m.b) {
-        return false;
-    }
-    if !binary64::is_finite(m.c) {
-        return false;
-    }
-    if !binary64::is_finite(m.d) {
-        return false;
-    }
-    if !binary64::is_finite(m.tx) {
-        return false;
-    }
-    binary64::is_finite(m.ty)
-}
-
-// Whether the matrix leaves points alone.
-fn is_identity(m: Matrix) -> bool
-    ensures { result ≡ Folding.is_identity m }
-{
-    if m.a != 1.0 {
-        return false;
-    }
-    if m.b != 0.0 {
-        return false;
-    }
-    if m.c != 0.0 {
-        return false;
-    }
-    if m.d != 1.0 {
-        return false;
-    }
-    if m.tx != 0.0 {
-        return false;
-    }
-    m.ty == 0.0
+    binary64::is_finite(m.a)
+        && binary64::is_finite(m.b)
+        && binary64::is_finite(m.c)
+        && binary64::is_finite(m.d)
+        && binary64::is_finite(m.tx)
+        && binary64::is_finite(m.ty)
 }
 
 // A matrix, and whether it is the identity, which leaves points and stems alone.
@@ -65,7 +34,43 @@ impl Fold {
     {
         Fold {
             matrix: m,
-            identity: is_identity(m),
+            identity: m == Matrix::identity(),
+        }
+    }
+
+    // A folded point.
+    pub fn fold_point(self, x: f64, y: f64) -> Point
+        ensures { result ≡ Folding.folded_point self (record { x = x; y = y }) }
+    {
+        if self.identity {
+            Point { x, y }
+        } else {
+            self.matrix.transform_point(x, y)
+        }
+    }
+
+    // Whether a stem stays.
+    pub fn stem_stays(self, s: Stem) -> bool
+        ensures { result ≡ Folding.stem_stays self s }
+    {
+        let m = self.matrix;
+        if self.identity {
+            true
+        } else if s.horizontal {
+            m.b == 0.0 && 0.0 < m.d
+        } else {
+            m.c == 0.0 && 0.0 < m.a
+        }
+    }
+
+    // A folded stem, as it is declared.
+    pub fn fold_stem(self, s: Stem) -> Stem
+        ensures { result ≡ Folding.folded_stem self s }
+    {
+        if self.identity {
+            s
+        } else {
+            transform_stem(self.matrix, s)
         }
     }
 }
@@ -74,37 +79,7 @@ impl Fold {
 pub fn fold_width(m: Matrix, w: f64) -> f64
     ensures { result ≡ Folding.folded_width m w }
 {
-    let p = m.transform_delta(w, 0.0);
-    p.x
-}
-
-// A folded point.
-pub fn fold_point(fold: Fold, x: f64, y: f64) -> Point
-    ensures { result ≡ Folding.folded_point fold (record { x = x; y = y }) }
-{
-    if fold.identity {
-        return Point { x, y };
-    }
-    fold.matrix.transform_point(x, y)
-}
-
-// Whether a stem stays.
-pub fn stem_stays(fold: Fold, s: Stem) -> bool
-    ensures { result ≡ Folding.stem_stays fold s }
-{
-    if fold.identity {
-        return true;
-    }
-    if s.horizontal {
-        if fold.matrix.b == 0.0 {
-            return 0.0 < fold.matrix.d;
-        }
-        return false;
-    }
-    if fold.matrix.c == 0.0 {
-        return 0.0 < fold.matrix.a;
-    }
-    false
+    m.transform_delta(w, 0.0).x
 }
 
 // An edge under the matrix.
@@ -149,16 +124,6 @@ fn transform_stem(m: Matrix, s: Stem) -> Stem
         pos: fold_edge(m, h, s.pos),
         width: scale_width(m, h, s.width),
     }
-}
-
-// A folded stem, as it is declared.
-pub fn fold_stem(fold: Fold, s: Stem) -> Stem
-    ensures { result ≡ Folding.folded_stem fold s }
-{
-    if fold.identity {
-        return s;
-    }
-    transform_stem(fold.matrix, s)
 }
 
 // The number that is answered where writing was refused with `written`: the one before it, if there was one, else 14

@@ -12,7 +12,7 @@ pub struct Point {
 }
 
 // An affine matrix: x' = a x + c y + tx, y' = b x + d y + ty.
-#[derive(Clone, Copy)]
+#[derive(Clone, Copy, PartialEq)]
 pub struct Matrix {
     pub a: f64,
     pub b: f64,

@@ -1,11 +1,12 @@
 -- Laws: stems in arrays, one by one.
 --     among_more, among_at       none of the first i is the stem, nor is the one at i; the one at i is
 --     cut_below                  256 or fewer are not cut
+--     cut_min                    the lesser of the count and 256
 --     force_at, force_none       what `in_force` is when the stems have been gone through
 --     may_quiet, may_none, may_count       what `may_be_last` is, by its tests
 --     group_number_lem               16 or 17, by the two tests
 use Prim.Native.Nat.{ℕ, zero, suc, ◌+◌, ◌*◌, ◌≤◌, ◌<◌}
-use Rattle.std.proofs.Common.{pos_of_ne-zero, add-one, ◌∙◌, eqb-true, lt-ltb, le-ltb, ltb-false}
+use Rattle.std.proofs.Common.{pos_of_ne-zero, add-one, ◌∙◌, eqb-true, lt-ltb, le-ltb, ltb-false, min, ltb-true}
 use native.Mathlib.Omega.{arith}
 use Rattle.std.specs.Prelude.{◌≡◌, Bool, cond, ◌&&◌, ◌||◌, List, leb, ltb, Float}
 use Rattle.std.proofs.Math.Path.{refl, sym, ap, ap₂}
@@ -31,6 +32,13 @@ cut_below n h = by_test (ltb n 256) refl
   where
     by_test : (b : Bool) → ltb n 256 ≡ b → cond b n 256 ≡ n
     by_test true q = refl
+    by_test false q = let k = ltb-false n 256 q in omega arith
+
+pub cut_min : (n : ℕ) → min n 256 ≡ cut n
+cut_min n = by_test (ltb n 256) refl
+  where
+    by_test : (b : Bool) → ltb n 256 ≡ b → min n 256 ≡ cond b n 256
+    by_test true q = let k = ltb-true n 256 q in omega arith
     by_test false q = let k = ltb-false n 256 q in omega arith
 
 -- ---- stems in arrays

@@ -4,6 +4,11 @@ use Rattle.std.proofs.Common.{sym, ap, ap₂, ◌∙◌, pos_of_ne-zero, arith, 
 use Rattle.std.proofs.lemmas.Bool.{eqb-false, lt-leb}
 use Rattle.hints.specs.Hints.{at_most}
 use Rattle.outline.specs.Outline.{pick}
+use Rattle.std.specs.Prelude.{Result, Ok, Err, IsOk}
+use Rattle.std.specs.Result.{result_and}
+use Rattle.refusal.specs.declared.Refusal.{Refusal}
+use Rattle.refusal.specs.Refusal.{number_of, number_in}
+use Rattle.refusal.proofs.Numbers.{positive}
 use Rattle.operand_stack.specs.Stack.{depth_of, overflow_of, operand_refusal, number_if, first_refusal}
 
 -- ---- one operand more
@@ -64,3 +69,13 @@ room_left strict n k f c h e z = let fits = operands_fit strict (n + 1) (none_re
 -- p is not 0
 pub some_left : (p k g f : ℕ) → (k ≡ 0 → ⊥) → f ≡ first_refusal (number_if (eqb p 0) k) g → f ≡ 0 → 1 ≤ p
 some_left p k g f h e z = pos_of_ne-zero (eqb-false p 0 (none_refused (eqb p 0) k g h (sym e ∙ z)).0)
+
+-- ---- as numbers
+pub number_refused : {A : Type 0} (c : Bool) (r : Refusal) (x : Result A Refusal) → (c ≡ true → x ≡ Err r) → (c ≡ false → IsOk x) → number_in x ≡ number_if c (number_of r)
+number_refused true r x f g = ap number_in (f refl)
+number_refused false r (Ok a) f g = refl
+number_refused false r (Err e) f g = absurd (true≢false (sym (g refl)))
+
+pub number_first : {A : Type 0} (a b x : Result A Refusal) → x ≡ result_and a b → number_in x ≡ first_refusal (number_in a) (number_in b)
+number_first (Ok a) b x e = ap number_in e
+number_first (Err r) b x e = ap number_in e ∙ first_taken (number_of r) (number_in b) (λ z. let p = positive r in omega (arith, z, p))

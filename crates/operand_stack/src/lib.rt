@@ -1,8 +1,12 @@
 //! The operand stack: what one operand more is refused with, and which of two refusals comes first.
 #![tactic(auto)]
 
-ghost use Rattle.std.specs.Prelude.{◌≡◌, ◌+◌};
-ghost use Rattle.operand_stack.specs.Stack.{depth_of, overflow_of, operand_refusal, number_if, first_refusal};
+ghost use Rattle.std.specs.Prelude.{◌≡◌, ◌+◌, true, false, Err, IsOk};
+ghost use Rattle.std.specs.Result.{result_and};
+ghost use Rattle.refusal.specs.Refusal.{number_of, number_in};
+ghost use Rattle.operand_stack.specs.Stack.{depth_of, overflow_of, operand_refusal};
+
+use refusal::Refusal;
 
 // How many operands fit.
 fn depth(strict: bool) -> usize
@@ -12,33 +16,38 @@ fn depth(strict: bool) -> usize
 }
 
 // What the next one is refused with.
-fn overflow(strict: bool) -> u8
-    ensures { result ≡ overflow_of strict }
+fn overflow(strict: bool) -> Refusal
+    ensures { number_of result ≡ overflow_of strict }
 {
-    if strict { 22 } else { 15 }
-}
-
-// What one operand more is refused with where so many are held, or 0.
-pub fn refusal(held: usize, strict: bool) -> u8
-    ensures { result ≡ operand_refusal strict (held + 1) }
-{
-    if held < depth(strict) {
-        0
+    if strict {
+        Refusal::StrictStackFull
     } else {
-        overflow(strict)
+        Refusal::StackFull
     }
 }
 
-// A number where something is refused, or 0.
-pub fn number_if(refused: bool, number: u8) -> u8
-    ensures { result ≡ number_if refused number }
+// Whether there is room for one operand more where so many are held.
+pub fn room(held: usize, strict: bool) -> Result<(), Refusal>
+    ensures { number_in result ≡ operand_refusal strict (held + 1) }
 {
-    if refused { number } else { 0 }
+    if held < depth(strict) {
+        Ok(())
+    } else {
+        Err(overflow(strict))
+    }
 }
 
-// The first of two refusals, of which each may be 0.
-pub fn first(a: u8, b: u8) -> u8
-    ensures { result ≡ first_refusal a b }
+// A refusal where something is refused. Generic, as a number may stand for a refusal.
+pub fn refuse_if<E: Copy>(refused: bool, refusal: E) -> Result<(), E>
+    ensures refused { refused ≡ true → result ≡ Err refusal }
+    ensures free { refused ≡ false → IsOk result }
 {
-    if a != 0 { a } else { b }
+    if refused { Err(refusal) } else { Ok(()) }
+}
+
+// The first of two refusals, if there is one.
+pub fn first<E: Copy>(a: Result<(), E>, b: Result<(), E>) -> Result<(), E>
+    ensures { result ≡ result_and a b }
+{
+    a.and(b)
 }

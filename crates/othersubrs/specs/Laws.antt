@@ -17,53 +17,54 @@ use Rattle.std.proofs.lemmas.List.{length-reverse, get_or_at}
 use Rattle.std.proofs.Math.Seq.{paste, paste-suc}
 use Rattle.std.specs.Float.{nan, fin}
 use Rattle.std.specs.Float.Ieee.{le, to_unsigned}
-use Rattle.othersubrs.specs.declared.Taken.{Taken}
+use Rattle.std.specs.Prelude.{Ok, Err}
+use Rattle.refusal.specs.declared.Refusal.{Refusal}
+use Rattle.refusal.specs.declared.Refusal.TheVariants.{MissingOperands}
 use Rattle.othersubrs.specs.OtherSubrs.{may_take, taken, hand_number, handed_back, whole_flex}
 
-abbrev none : Taken
-none = record { number = 7; count = 0 }
-
-taken_is : (held : ℕ) (v : Float) (b : Bool) → may_take held v ≡ b → taken held v ≡ cond b (record { number = 0; count = to_unsigned 64 v }) none
+taken_is : (held : ℕ) (v : Float) (b : Bool) → may_take held v ≡ b → taken held v ≡ cond b (Ok (to_unsigned 64 v)) (Err MissingOperands)
 unfolding taken
-taken_is held v b e = ap (λ (t : Bool). cond t (record { number = 0; count = to_unsigned 64 v }) none) e
+taken_is held v b e = rw e
 
 module _ (held : ℕ) (v : Float) where
-  pub taken_few : held < 2 → none ≡ taken held v
+  pub taken_few : held < 2 → Err MissingOperands ≡ taken held v
   taken_few h = sym (taken_is held v false (ap (λ (b : Bool). b && (le (fin false 0 (pos 0)) v && leb (to_unsigned 64 v) (held - 2))) (lt-leb 2 held h)))
 
   module _ (h : 2 ≤ held) where
-    pub taken-below : le (fin false 0 (pos 0)) v ≡ false → none ≡ taken held v
+    pub taken-below : le (fin false 0 (pos 0)) v ≡ false → Err MissingOperands ≡ taken held v
     taken-below e = sym (taken_is held v false (ap₂ (λ (a b : Bool). a && (b && leb (to_unsigned 64 v) (held - 2))) (le-leb 2 held h) e))
 
     module _ (e : le (fin false 0 (pos 0)) v ≡ true) (n : ℕ) (is : n ≡ to_unsigned 64 v) where
-      pub taken-above : held - 2 < n → none ≡ taken held v
+      pub taken-above : held - 2 < n → Err MissingOperands ≡ taken held v
       taken-above l = sym (taken_is held v false (ap₂ (λ (a b : Bool). a && (b && leb (to_unsigned 64 v) (held - 2))) (le-leb 2 held h) e ∙ lt-leb (to_unsigned 64 v) (held - 2) (omega arith)))
 
-      pub taken_all : n ≤ held - 2 → record { number = 0; count = n } ≡ taken held v
-      taken_all l = ap (λ (k : ℕ). record { number = 0; count = k }) is ∙ sym (taken_is held v true (ap₂ (λ (a b : Bool). a && (b && leb (to_unsigned 64 v) (held - 2))) (le-leb 2 held h) e ∙ le-leb (to_unsigned 64 v) (held - 2) (omega arith)))
+      pub taken_all : n ≤ held - 2 → Ok n ≡ taken held v
+      taken_all l = rw is (sym (taken_is held v true (ap₂ (λ (a b : Bool). a && (b && leb (to_unsigned 64 v) (held - 2))) (le-leb 2 held h) e ∙ le-leb (to_unsigned 64 v) (held - 2) (omega arith))))
+
+  may_told : may_take held v ≡ true → (le (fin false 0 (pos 0)) v ≡ true) × (to_unsigned 64 v ≤ held - 2)
+  may_told e = let p = both (leb 2 held) _ e in let q = both _ _ p.1 in (q.0, leb-true _ _ q.1)
+    where
+      both : (a b : Bool) → a && b ≡ true → (a ≡ true) × (b ≡ true)
+      both true b e = (refl, e)
+      both false b e = (e, cc)
 
   -- what holds where the arguments are taken
-  pub taken_told : (k : Taken) → k ≡ taken held v → k.number ≡ 0 → (le (fin false 0 (pos 0)) v ≡ true) × (k.count ≡ to_unsigned 64 v) × (k.count ≤ held - 2)
-  taken_told k is z = by_tests (leb 2 held) (le (fin false 0 (pos 0)) v) (leb (to_unsigned 64 v) (held - 2)) refl refl refl
+  pub taken_told : (n : ℕ) → Ok n ≡ taken held v → (le (fin false 0 (pos 0)) v ≡ true) × (n ≡ to_unsigned 64 v) × (n ≤ held - 2)
+  taken_told n is = by_test (may_take held v) refl
     where
-      refusal : may_take held v ≡ false → ⊥
-      refusal q = let e : k.number ≡ 7 = ap (λ (x : Taken). x.number) (is ∙ taken_is held v false q) in omega arith
+      by_test : (b : Bool) → may_take held v ≡ b → (le (fin false 0 (pos 0)) v ≡ true) × (n ≡ to_unsigned 64 v) × (n ≤ held - 2)
+      by_test true q =
+          let t = may_told q in
+          let e : n ≡ to_unsigned 64 v = cc (is, taken_is held v true q) in
+          (t.0, e, omega (arith, t.1))
+      by_test false q = let z : ◌≡◌ {A = ℕ} 0 1 = cc (is, taken_is held v false q) in absurd (let y : ⊥ = omega arith in y)
 
-      by_tests : (a b d : Bool) → leb 2 held ≡ a → le (fin false 0 (pos 0)) v ≡ b → leb (to_unsigned 64 v) (held - 2) ≡ d → (le (fin false 0 (pos 0)) v ≡ true) × (k.count ≡ to_unsigned 64 v) × (k.count ≤ held - 2)
-      by_tests true true true x y w =
-          let c : k.count ≡ to_unsigned 64 v = ap (λ (x : Taken). x.count) (is ∙ taken_is held v true (ap₂ (λ (g : Bool) (h : Bool). g && h) x (ap₂ (λ (g : Bool) (h : Bool). g && h) y w))) in
-          let l = leb-true (to_unsigned 64 v) (held - 2) w in
-          (y, c, omega arith)
-      by_tests true true false x y w = absurd (refusal (ap₂ (λ (g : Bool) (h : Bool). g && h) x (ap₂ (λ (g : Bool) (h : Bool). g && h) y w)))
-      by_tests true false d x y w = absurd (refusal (ap₂ (λ (g : Bool) (h : Bool). g && h) x (ap₂ (λ (g : Bool) (h : Bool). g && h) y w)))
-      by_tests false b d x y w = absurd (refusal (ap₂ (λ (g : Bool) (h : Bool). g && h) x (ap₂ (λ (g : Bool) (h : Bool). g && h) y w)))
-
-  pub not_taken : (k : Taken) → k ≡ taken held v → (k.number ≡ 0 → ⊥) → (may_take held v ≡ false) × (k.number ≡ 7)
-  not_taken k is ne = by_test (may_take held v) refl
+  pub not_taken : (r : Refusal) → Err r ≡ taken held v → (may_take held v ≡ false) × (r ≡ MissingOperands)
+  not_taken r is = by_test (may_take held v) refl
     where
-      by_test : (b : Bool) → may_take held v ≡ b → (may_take held v ≡ false) × (k.number ≡ 7)
-      by_test true q = absurd (ne (ap (λ (x : Taken). x.number) (is ∙ taken_is held v true q)))
-      by_test false q = (q, ap (λ (x : Taken). x.number) (is ∙ taken_is held v false q))
+      by_test : (b : Bool) → may_take held v ≡ b → (may_take held v ≡ false) × (r ≡ MissingOperands)
+      by_test true q = let z : ◌≡◌ {A = ℕ} 0 1 = cc (is, taken_is held v true q) in absurd (let y : ⊥ = omega arith in y)
+      by_test false q = (q, cc (is, taken_is held v false q))
 
 -- ---- handing back
 pub reverse_at : (l : List Float) (i : ℕ) → i < length l → get_or (reverse l) i nan ≡ get_or l (length l - 1 - i) nan

@@ -2,78 +2,54 @@
 #![tactic(auto)]
 
 ghost use Rattle.std.specs.Prelude.{◌≡◌, length};
+ghost use Rattle.refusal.specs.Refusal.{number_in};
 ghost use Rattle.othersubrs.specs.OtherSubrs.{taken, hand_number, handed_back, whole_flex, is_move};
 
-// How many arguments a callothersubr takes, with document 01's number: 0, or 7 where it is refused.
-#[derive(Clone, Copy)]
-pub struct Taken {
-    pub number: u8,
-    pub count: usize,
-}
+use refusal::Refusal;
 
-// With so many operands held, of which the upper two are the argument count and the OtherSubr's number.
-pub fn arguments(held: usize, count: f64) -> Taken
+// How many arguments a callothersubr takes, with so many operands held, of which the upper two are the argument count and the OtherSubr's number.
+pub fn arguments(held: usize, count: f64) -> Result<usize, Refusal>
     ensures { result ≡ taken held count }
 {
     if held < 2 {
-        return Taken {
-            number: 7,
-            count: 0,
-        };
+        return Err(Refusal::MissingOperands);
     }
     let left = held - 2;
     if count >= 0.0 {
         let n = binary64::to_usize(count);
-        if left < n {
-            return Taken {
-                number: 7,
-                count: 0,
-            };
+        if n <= left {
+            return Ok(n);
         }
-        return Taken {
-            number: 0,
-            count: n,
-        };
     }
-    Taken {
-        number: 7,
-        count: 0,
-    }
+    Err(Refusal::MissingOperands)
 }
 
-// The arguments are put on a PostScript stack that holds so many numbers, the last first; 15 where there is no room.
-// The array taken as a slice tells its length to the proof.
-pub fn hand_back(args: &[f64], held: usize, stack: &mut [f64; 256]) -> u8
-    ensures value { result ≡ hand_number held (length args.now) }
+// The arguments are put on a PostScript stack that holds so many numbers, the last first.
+pub fn hand_back(args: &[f64], held: usize, stack: &mut [f64; 256]) -> Result<(), Refusal>
+    ensures value { number_in result ≡ hand_number held (length args.now) }
     ensures stack_after { stack.new ≡ handed_back args.now held stack.old }
 {
     let n = args.len();
-    let all = &stack[..];
-    let most = all.len();
-    if most < held {
-        return 15;
+    let most = stack.len();
+    if most < held || most - held < n {
+        return Err(Refusal::StackFull);
     }
-    if most - held < n {
-        return 15;
-    }
-    let mut i = 0;
-    while i < n {
+    for i in 0..n {
         stack[held + i] = args[n - 1 - i];
-        i += 1;
     }
-    0
+    Ok(())
 }
 
 // Whether a flex that has collected so many points may be drawn.
 pub fn is_whole_flex(flexing: bool, points: usize) -> bool
     ensures { result ≡ whole_flex flexing points }
 {
-    if flexing { points == 7 } else { false }
+    flexing && points == 7
 }
 
 // Whether setcurrentpoint to another point lists a move.
 pub fn is_move(opened: bool, flexing: bool) -> bool
     ensures { result ≡ is_move opened flexing }
 {
-    if opened { !flexing } else { false }
+    opened && !flexing
 }

@@ -1,7 +1,7 @@
 -- Laws: whether two stems are equal, field by field. Assumes nothing.
 use mathlib.Core.Path.{◌≡◌, refl, sym, ap, ◌∙◌}
 use mathlib.Core.Bool.{Bool, true, false, not, ◌&&◌, beq, true≢false}
-use lib.Ieee.{Float, eq}
+use lib.Ieee.{eq}
 use Rattle.outline.specs.declared.Stem.{Stem}
 use Rattle.outline.specs.Outline.{same_stem}
 

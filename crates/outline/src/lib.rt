@@ -6,7 +6,7 @@ ghost use Rattle.outline.specs.Outline.{same_stem, zero_stem};
 
 // A stem hint in absolute character-space coordinates, in C's layout.
 #[repr(C)]
-#[derive(Clone, Copy)]
+#[derive(Clone, Copy, PartialEq)]
 pub struct Stem {
     // A horizontal stem (`hstem`), which constrains y.
     pub horizontal: bool,
@@ -19,7 +19,7 @@ pub struct Stem {
 // Words of an entry of the command store: its kind, then coordinates as the bits of f64, or numbers.
 pub const ENTRY: usize = 14;
 
-// Kinds of entries.
+// Kinds of entries: words of the store, which the run writes and the passes compare, so no enum with its conversions.
 pub const MOVE: u64 = 1;
 
 pub const LINE: u64 = 2;
@@ -34,30 +34,16 @@ pub const GROUP: u64 = 5;
 pub fn same_stem(a: Stem, b: Stem) -> bool
     ensures { result ≡ same_stem a b }
 {
-    if a.horizontal {
-        if !b.horizontal {
-            return false;
-        }
-    } else if b.horizontal {
-        return false;
-    }
-    if a.pos == b.pos {
-        a.width == b.width
-    } else {
-        false
-    }
+    a == b
 }
 
-// The record at a place of the stem store; the zero record beyond its end.
+// The record at a place of the stem store; the zero record beyond its end. The store is lent as `&mut` to whoever reads it.
 pub fn stem_from(stems: &mut [Stem], i: usize) -> Stem
     ensures { (result ≡ get_or stems.old i zero_stem) × (stems.new ≡ stems.old) }
 {
-    if i < stems.len() {
-        return stems[i];
-    }
-    Stem {
+    stems.get(i).copied().unwrap_or(Stem {
         horizontal: false,
         pos: 0.0,
         width: 0.0,
-    }
+    })
 }

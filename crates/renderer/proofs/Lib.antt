@@ -5,6 +5,6 @@ pub mod ReaderLaws
 pub mod NumberLaws
 pub mod OperatorLaws
 pub mod MaskLaws
-pub mod FoundLaws
 pub mod PathLaws
+pub mod FoundLaws
 pub mod NextLaws

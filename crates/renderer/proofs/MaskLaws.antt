@@ -10,8 +10,10 @@ use lib.Seq.{take-suc, get_or-drop, drop-append-add}
 use lib.Dec.{T, leb, ltb, eqb, ltb→lt}
 use borrow.Author.Tests.{eqb-true, eqb-false}
 use Rattle.renderer.specs.Machine.{bits, bits_of, none_set}
-use Rattle.type2.specs.Bools.{is_le, not_le, not_eq, is_eq, and_both}
+use Rattle.type2.specs.Bools.{is_le, not_le, and_both}
 use Rattle.renderer.specs.Reads.{after_mask}
+use Rattle.std.specs.Prelude.{Some, None}
+use Rattle.std.specs.Bool.{then_some}
 
 -- ---- a test that holds of each number below n, computed
 unfoldable all_below : ℕ → (ℕ → Bool) → Bool
@@ -90,13 +92,13 @@ spare-bits n k bs v a b c d e h =
 
 -- ---- what `after_mask` answers
 module _ (P : List ℕ) (at n : ℕ) (inside : at ≤ length P) where
-  pub mask-cut : length P - at < (n + 7) / 8 → 0 ≡ after_mask P at n
+  pub mask-cut : length P - at < (n + 7) / 8 → None ≡ after_mask P at n
   unfolding after_mask
   mask-cut h = let d = length-drop at P in rw (not_le ((n + 7) / 8) (length (drop at P)) (omega arith))
 
-  pub mask-none : n ≡ 0 → at ≡ after_mask P at n
+  pub mask-none : n ≡ 0 → Some at ≡ after_mask P at n
   unfolding after_mask bits none_set
-  mask-none e = rw (e, is_le 0 (length (drop at P)) (omega arith)) (let z : at ≡ at + 0 = omega arith in z)
+  mask-none e = rw (e, is_le 0 (length (drop at P)) (omega arith)) (let z : at ≡ at + 0 = omega arith in ap Some z)
 
   module _ (some : n ≡ 0 → ⊥) (room : (n + 7) / 8 ≤ length P - at) (v : ℕ) (last : v ≡ get_or P (at + (n + 7) / 8 - 1) 0) (byte : v < 256) where
     spares : none_set (drop n (bits (take ((n + 7) / 8) (drop at P)))) ≡ eqb (v % get_or powers ((n + 7) / 8 * 8 - n) 0) 0
@@ -109,10 +111,10 @@ module _ (P : List ℕ) (at n : ℕ) (inside : at ≤ length P) where
     fitting : leb ((n + 7) / 8) (length (drop at P)) ≡ true
     fitting = let d = length-drop at P in is_le ((n + 7) / 8) (length (drop at P)) (omega arith)
 
-    pub mask-spare : (v % get_or powers ((n + 7) / 8 * 8 - n) 0 ≡ 0 → ⊥) → 0 ≡ after_mask P at n
+    pub mask_tested : then_some (eqb (v % get_or powers ((n + 7) / 8 * 8 - n) 0) 0) (at + (n + 7) / 8) ≡ after_mask P at n
     unfolding after_mask
-    mask-spare h = rw (fitting, spares, not_eq (v % get_or powers ((n + 7) / 8 * 8 - n) 0) 0 h)
-
-    pub mask_good : v % get_or powers ((n + 7) / 8 * 8 - n) 0 ≡ 0 → at + (n + 7) / 8 ≡ after_mask P at n
-    unfolding after_mask
-    mask_good h = rw (fitting, spares, is_eq (v % get_or powers ((n + 7) / 8 * 8 - n) 0) 0 h)
+    mask_tested = rw (fitting, spares) (chosen (eqb (v % get_or powers ((n + 7) / 8 * 8 - n) 0) 0))
+      where
+        chosen : (b : Bool) → then_some b (at + (n + 7) / 8) ≡ cond b (Some (at + (n + 7) / 8)) None
+        chosen true = refl
+        chosen false = refl

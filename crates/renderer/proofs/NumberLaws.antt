@@ -13,7 +13,8 @@ use borrow.Author.Tests.{ltb-true, ltb-false}
 use Rattle.type2.specs.Signed.{sub_bal, sub_is}
 use Rattle.renderer.specs.Reader.{unit}
 use Rattle.renderer.proofs.ReaderLaws.{cons_at}
-use Rattle.renderer.specs.Reads.{starts_number, Reads}
+use Rattle.renderer.specs.Reads.{starts_number, IsByte, Reads}
+use Rattle.std.specs.Prelude.{Some, None}
 
 pub sub_same : (P M Q N : ℕ) → P + N ≡ Q + M → sub_ℕ P M ≡ sub_ℕ Q N
 sub_same P M Q N h = sub_is (sub_ℕ Q N) P M (let b = sub_bal Q N in omega arith)
@@ -30,13 +31,13 @@ cons4 P i h =
     (ap (λ (n : ℕ). drop n P) e ∙ cons_at P (i + 2) (omega arith) ∙ ap (λ (l : List ℕ). get_or P (i + 2) 0 ∷ l) (ap (λ (n : ℕ). drop n P) f ∙ cons_at P (i + 3) h))
 
 -- ---- what `number` gives
-pub none_read : (b : ℕ) (P : List ℕ) (at v n : ℕ) → n ≡ 0 → read_from b (drop at P) ≡ no_number → Reads b P at v n
-none_read b P at v n z e = record { same = rw z e; onward = λ f. absurd (f z) }
+pub none_read : (b : ℕ) (P : List ℕ) (at : ℕ) → read_from b (drop at P) ≡ no_number → Reads b P at None
+none_read b P at e = record { same = e; onward = tt }
 
-some_read : (b : ℕ) (P : List ℕ) (at v n k : ℕ) → 1 ≤ at → n ≡ at + k → read_from b (drop at P) ≡ number (unit v) k → Reads b P at v n
-some_read b P at v n k h p e =
+some_read : (b : ℕ) (P : List ℕ) (at v n k : ℕ) → n ≡ at + k → read_from b (drop at P) ≡ number (unit v) k → Reads b P at (Some (record { value = v; next = n }))
+some_read b P at v n k p e =
     let q : n - at ≡ k = omega arith in
-    record { same = rw (not_eq n 0 (λ z. omega arith), q) e; onward = λ f. omega arith }
+    record { same = rw q e; onward = omega arith }
 
 -- ---- the forms
 is_28 : (b : ℕ) → b < 32 → starts_number b ≡ true → eqb b 28 ≡ true
@@ -77,51 +78,51 @@ from_255 : (b : ℕ) (l : List ℕ) → 255 ≤ b → b < 256 → read_from b l 
 unfolding read_from
 from_255 b l h k = rw (not_eq b 28 (λ z. omega arith), not_lt b 32 (omega arith), not_lt b 247 (omega arith), not_lt b 255 h, is_eq b 255 (omega arith))
 
-module _ (b : ℕ) (P : List ℕ) (at : ℕ) (start : 1 ≤ at) (low : b < 256) where
-  pub cut3 : (v n : ℕ) → n ≡ 0 → b < 32 → starts_number b ≡ true → length P < at + 2 → Reads b P at v n
-  cut3 v n z h e k = none_read b P at v n z (from_28 b (drop at P) h e ∙ too_few3 (drop at P) (let d = length-drop at P in omega arith))
+module _ (b : ℕ) (P : List ℕ) (at : ℕ) where
+  pub cut3 : b < 32 → starts_number b ≡ true → length P < at + 2 → Reads b P at None
+  cut3 h e k = none_read b P at (from_28 b (drop at P) h e ∙ too_few3 (drop at P) (let d = length-drop at P in omega arith))
 
-  pub cut2 : (v n : ℕ) → n ≡ 0 → 247 ≤ b → length P ≤ at → Reads b P at v n
-  cut2 v n z h k = none_read b P at v n z (cut_at (ltb b 255) refl)
+  pub cut2 : b < 256 → 247 ≤ b → length P ≤ at → Reads b P at None
+  cut2 low h k = none_read b P at (cut_at (ltb b 255) refl)
     where
       cut_at : (x : Bool) → ltb b 255 ≡ x → read_from b (drop at P) ≡ no_number
       cut_at true e = from_pair b (drop at P) h (let z = ltb-true b 255 e in z) ∙ nothing (drop at P) b (let d = length-drop at P in omega arith)
       cut_at false e = from_255 b (drop at P) (ltb-false b 255 e) low ∙ too_few5 (drop at P) (let d = length-drop at P in omega arith)
 
-  pub cut5 : (v n : ℕ) → n ≡ 0 → 255 ≤ b → length P < at + 4 → Reads b P at v n
-  cut5 v n z h k = none_read b P at v n z (from_255 b (drop at P) h low ∙ too_few5 (drop at P) (let d = length-drop at P in omega arith))
+  pub cut5 : b < 256 → 255 ≤ b → length P < at + 4 → Reads b P at None
+  cut5 low h k = none_read b P at (from_255 b (drop at P) h low ∙ too_few5 (drop at P) (let d = length-drop at P in omega arith))
 
-  pub byte1 : 32 ≤ b → b < 247 → Reads b P at (b * 65536 + 2138374144) at
+  pub byte1 : 32 ≤ b → b < 247 → Reads b P at (Some (record { value = b * 65536 + 2138374144; next = at }))
   unfolding read_from
-  byte1 h k = some_read b P at (b * 65536 + 2138374144) at 0 start (omega arith)
+  byte1 h k = some_read b P at (b * 65536 + 2138374144) at 0 (omega arith)
       (rw (not_eq b 28 (λ z. omega arith), not_lt b 32 h, is_lt b 247 k) (ap (λ (z : ℤ). number z 0) (sub_same (b * 65536) (139 * 65536) (b * 65536 + 2138374144) 2147483648 (omega arith))))
 
-  pub byte3 : (v w : ℕ) → v ≡ get_or P at 0 → w ≡ get_or P (at + 1) 0 → b < 32 → starts_number b ≡ true → at + 1 < length P
-      → (m : ℕ) → cond (ltb (v * 256 + w) 32768) (m ≡ (v * 256 + w) * 65536 + 2147483648) (m + 2147483648 ≡ (v * 256 + w) * 65536) → Reads b P at m (at + 2)
+  pub byte3 : (v w : ℕ) → IsByte P at v → IsByte P (at + 1) w → b < 32 → starts_number b ≡ true
+      → (m : ℕ) → (v * 256 + w < 32768 → m ≡ (v * 256 + w) * 65536 + 2147483648) × (32768 ≤ v * 256 + w → m + 2147483648 ≡ (v * 256 + w) * 65536) → Reads b P at (Some (record { value = m; next = at + 2 }))
   unfolding read3
-  byte3 v w p q h e k m d = some_read b P at m (at + 2) 2 start refl
-      (from_28 b (drop at P) h e ∙ ap read3 (cons2 P at k) ∙ ap (λ (z : ℤ). number z 2) (ap short (ap₂ (λ (x y : ℕ). x * 256 + y) (sym p) (sym q)) ∙ value (ltb (v * 256 + w) 32768) d))
+  byte3 v w p q h e m d = some_read b P at m (at + 2) 2 refl
+      (from_28 b (drop at P) h e ∙ ap read3 (cons2 P at q.inside) ∙ ap (λ (z : ℤ). number z 2) (ap short (ap₂ (λ (x y : ℕ). x * 256 + y) (sym p.is) (sym q.is)) ∙ value (ltb (v * 256 + w) 32768) refl))
     where
-      value : (x : Bool) → cond x (m ≡ (v * 256 + w) * 65536 + 2147483648) (m + 2147483648 ≡ (v * 256 + w) * 65536) → sub_ℕ ((v * 256 + w) * 65536) (cond x 0 (65536 * 65536)) ≡ unit m
-      value true d = sub_same ((v * 256 + w) * 65536) 0 m 2147483648 (omega arith)
-      value false d = sub_same ((v * 256 + w) * 65536) 4294967296 m 2147483648 (omega arith)
+      value : (x : Bool) → ltb (v * 256 + w) 32768 ≡ x → sub_ℕ ((v * 256 + w) * 65536) (cond x 0 (65536 * 65536)) ≡ unit m
+      value true e = let k = d.0 (ltb-true (v * 256 + w) 32768 e) in sub_same ((v * 256 + w) * 65536) 0 m 2147483648 (omega arith)
+      value false e = let k = d.1 (ltb-false (v * 256 + w) 32768 e) in sub_same ((v * 256 + w) * 65536) 4294967296 m 2147483648 (omega arith)
 
-  pub byte2_plus : (v : ℕ) → v ≡ get_or P at 0 → 247 ≤ b → b < 251 → at < length P → Reads b P at (((b - 247) * 256 + v + 108) * 65536 + 2147483648) (at + 1)
+  pub byte2_plus : (v : ℕ) → IsByte P at v → 247 ≤ b → b < 251 → Reads b P at (Some (record { value = ((b - 247) * 256 + v + 108) * 65536 + 2147483648; next = at + 1 }))
   unfolding read2
-  byte2_plus v p h j k = some_read b P at _ (at + 1) 1 start refl
-      (from_pair b (drop at P) h (omega arith) ∙ ap (read2 b) (cons_at P at k) ∙ ap (λ (z : ℤ). number z 1) (rw (is_lt b 251 j, ← p) (sub_same (((b - 247) * 256 + v + 108) * 65536) 0 (((b - 247) * 256 + v + 108) * 65536 + 2147483648) 2147483648 (omega arith))))
+  byte2_plus v p h j = some_read b P at _ (at + 1) 1 refl
+      (from_pair b (drop at P) h (omega arith) ∙ ap (read2 b) (cons_at P at p.inside) ∙ ap (λ (z : ℤ). number z 1) (rw (is_lt b 251 j, ← p.is) (sub_same (((b - 247) * 256 + v + 108) * 65536) 0 (((b - 247) * 256 + v + 108) * 65536 + 2147483648) 2147483648 (omega arith))))
 
-  pub byte2_minus : (v m : ℕ) → v ≡ get_or P at 0 → 251 ≤ b → b < 255 → at < length P → m + ((b - 251) * 256 + v + 108) * 65536 ≡ 2147483648 → Reads b P at m (at + 1)
+  pub byte2_minus : (v m : ℕ) → IsByte P at v → 251 ≤ b → b < 255 → m + ((b - 251) * 256 + v + 108) * 65536 ≡ 2147483648 → Reads b P at (Some (record { value = m; next = at + 1 }))
   unfolding read2
-  byte2_minus v m p h j k e = some_read b P at m (at + 1) 1 start refl
-      (from_pair b (drop at P) (omega arith) j ∙ ap (read2 b) (cons_at P at k) ∙ ap (λ (z : ℤ). number z 1) (rw (not_lt b 251 h, ← p) (sub_same 0 (((b - 251) * 256 + v + 108) * 65536) m 2147483648 (omega arith))))
+  byte2_minus v m p h j e = some_read b P at m (at + 1) 1 refl
+      (from_pair b (drop at P) (omega arith) j ∙ ap (read2 b) (cons_at P at p.inside) ∙ ap (λ (z : ℤ). number z 1) (rw (not_lt b 251 h, ← p.is) (sub_same 0 (((b - 251) * 256 + v + 108) * 65536) m 2147483648 (omega arith))))
 
-  pub byte5 : (v w x y : ℕ) → v ≡ get_or P at 0 → w ≡ get_or P (at + 1) 0 → x ≡ get_or P (at + 2) 0 → y ≡ get_or P (at + 3) 0 → 255 ≤ b → at + 3 < length P
-      → (m : ℕ) → cond (ltb (((v * 256 + w) * 256 + x) * 256 + y) 2147483648) (m ≡ ((v * 256 + w) * 256 + x) * 256 + y + 2147483648) (m + 2147483648 ≡ ((v * 256 + w) * 256 + x) * 256 + y) → Reads b P at m (at + 4)
+  pub byte5 : b < 256 → (v w x y : ℕ) → IsByte P at v → IsByte P (at + 1) w → IsByte P (at + 2) x → IsByte P (at + 3) y → 255 ≤ b
+      → (m : ℕ) → (((v * 256 + w) * 256 + x) * 256 + y < 2147483648 → m ≡ ((v * 256 + w) * 256 + x) * 256 + y + 2147483648) × (2147483648 ≤ ((v * 256 + w) * 256 + x) * 256 + y → m + 2147483648 ≡ ((v * 256 + w) * 256 + x) * 256 + y) → Reads b P at (Some (record { value = m; next = at + 4 }))
   unfolding read5
-  byte5 v w x y p q r s h k m d = some_read b P at m (at + 4) 4 start refl
-      (from_255 b (drop at P) h low ∙ ap read5 (cons4 P at k) ∙ ap (λ (z : ℤ). number z 4) (ap fixed (sym (ap₂ (λ (a c : ℕ). a * 256 + c) (ap₂ (λ (a c : ℕ). a * 256 + c) (ap₂ (λ (a c : ℕ). a * 256 + c) p q) r) s)) ∙ value (ltb (((v * 256 + w) * 256 + x) * 256 + y) 2147483648) d))
+  byte5 low v w x y p q r s h m d = some_read b P at m (at + 4) 4 refl
+      (from_255 b (drop at P) h low ∙ ap read5 (cons4 P at s.inside) ∙ ap (λ (z : ℤ). number z 4) (ap fixed (sym (ap₂ (λ (a c : ℕ). a * 256 + c) (ap₂ (λ (a c : ℕ). a * 256 + c) (ap₂ (λ (a c : ℕ). a * 256 + c) p.is q.is) r.is) s.is)) ∙ value (ltb (((v * 256 + w) * 256 + x) * 256 + y) 2147483648) refl))
     where
-      value : (z : Bool) → cond z (m ≡ ((v * 256 + w) * 256 + x) * 256 + y + 2147483648) (m + 2147483648 ≡ ((v * 256 + w) * 256 + x) * 256 + y) → sub_ℕ (((v * 256 + w) * 256 + x) * 256 + y) (cond z 0 4294967296) ≡ unit m
-      value true d = sub_same (((v * 256 + w) * 256 + x) * 256 + y) 0 m 2147483648 (omega arith)
-      value false d = sub_same (((v * 256 + w) * 256 + x) * 256 + y) 4294967296 m 2147483648 (omega arith)
+      value : (z : Bool) → ltb (((v * 256 + w) * 256 + x) * 256 + y) 2147483648 ≡ z → sub_ℕ (((v * 256 + w) * 256 + x) * 256 + y) (cond z 0 4294967296) ≡ unit m
+      value true e = let k = d.0 (ltb-true (((v * 256 + w) * 256 + x) * 256 + y) 2147483648 e) in sub_same (((v * 256 + w) * 256 + x) * 256 + y) 0 m 2147483648 (omega arith)
+      value false e = let k = d.1 (ltb-false (((v * 256 + w) * 256 + x) * 256 + y) 2147483648 e) in sub_same (((v * 256 + w) * 256 + x) * 256 + y) 4294967296 m 2147483648 (omega arith)

@@ -10,20 +10,12 @@ use lib.Seq.{take-suc-set, drop-drop}
 use lib.IntN.{ℤ}
 use Rattle.type2.specs.Number.{Reading, no_number, number, read_from}
 use Rattle.renderer.specs.Machine.{State, failed, with_ops, push, joins, operator, step, next, run}
-use Rattle.type2.specs.Bools.{is_lt, not_lt, not_eq}
+use Rattle.type2.specs.Bools.{is_lt, not_lt}
 use Rattle.renderer.specs.Reader.{unit, held}
 use Rattle.renderer.proofs.ReaderLaws.{cons_at, held-length}
-use Rattle.renderer.specs.Reads.{starts_number, Reads, Gathers, escaped}
-
--- ---- the second byte of a flex
-pub escape-cut : (P : List ℕ) (at : ℕ) → length P ≤ at → 0 ≡ escaped (drop at P)
-escape-cut P at h = rw (drop_of_length-le P h)
-
-pub escape_flex : (P : List ℕ) (at : ℕ) → at < length P → (b : ℕ) → b ≡ get_or P at 0 → b ≡ 35 → 12 ≡ escaped (drop at P)
-escape_flex P at h b e f = rw (cons_at P at h, ← e, f)
-
-pub escape_other : (P : List ℕ) (at : ℕ) → at < length P → (b : ℕ) → b ≡ get_or P at 0 → (b ≡ 35 → ⊥) → 0 ≡ escaped (drop at P)
-escape_other P at h b e f = rw (cons_at P at h, ← e, not_eq b 35 f)
+use Rattle.renderer.specs.Reads.{starts_number, Reads, Gathers}
+use Rattle.renderer.specs.declared.numbers.Value.{Value}
+use Rattle.std.specs.Prelude.{Some, None}
 
 -- ---- operands as the code holds them
 pub held-append : (l m : List ℕ) → held (l ++ m) ≡ held l ++ held m
@@ -63,10 +55,6 @@ pub run_end : (P : List ℕ) (at : ℕ) (s : State) → length P ≤ at → run 
 unfolding run
 run_end P at s h = rw (drop_of_length-le P h)
 
-zero-run : (bs : List ℕ) (s : State) → run (0 ∷ bs) 0 s ≡ failed
-unfolding run step operator
-zero-run bs s = refl
-
 -- ---- a number joins the operands, or there are 48
 joins_full : (r : Reading) (l : List ℤ) (s : State) (bs : List ℕ) → 48 ≤ length l → next (joins r (with_ops l s)) bs (run bs) ≡ failed
 unfolding push
@@ -89,42 +77,42 @@ unfolding held
 going_first P from o h = record { runs = λ s. refl; few = omega arith; size = h; past = omega arith }
 
 module _ {P : List ℕ} {from : ℕ} {o : List ℕ} {at n : ℕ} (g : Going P from o at n) where
-  none_left : (b c p : ℕ) → b ≡ 0 → c ≡ 0 → p ≡ 0 → ((s : State) → run (drop at P) 0 (with_ops (held (take n o)) s) ≡ failed) → Gathers P from o b c p
-  none_left b c p e f h z =
-      rw (e, f, h) (record { runs = λ s. g.runs s ∙ z s ∙ sym (zero-run P (with_ops (held (take 0 o)) s)); operator = refl; few = omega arith; within = omega arith; onward = λ q. absurd (q refl); size = g.size })
+  none_left : ((s : State) → run (drop at P) 0 (with_ops (held (take n o)) s) ≡ failed) → Gathers P from o None
+  none_left z = λ s. g.runs s ∙ z s
 
-  pub at_end : (b c p : ℕ) → b ≡ 0 → c ≡ 0 → p ≡ 0 → length P ≤ at → Gathers P from o b c p
-  at_end b c p e f h k = none_left b c p e f h (λ s. run_end P at (with_ops (held (take n o)) s) k)
+  pub at_end : length P ≤ at → Gathers P from o None
+  at_end k = none_left (λ s. run_end P at (with_ops (held (take n o)) s) k)
 
   module _ (b : ℕ) (inside : at < length P) (byte : b ≡ get_or P at 0) where
     front : drop at P ≡ b ∷ drop (at + 1) P
     front = cons_at P at inside ∙ ap (λ (x : ℕ). x ∷ drop (at + 1) P) (sym byte)
 
-    pub at_operator : starts_number b ≡ false → Gathers P from o b n (at + 1)
+    pub at_operator : starts_number b ≡ false → Gathers P from o (Some (record { byte = b; count = n; next = at + 1 }))
     at_operator h =
-        record { runs = λ s. g.runs s ∙ ap (λ (l : List ℕ). run l 0 (with_ops (held (take n o)) s)) front; operator = h; few = g.few; within = omega arith; onward = λ q. (let z = g.past in omega arith); size = g.size }
+        let z = g.past in
+        record { runs = λ s. g.runs s ∙ ap (λ (l : List ℕ). run l 0 (with_ops (held (take n o)) s)) front; operator = h; few = g.few; within = omega arith; onward = omega arith }
 
-    number_at : starts_number b ≡ true → (s : State) → run (drop at P) 0 (with_ops (held (take n o)) s) ≡ next (joins (read_from b (drop (at + 1) P)) (with_ops (held (take n o)) s)) (drop (at + 1) P) (run (drop (at + 1) P))
-    number_at h s = ap (λ (l : List ℕ). run l 0 (with_ops (held (take n o)) s)) front ∙ run-number b (drop (at + 1) P) (with_ops (held (take n o)) s) h
+    module _ (starts : starts_number b ≡ true) where
+      number_at : (s : State) → run (drop at P) 0 (with_ops (held (take n o)) s) ≡ next (joins (read_from b (drop (at + 1) P)) (with_ops (held (take n o)) s)) (drop (at + 1) P) (run (drop (at + 1) P))
+      number_at s = ap (λ (l : List ℕ). run l 0 (with_ops (held (take n o)) s)) front ∙ run-number b (drop (at + 1) P) (with_ops (held (take n o)) s) starts
 
-    pub cut-number : starts_number b ≡ true → (v m : ℕ) → Reads b P (at + 1) v m → m ≡ 0 → (x c p : ℕ) → x ≡ 0 → c ≡ 0 → p ≡ 0 → Gathers P from o x c p
-    cut-number h v m r z x c p e f k =
-        let q : read_from b (drop (at + 1) P) ≡ no_number = r.same ∙ rw z in
-        none_left x c p e f k (λ s. number_at h s ∙ rw q)
+      pub cut-number : Reads b P (at + 1) None → Gathers P from o None
+      cut-number r = none_left (λ s. number_at s ∙ rw r.same)
 
-    pub full_number : starts_number b ≡ true → 48 ≤ n → (x c p : ℕ) → x ≡ 0 → c ≡ 0 → p ≡ 0 → Gathers P from o x c p
-    full_number h k x c p e f i =
-        none_left x c p e f i (λ s. number_at h s ∙ joins_full (read_from b (drop (at + 1) P)) (held (take n o)) s (drop (at + 1) P) (let z = held-size n o (let y = g.few in let w = g.size in omega arith) in omega arith))
+      pub full_number : 48 ≤ n → Gathers P from o None
+      full_number k =
+          none_left (λ s. number_at s ∙ joins_full (read_from b (drop (at + 1) P)) (held (take n o)) s (drop (at + 1) P) (let z = held-size n o (let y = g.few in let w = g.size in omega arith) in omega arith))
 
-    pub more_number : starts_number b ≡ true → (v m : ℕ) → Reads b P (at + 1) v m → (m ≡ 0 → ⊥) → n < 48 → Going P from (set o n v) m (n + 1)
-    more_number h v m r z k =
-        let w = g.size in
-        let y = r.onward z in
-        let i : n < length o = omega arith in
-        let q : read_from b (drop (at + 1) P) ≡ number (unit v) (m - (at + 1)) = r.same ∙ rw (not_eq m 0 z) in
-        record {
-          runs = λ s. g.runs s ∙ number_at h s ∙ rw q (joins_more (unit v) (m - (at + 1)) (held (take n o)) s (drop (at + 1) P) (let d = held-size n o (let y = g.few in omega arith) in omega arith)) ∙ run-skip (m - (at + 1)) (drop (at + 1) P) _ ∙ ap₂ (λ (l : List ℕ) (x : List ℤ). run l 0 (with_ops x s)) (drop-drop (m - (at + 1)) (at + 1) P ∙ ap (λ (j : ℕ). drop j P) (let d : at + 1 + (m - (at + 1)) ≡ m = omega arith in d)) (sym (held_more n o v i));
-          few = omega arith;
-          size = length-set o n v ∙ g.size;
-          past = let d = g.past in omega arith;
-        }
+      pub more_number : (v : Value) → Reads b P (at + 1) (Some v) → n < 48 → Going P from (set o n v.value) v.next (n + 1)
+      more_number v r k =
+          let w = g.size in
+          let m = v.next in
+          let y : at + 1 ≤ v.next = r.onward in
+          let i : n < length o = omega arith in
+          let d : at + 1 + (v.next - (at + 1)) ≡ v.next = omega arith in
+          record {
+            runs = λ s. g.runs s ∙ number_at s ∙ rw r.same (joins_more (unit v.value) (v.next - (at + 1)) (held (take n o)) s (drop (at + 1) P) (let d = held-size n o (let y = g.few in omega arith) in omega arith)) ∙ run-skip (v.next - (at + 1)) (drop (at + 1) P) _ ∙ ap₂ (λ (l : List ℕ) (x : List ℤ). run l 0 (with_ops x s)) (drop-drop (v.next - (at + 1)) (at + 1) P ∙ ap (λ (j : ℕ). drop j P) d) (sym (held_more n o v.value i));
+            few = omega arith;
+            size = length-set o n v.value ∙ g.size;
+            past = let d = g.past in omega arith;
+          }

@@ -1,20 +1,25 @@
 -- Laws: what a reader holds, and the points that its operands go to.
-use Rattle.std.specs.Prelude.{◌≡◌, Bool, not, ◌&&◌, length, take, drop, get_or, T, leb, eqb, ℤ, pos, negsuc, ◌+ℤ◌}
+use Rattle.std.specs.Prelude.{◌≡◌, Bool, ◌&&◌, length, take, drop, get_or, T, leb, ℤ, pos, negsuc, ◌+ℤ◌}
 use Rattle.std.proofs.Math.Path.{refl, sym, ap}
-use Rattle.std.proofs.Common.{ap₂, ◌∙◌, subst, add-one, suc-mul, arith, true≢false, length-take, length-drop, drop-cons, get_or-take, leb→le, eqb→eq, leb-false}
-use Prim.Native.Nat.{ℕ, zero, suc, ◌+◌, ◌-◌, ◌*◌, ◌/◌, ◌^◌, ◌≤◌, ◌<◌, min}
+use Rattle.std.proofs.Common.{ap₂, ◌∙◌, subst, add-one, suc-mul, arith, true≢false, length-take, length-drop, drop-cons, leb→le, leb-false}
+use Prim.Native.Nat.{ℕ, zero, suc, ◌+◌, ◌-◌, ◌*◌, ◌/◌, ◌^◌, ◌≤◌, ◌<◌}
 use Rattle.std.proofs.Math.Nat.{zero-mul}
+use Rattle.std.proofs.lemmas.List.{drop-take}
 use Rattle.std.proofs.Math.Bool.{true, false}
 use mathlib.Core.List.{List, [], ◌∷◌, ◌++◌}
 use Rattle.type2.specs.Number.{zp, zm}
-use Rattle.type2.specs.Bools.{is_lt, not_lt, and_both, not_eq, choose}
+use Rattle.type2.specs.Bools.{is_lt, not_lt, and_both}
 use Rattle.type2.specs.Signed.{sub_bal, sub_is, add_bal}
 use Rattle.type2.specs.Path.{Kind}
 use Rattle.renderer.specs.Machine.{Point, State, fault, on, small, moved, reach, last_of, all_small, draw, draws, and_then}
 use Rattle.renderer.specs.Operators.{acted}
 use Rattle.renderer.proofs.InstructionLaws.{draw_is}
+use Rattle.renderer.specs.declared.path.Position.{Position}
 use Rattle.renderer.specs.declared.Reader.{Reader}
-use Rattle.renderer.specs.Reader.{unit, held, part, coordinate, point_at, is_near, Near, is_possible, is_drawing, is_code, Taken, acted_each}
+use Rattle.renderer.specs.declared.Operation.{Operation}
+use Rattle.renderer.specs.declared.Operation.TheVariants.{Stems, Mask, Move, Lines, Curves, Flex, End}
+use Rattle.renderer.specs.Reads.{moved_by}
+use Rattle.renderer.specs.Reader.{unit, held, part, coordinate, point_at, is_within, is_near, Near, is_possible, is_drawing, Taken, acted_each, code_of, number_draws}
 
 -- ---- a list of bytes or operands at a place
 pub cons_at : (l : List ℕ) (i : ℕ) → i < length l → drop i l ≡ get_or l i 0 ∷ drop (i + 1) l
@@ -26,7 +31,7 @@ held-length [] = refl
 held-length (n ∷ l) = ap suc (held-length l)
 
 -- ---- a coordinate is small where it is near
-pub near_of : (n : ℕ) → is_near n ≡ true → Near n
+pub near_of : (n : ℕ) → is_within n ≡ true → Near n
 near_of n e =
     let w = and_both (leb 1152921504606846976 n) (leb n 3458764513820540928) (subst T (sym e) tt) in
     record { above = leb→le 1152921504606846976 n w.0; below = leb→le n 3458764513820540928 w.1 }
@@ -35,11 +40,11 @@ near_of n e =
 abbrev Holds : ℤ → ℕ → Type 0
 Holds z n = zp z + 2305843009213693952 ≡ zm z + n
 
-near_small : (z : ℤ) (n : ℕ) → Holds z n → is_near n ≡ true → small z ≡ true
+near_small : (z : ℤ) (n : ℕ) → Holds z n → is_within n ≡ true → small z ≡ true
 near_small (pos m) n h e = let k = near_of n e in is_lt (m + 0) (2 ^ 60 + 1) (omega arith)
 near_small (negsuc m) n h e = let k = near_of n e in is_lt (0 + suc m) (2 ^ 60 + 1) (omega arith)
 
-far_large : (z : ℤ) (n : ℕ) → Holds z n → is_near n ≡ false → small z ≡ false
+far_large : (z : ℤ) (n : ℕ) → Holds z n → is_within n ≡ false → small z ≡ false
 far_large z n h e = go (leb 1152921504606846976 n) refl e z h
   where
     go : (x : Bool) → leb 1152921504606846976 n ≡ x → (x && leb n 3458764513820540928) ≡ false → (z : ℤ) → Holds z n → small z ≡ false
@@ -48,15 +53,22 @@ far_large z n h e = go (leb 1152921504606846976 n) refl e z h
     go false p q (pos m) h = let k = leb-false 1152921504606846976 n p in absurd (let y : ⊥ = omega arith in y)
     go false p q (negsuc m) h = let k = leb-false 1152921504606846976 n p in not_lt (0 + suc m) (2 ^ 60 + 1) (omega arith)
 
-pub small_is : (n : ℕ) → small (coordinate n) ≡ is_near n
-small_is n = go (is_near n) refl
+pub small_is : (n : ℕ) → small (coordinate n) ≡ is_within n
+small_is n = go (is_within n) refl
   where
-    go : (x : Bool) → is_near n ≡ x → small (coordinate n) ≡ x
+    go : (x : Bool) → is_within n ≡ x → small (coordinate n) ≡ x
     go true e = near_small (coordinate n) n (sub_bal n 2305843009213693952) e
     go false e = far_large (coordinate n) n (sub_bal n 2305843009213693952) e
 
+pub near_parts : (p : Position) → is_near p ≡ true → (is_within p.x ≡ true) × (is_within p.y ≡ true)
+near_parts p = go (is_within p.x) (is_within p.y)
+  where
+    go : (a b : Bool) → (a && b) ≡ true → (a ≡ true) × (b ≡ true)
+    go true b e = (refl, e)
+    go false b e = absurd (true≢false (sym e))
+
 -- ---- a delta more
-pub coordinate_more : (x d : ℕ) → is_near x ≡ true → coordinate x +ℤ unit d ≡ coordinate (x + d - 2147483648)
+pub coordinate_more : (x d : ℕ) → is_within x ≡ true → coordinate x +ℤ unit d ≡ coordinate (x + d - 2147483648)
 coordinate_more x d e =
     let k = near_of x e in
     let a = add_bal (coordinate x) (unit d) in
@@ -75,29 +87,16 @@ reach-pair : (p : Point) (a b : ℤ) (l : List ℤ) → reach p (a ∷ b ∷ l) 
 unfolding reach
 reach-pair p a b l = refl
 
--- the operands from `i` to before `end`
-part_pair : (o : List ℕ) (i end : ℕ) → i + 1 < end → end ≤ length o → part i end o ≡ unit (get_or o i 0) ∷ unit (get_or o (i + 1) 0) ∷ part (i + 1 + 1) end o
-unfolding held
-part_pair o i end h k =
-    let l : length (take end o) ≡ end = length-take end o ∙ (let z : min end (length o) ≡ end = omega arith in z) in
-    ap held (cons_at (take end o) i (omega arith) ∙ ap₂ (λ (x : ℕ) (m : List ℕ). x ∷ m) (get_or-take end o i 0 (omega arith)) (cons_at (take end o) (i + 1) (omega arith) ∙ ap (λ (x : ℕ). x ∷ drop (i + 1 + 1) (take end o)) (get_or-take end o (i + 1) 0 h)))
-
 -- the first of them, and those after it
-pub reach_more : (o : List ℕ) (i end x y v u : ℕ) → i + 1 < end → end ≤ length o → is_near x ≡ true → is_near y ≡ true → v ≡ get_or o i 0 → u ≡ get_or o (i + 1) 0
-    → reach (point_at x y) (part i end o) ≡ point_at (x + v - 2147483648) (y + u - 2147483648) ∷ reach (point_at (x + v - 2147483648) (y + u - 2147483648)) (part (i + 2) end o)
-reach_more o i end x y v u h k n m e f =
-    let j : i + 1 + 1 ≡ i + 2 = omega arith in
-    let q : moved (point_at x y) (unit v) (unit u) ≡ point_at (x + v - 2147483648) (y + u - 2147483648) = ap₂ (λ (a b : ℤ). record { x = a; y = b }) (coordinate_more x v n) (coordinate_more y u m) in
-    ap (reach (point_at x y)) (part_pair o i end h k)
-    ∙ reach-pair (point_at x y) (unit (get_or o i 0)) (unit (get_or o (i + 1) 0)) (part (i + 1 + 1) end o)
-    ∙ rw (← e, ← f, j) (ap (λ (p : Point). p ∷ reach p (part (i + 2) end o)) q)
+pub reach_more : (p : Position) (v u : ℕ) (d : List ℕ) → is_near p ≡ true → reach (point_at p) (held (v ∷ u ∷ d)) ≡ point_at (moved_by p v u) ∷ reach (point_at (moved_by p v u)) (held d)
+unfolding held
+reach_more p v u d e =
+    let n = near_parts p e in
+    let q : moved (point_at p) (unit v) (unit u) ≡ point_at (moved_by p v u) = ap₂ (λ (a b : ℤ). record { x = a; y = b }) (coordinate_more p.x v n.0) (coordinate_more p.y u n.1) in
+    reach-pair (point_at p) (unit v) (unit u) (held d) ∙ ap (λ (q : Point). q ∷ reach q (held d)) q
 
-pub reach_done : (o : List ℕ) (i end x y : ℕ) → end ≤ i + 1 → reach (point_at x y) (part i end o) ≡ []
-reach_done o i end x y h =
-    let l = held-length (drop i (take end o)) in
-    let d = length-drop i (take end o) in
-    let m = length-take end o in
-    reach-short (point_at x y) (part i end o) (omega arith)
+pub reach_done : (p : Position) (d : List ℕ) → length d ≤ 1 → reach (point_at p) (held d) ≡ []
+reach_done p d h = let l = held-length d in reach-short (point_at p) (held d) (omega arith)
 
 -- ---- entries one after another: the first m operands are pairs
 abbrev pub Splits : ℕ → Type 0
@@ -209,46 +208,34 @@ module _ (c : Kind) (k : ℕ) (split : Splits k) where
 pub possible_stems : (t : Reader) → is_possible t ≡ true → t.stems ≤ 96
 possible_stems t e = leb→le t.stems 96 (and_both (leb t.stems 96) _ (subst T (sym e) tt)).0
 
-pub possible_near : (t : Reader) → is_possible t ≡ true → (is_near t.x ≡ true) × (is_near t.y ≡ true)
-possible_near t = go (leb t.stems 96) (is_near t.x) (is_near t.y)
+pub possible_near : (t : Reader) → is_possible t ≡ true → is_near t.position ≡ true
+possible_near t = go (leb t.stems 96) (is_near t.position)
   where
-    go : (a b c : Bool) → (a && (b && c)) ≡ true → (b ≡ true) × (c ≡ true)
-    go true true c e = (refl, e)
-    go true false c e = absurd (true≢false (sym e))
-    go false b c e = absurd (true≢false (sym e))
+    go : (a b : Bool) → (a && b) ≡ true → b ≡ true
+    go true b e = e
+    go false b e = absurd (true≢false (sym e))
 
 -- ---- by the operator
-off : (x : Bool) → T (not x) → x ≡ false
-off true h = absurd h
-off false h = refl
 
 -- one that draws n / 2 or n / 6 entries by n operands, or one entry
-pub by_drawing : (c n : ℕ) → is_drawing c ≡ true → Taken c n → (Q : Type 0) → (c ≡ 21 → Q) → (c ≡ 5 → n ≡ n / 2 * 2 → Q) → (c ≡ 8 → n ≡ n / 6 * 6 → Q) → (c ≡ 12 → Q) → Q
-by_drawing c n e t Q move line curve flex =
-    choose (eqb c 21) (λ (z : Bool). Q) true true (λ h. move (eqb→eq c 21 h))
-    (λ h1. choose (eqb c 5) (λ (z : Bool). Q) true true (λ h. let k = eqb→eq c 5 h in let w = rw k at t.spared in line k (omega arith))
-    (λ h2. choose (eqb c 8) (λ (z : Bool). Q) true true (λ h. let k = eqb→eq c 8 h in let w = rw k at t.spared in curve k (omega arith))
-    (λ h3. choose (eqb c 12) (λ (z : Bool). Q) true true (λ h. flex (eqb→eq c 12 h)) (λ h4. absurd (none h1 h2 h3 h4)))))
-  where
-    none : T (not (eqb c 21)) → T (not (eqb c 5)) → T (not (eqb c 8)) → T (not (eqb c 12)) → ⊥
-    none p q v w =
-        let f : false ≡ true = rw (off (eqb c 21) p, off (eqb c 5) q, off (eqb c 8) v, off (eqb c 12) w) at e in
-        true≢false (sym f)
+pub by_drawing : (c : Operation) (n : ℕ) → is_drawing c ≡ true → Taken c n → (Q : Type 0) → (c ≡ Move → Q) → (c ≡ Lines → n ≡ n / 2 * 2 → Q) → (c ≡ Curves → n ≡ n / 6 * 6 → Q) → (c ≡ Flex → Q) → Q
+by_drawing Stems n e t Q move line curve flex = absurd (true≢false (sym e))
+by_drawing Mask n e t Q move line curve flex = absurd (true≢false (sym e))
+by_drawing Move n e t Q move line curve flex = move refl
+by_drawing Lines n e t Q move line curve flex = let w = t.spared in line refl (omega arith)
+by_drawing Curves n e t Q move line curve flex = let w = t.spared in curve refl (omega arith)
+by_drawing Flex n e t Q move line curve flex = flex refl
+by_drawing End n e t Q move line curve flex = absurd (true≢false (sym e))
 
 -- stems, a mask or the end
-pub by_still : (c : ℕ) → is_code c ≡ true → is_drawing c ≡ false → (c ≡ 0 → ⊥) → (Q : Type 0) → (c ≡ 1 → Q) → (c ≡ 19 → Q) → (c ≡ 14 → Q) → Q
-by_still c known still n0 Q stems mask end =
-    choose (eqb c 1) (λ (z : Bool). Q) true true (λ h. stems (eqb→eq c 1 h))
-    (λ h1. choose (eqb c 19) (λ (z : Bool). Q) true true (λ h. mask (eqb→eq c 19 h))
-    (λ h2. choose (eqb c 14) (λ (z : Bool). Q) true true (λ h. end (eqb→eq c 14 h)) (λ h3. absurd (none h1 h2 h3))))
-  where
-    other : (d : ℕ) → is_drawing d ≡ true → c ≡ d → ⊥
-    other d e h = true≢false (sym e ∙ sym (ap is_drawing h) ∙ still)
-
-    none : T (not (eqb c 1)) → T (not (eqb c 19)) → T (not (eqb c 14)) → ⊥
-    none p q w =
-        let e : false ≡ true = rw (not_eq c 0 n0, off (eqb c 1) p, off (eqb c 19) q, off (eqb c 14) w, not_eq c 21 (other 21 refl), not_eq c 5 (other 5 refl), not_eq c 8 (other 8 refl), not_eq c 12 (other 12 refl)) at known in
-        true≢false (sym e)
+pub by_still : (c : Operation) → is_drawing c ≡ false → (Q : Type 0) → (c ≡ Stems → Q) → (c ≡ Mask → Q) → (c ≡ End → Q) → Q
+by_still Stems e Q stems mask end = stems refl
+by_still Mask e Q stems mask end = mask refl
+by_still Move e Q stems mask end = absurd (true≢false e)
+by_still Lines e Q stems mask end = absurd (true≢false e)
+by_still Curves e Q stems mask end = absurd (true≢false e)
+by_still Flex e Q stems mask end = absurd (true≢false e)
+by_still End e Q stems mask end = end refl
 
 -- how many operands there are
 pub part_length : (i end : ℕ) (o : List ℕ) → end ≤ length o → length (part i end o) ≡ end - i
@@ -257,3 +244,17 @@ part_length i end o h =
     let b = length-drop i (take end o) in
     let c = length-take end o in
     omega arith
+
+-- the operands as a slice
+pub slice_part : (i end : ℕ) (o : List ℕ) → i ≤ end → take (end - i) (drop i o) ≡ drop i (take end o)
+slice_part i end o h = sym (ap (λ (n : ℕ). drop i (take n o)) (let e : end ≡ i + (end - i) = omega arith in e) ∙ drop-take i (end - i) o)
+
+-- an operation draws where its number does
+pub drawing_number : (o : Operation) → is_drawing o ≡ number_draws (code_of o)
+drawing_number Stems = refl
+drawing_number Mask = refl
+drawing_number Move = refl
+drawing_number Lines = refl
+drawing_number Curves = refl
+drawing_number Flex = refl
+drawing_number End = refl

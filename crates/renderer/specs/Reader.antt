@@ -1,13 +1,16 @@
 -- Definitions: how a reader of a finished charstring stands to the Type 2 machine. Document 01, "Type 2 machine (T2)".
 -- An operand is held as its units of 1/65536 and 2 ^ 31, a coordinate as its units and 2 ^ 61.
-use Rattle.std.specs.Prelude.{◌≡◌, ℕ, zero, suc, ◌+◌, ◌-◌, ◌/◌, ◌≤◌, ◌<◌, Bool, true, false, ◌&&◌, ◌||◌, cond, List, [], ◌∷◌, length, take, drop, get_or, leb, eqb, ℤ}
+use Rattle.std.specs.Prelude.{◌≡◌, ℕ, zero, suc, ◌+◌, ◌-◌, ◌/◌, ◌≤◌, ◌<◌, Bool, true, false, ◌&&◌, cond, List, [], ◌∷◌, length, take, drop, get_or, leb, eqb, ℤ, Option, None, Some, IfSome, ◌||◌}
 use Rattle.std.proofs.Math.Option.{some}
 use Rattle.std.proofs.Math.IntN.{sub_ℕ}
 use Rattle.type2.specs.Path.{Kind, moves, lines, curves, flexes}
 use Rattle.renderer.specs.Machine.{Point, State, Result, failed, ended, Takes, exactly, many, least, spare, begin, with_ops, with_stems, with_mask, bits, reach, all_small, run}
 use Rattle.renderer.specs.Operators.{acted}
+use Rattle.renderer.specs.declared.path.Position.{Position}
 use Rattle.renderer.specs.declared.Reader.{Reader}
 use Rattle.renderer.specs.declared.Operator.{Operator}
+use Rattle.renderer.specs.declared.Operation.{Operation}
+use Rattle.renderer.specs.declared.Operation.TheVariants.{Stems, Mask, Move, Lines, Curves, Flex, End}
 
 -- ---- what is held
 
@@ -27,12 +30,15 @@ part i end o = held (drop i (take end o))
 abbrev pub coordinate : ℕ → ℤ
 coordinate n = sub_ℕ n 2305843009213693952
 
-abbrev pub point_at : ℕ → ℕ → Point
-point_at x y = record { x = coordinate x; y = coordinate y }
+abbrev pub point_at : Position → Point
+point_at p = record { x = coordinate p.x; y = coordinate p.y }
 
 -- not "a coordinate beyond 2^60 units either way"
-abbrev pub is_near : ℕ → Bool
-is_near n = leb 1152921504606846976 n && leb n 3458764513820540928
+abbrev pub is_within : ℕ → Bool
+is_within n = leb 1152921504606846976 n && leb n 3458764513820540928
+
+abbrev pub is_near : Position → Bool
+is_near p = is_within p.x && is_within p.y
 
 pub record Near (n : ℕ) : Type 0 where
   pub above : 1152921504606846976 ≤ n
@@ -42,43 +48,57 @@ pub record Near (n : ℕ) : Type 0 where
 
 -- "State: point (0, 0), stem count (0)": at the first byte, with no operator run
 abbrev pub first_reader : Reader
-first_reader = record { at = 0; begun = false; stems = 0; x = 2305843009213693952; y = 2305843009213693952 }
+first_reader = record { at = 0; begun = false; stems = 0; position = record { x = 2305843009213693952; y = 2305843009213693952 } }
 
 -- where a run can stand: "a 97th stem, a coordinate beyond 2^60 units either way [..] is a fault"
 abbrev pub is_possible : Reader → Bool
-is_possible t = leb t.stems 96 && (is_near t.x && is_near t.y)
+is_possible t = leb t.stems 96 && is_near t.position
 
 -- the machine between two operators, and the reader with it
 pub record Stands (s : State) (t : Reader) : Type 0 where
   pub begun_is : s.begun ≡ t.begun
   pub stems_is : s.stems ≡ t.stems
-  pub at_is : s.at ≡ point_at t.x t.y
+  pub at_is : s.at ≡ point_at t.position
   pub cleared : s.ops ≡ []
   pub possible : is_possible t ≡ true
 
--- ---- an operator: 0 a fault, 1 stems, 19 a mask, 21 a move, 5 lines, 8 curves, 12 a flex, 14 the end
-
--- a fault
-abbrev pub no_operator : Operator
-no_operator = record { code = 0; first = 0; end = 0; after = first_reader }
+-- ---- an operator
 
 -- those that draw: "21, 22, 4 move; 5 takes pairs, 8 sixes [..] 12 35 takes 13"
-abbrev pub is_drawing : ℕ → Bool
-is_drawing c = eqb c 21 || (eqb c 5 || (eqb c 8 || eqb c 12))
+abbrev pub is_drawing : Operation → Bool
+is_drawing Stems = false
+is_drawing Mask = false
+is_drawing Move = true
+is_drawing Lines = true
+is_drawing Curves = true
+is_drawing Flex = true
+is_drawing End = false
 
--- the codes that there are
-abbrev pub is_code : ℕ → Bool
-is_code c = eqb c 0 || eqb c 1 || eqb c 19 || eqb c 21 || eqb c 5 || eqb c 8 || eqb c 12 || eqb c 14
+-- the number of an operation: TN#5177's byte, 1 for the four that declare stems, 21 for the three moves
+abbrev pub code_of : Operation → ℕ
+code_of Stems = 1
+code_of Mask = 19
+code_of Move = 21
+code_of Lines = 5
+code_of Curves = 8
+code_of Flex = 12
+code_of End = 14
+
+abbrev pub number_draws : ℕ → Bool
+number_draws c = eqb c 21 || (eqb c 5 || (eqb c 8 || eqb c 12))
 
 -- how many operands: "1, 3, 18, 23 take one pair or more [..] 19 takes none [..] 21, 22, 4 move; 5 takes pairs, 8 sixes, each at least one; 12 35 takes 13; 14 takes none"
-abbrev pub exact_of : ℕ → ℕ
-exact_of c = cond (eqb c 21) 2 (cond (eqb c 22 || eqb c 4) 1 (cond (eqb c 12) 13 0))
-
-abbrev pub takes_of : ℕ → Takes
-takes_of c = cond (eqb c 1 || eqb c 5) (many 2) (cond (eqb c 8) (many 6) (exactly (exact_of c)))
+abbrev pub takes_of : Operation → Takes
+takes_of Stems = many 2
+takes_of Mask = exactly 0
+takes_of Move = exactly 2
+takes_of Lines = many 2
+takes_of Curves = many 6
+takes_of Flex = exactly 13
+takes_of End = exactly 0
 
 -- the operator takes n operands
-pub record Taken (c n : ℕ) : Type 0 where
+pub record Taken (c : Operation) (n : ℕ) : Type 0 where
   pub enough : least (takes_of c) ≤ n
   pub spared : spare (takes_of c) n ≡ 0
 
@@ -100,37 +120,49 @@ acted_each c k zero l s = with_ops [] s
 acted_each c k (suc n) l s = acted_each c k n (drop k l) (acted c (take k l) s)
 
 -- the state after it
-unfoldable pub acts : Operator → List ℕ → State → State
-acts r P t =
-    cond (eqb r.code 1) (with_stems r.after.stems t)
-    (cond (eqb r.code 19) (with_mask (mask_of r P) t)
-    (cond (eqb r.code 21) (acted moves t.ops t)
-    (cond (eqb r.code 5) (acted_each lines 2 (length t.ops / 2) t.ops t)
-    (cond (eqb r.code 8) (acted_each curves 6 (length t.ops / 6) t.ops t)
-    (acted flexes t.ops t)))))
+unfoldable pub acts_by : Operation → Operator → List ℕ → State → State
+acts_by Stems r P t = with_stems r.after.stems t
+acts_by Mask r P t = with_mask (mask_of r P) t
+acts_by Move r P t = acted moves t.ops t
+acts_by Lines r P t = acted_each lines 2 (length t.ops / 2) t.ops t
+acts_by Curves r P t = acted_each curves 6 (length t.ops / 6) t.ops t
+acts_by Flex r P t = acted flexes t.ops t
+acts_by End r P t = t
 
--- how the run goes on from it
-unfoldable pub goes : Operator → List ℕ → List ℕ → State → Result
-goes r o P s =
-    cond (eqb r.code 0) failed
-    (cond (eqb r.code 14) (ended (settled_by r o s) (drop r.after.at P))
-    (run (drop r.after.at P) 0 (acts r P (settled_by r o s))))
+abbrev pub acts : Operator → List ℕ → State → State
+acts r P t = acts_by r.operation r P t
+
+-- how the run goes on from it: it ends with the state that the operator finds, or goes on with the state after it
+unfoldable pub goes_by : Operation → State → State → List ℕ → Result
+goes_by End s t rest = ended s rest
+goes_by Stems s t rest = run rest 0 t
+goes_by Mask s t rest = run rest 0 t
+goes_by Move s t rest = run rest 0 t
+goes_by Lines s t rest = run rest 0 t
+goes_by Curves s t rest = run rest 0 t
+goes_by Flex s t rest = run rest 0 t
+
+abbrev pub goes : Option Operator → List ℕ → List ℕ → State → Result
+goes None o P s = failed
+goes (Some r) o P s = goes_by r.operation (settled_by r o s) (acts r P (settled_by r o s)) (drop r.after.at P)
 
 -- ---- what `Reader::next` says
-pub record Comes (P : List ℕ) (t : Reader) (o : List ℕ) (r : Operator) : Type 0 where
-  -- the machine's run from where the reader stands is this operator and the run from where it then stands
-  pub runs : (s : State) → Stands s t → run (drop t.at P) 0 s ≡ goes r o P s
-  pub stands : (s : State) → Stands s t → (r.code ≡ 0 → ⊥) → (r.code ≡ 14 → ⊥) → Stands (acts r P (settled_by r o s)) r.after
-  -- where no run can stand, a fault is answered
-  pub impossible : is_possible t ≡ false → r ≡ no_operator
-  -- a fault has no operands, and the reader is as at the first byte
-  pub faulted : r.code ≡ 0 → r ≡ no_operator
-  pub known : is_code r.code ≡ true
-  pub onward : (r.code ≡ 0 → ⊥) → t.at < r.after.at
+
+-- of an operator that comes
+pub record Came (P : List ℕ) (t : Reader) (o : List ℕ) (r : Operator) : Type 0 where
+  pub stands : (s : State) → Stands s t → (r.operation ≡ End → ⊥) → Stands (acts r P (settled_by r o s)) r.after
+  pub onward : t.at < r.after.at
   pub within : r.after.at ≤ length P
   -- the operands: in order, as many as the operator takes, and no point of theirs beyond the limit
-  pub size : length o ≡ 48
   pub order : r.first ≤ r.end
   pub few : r.end ≤ 48
-  pub taken : (r.code ≡ 0 → ⊥) → Taken r.code (r.end - r.first)
-  pub small : is_drawing r.code ≡ true → all_small (reach (point_at t.x t.y) (operands_of r o)) ≡ true
+  pub taken : Taken r.operation (r.end - r.first)
+  pub small : is_drawing r.operation ≡ true → all_small (reach (point_at t.position) (operands_of r o)) ≡ true
+
+pub record Comes (P : List ℕ) (t : Reader) (o : List ℕ) (r : Option Operator) : Type 0 where
+  -- the machine's run from where the reader stands is this operator and the run from where it then stands, or a fault
+  pub runs : (s : State) → Stands s t → run (drop t.at P) 0 s ≡ goes r o P s
+  -- where no run can stand, none comes
+  pub impossible : is_possible t ≡ false → r ≡ None
+  pub size : length o ≡ 48
+  pub came : IfSome r (Came P t o)

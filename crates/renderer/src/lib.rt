@@ -2,106 +2,76 @@
 //! operator, as the machine reads it.
 #![tactic(auto)]
 
-ghost use Rattle.std.specs.Prelude.{◌≡◌, true};
-ghost use Rattle.renderer.specs.Reader.{is_possible, is_drawing, first_reader, no_operator, Comes};
-ghost use Rattle.renderer.specs.Reads.{after_found};
+ghost use Rattle.std.specs.Prelude.{◌≡◌};
+ghost use Rattle.renderer.specs.Reader.{number_draws};
 
 mod numbers;
 mod opcodes;
 mod operators;
 mod path;
 
-use opcodes::{ESCAPE, RLINETO, RMOVETO, RRCURVETO};
-use operators::{Found, find};
-use path::{follow, is_near};
+use operators::find;
+pub use path::Position;
 
-// The codes of an operator that comes: a fault, and the end.
-pub const FAULT: u32 = 0;
+/// What an operator does.
+#[derive(Clone, Copy, Debug, PartialEq, Eq)]
+pub enum Operation {
+    Stems,
+    Mask,
+    Move,
+    Lines,
+    Curves,
+    Flex,
+    End,
+}
 
-pub const END: u32 = 14;
+impl Operation {
+    ghost use Rattle.renderer.specs.Reader.{is_drawing};
 
-// Where a reader stands between two operators: the place in the program, whether an operator has run, how many
-// stems are declared, and the point, each coordinate as its units of 1/65536 and 2 ^ 61.
+    /// Whether it draws: a move, lines, curves or a flex.
+    pub fn is_drawing(self) -> bool
+        ensures { result ≡ is_drawing self }
+    {
+        matches!(
+            self,
+            Operation::Move | Operation::Lines | Operation::Curves | Operation::Flex
+        )
+    }
+}
+
+/// Whether the operation of a number draws: 1 stems, 19 a mask, 21 a move, 5 lines, 8 curves, 12 a flex, 14 the end. It
+/// stands beside the method, since it was promised of every number.
+pub fn is_drawing(code: u32) -> bool
+    ensures { result ≡ number_draws code }
+{
+    matches!(code, 21 | 5 | 8 | 12)
+}
+
+/// Where a reader stands between two operators: the place in the program, whether an operator has run, how many
+/// stems are declared, and the point.
 #[derive(Clone, Copy)]
 pub struct Reader {
     pub at: usize,
     pub begun: bool,
     pub stems: usize,
-    pub x: u64,
-    pub y: u64,
+    pub position: Position,
 }
 
-// What comes: 0 a fault, 1 stems, 19 a mask, 21 a move, 5 lines, 8 curves, 12 a flex, 14 the end. Its operands
-// stand in the lent array from `first` to before `end`, each as its units of 1/65536 and 2 ^ 31; where `first` is 1,
-// the width stands at 0. Every move has two operands. A mask's bytes end where the reader then stands.
+/// An operator that comes. Its operands stand in the lent array from `first` to before `end`, each as its units of
+/// 1/65536 and 2 ^ 31; where `first` is 1, the width stands at 0. Every move has two operands. A mask's bytes end
+/// where the reader then stands.
 #[derive(Clone, Copy)]
 pub struct Operator {
-    pub code: u32,
+    pub operation: Operation,
     pub first: usize,
     pub end: usize,
     pub after: Reader,
 }
 
-// Whether a run can stand so: at most 96 stems, and a point within 2 ^ 60 units.
-fn is_possible(t: Reader) -> bool
-    ensures { result ≡ is_possible t }
-{
-    if 96 < t.stems {
-        return false;
-    }
-    if !is_near(t.x) {
-        return false;
-    }
-    is_near(t.y)
-}
-
-// Whether an operator draws: a move, lines, curves or a flex.
-pub fn is_drawing(code: u32) -> bool
-    ensures { result ≡ is_drawing code }
-{
-    if code == RMOVETO {
-        return true;
-    }
-    if code == RLINETO {
-        return true;
-    }
-    if code == RRCURVETO {
-        return true;
-    }
-    code == ESCAPE
-}
-
-fn fault() -> Operator
-    ensures { result ≡ no_operator }
-{
-    Operator {
-        code: FAULT,
-        first: 0,
-        end: 0,
-        after: Reader::new(),
-    }
-}
-
-// What was found, with the point after it.
-fn found(f: Found, x: u64, y: u64) -> Operator
-    ensures { result ≡ after_found f x y }
-{
-    Operator {
-        code: f.code,
-        first: f.first,
-        end: f.end,
-        after: Reader {
-            at: f.next,
-            begun: true,
-            stems: f.stems,
-            x,
-            y,
-        },
-    }
-}
-
 impl Reader {
-    // At the first byte, with nothing read.
+    ghost use Rattle.renderer.specs.Reader.{is_possible, first_reader, Comes};
+
+    /// At the first byte, with nothing read.
     pub fn new() -> Reader
         ensures { result ≡ first_reader }
     {
@@ -109,35 +79,39 @@ impl Reader {
             at: 0,
             begun: false,
             stems: 0,
-            x: 2305843009213693952,
-            y: 2305843009213693952,
+            position: Position {
+                x: 2305843009213693952,
+                y: 2305843009213693952,
+            },
         }
     }
 
-    // The next operator, and where the reader stands after it; a fault where the machine faults, and where no run
-    // can stand. The array taken as a slice tells its length to the proof.
-    pub fn next(self, program: &[u8], ops: &mut [u32; 48]) -> Operator
+    // Whether a run can stand so: at most 96 stems, and a point within 2 ^ 60 units.
+    fn is_possible(self) -> bool
+        ensures { result ≡ is_possible self }
+    {
+        self.stems <= 96 && self.position.is_near()
+    }
+
+    /// The next operator, and where the reader stands after it; none where the machine faults, and where no run can
+    /// stand.
+    pub fn next(self, program: &[u8], ops: &mut [u32; 48]) -> Option<Operator>
         ensures { Comes program.now «self» ops.new result }
     {
-        let all = &ops[..];
-        let most = all.len();
-        if most < 48 {
-            return fault();
+        if !self.is_possible() {
+            return None;
         }
-        if !is_possible(self) {
-            return fault();
+        let operator = find(program, self, ops)?;
+        if !operator.operation.is_drawing() {
+            return Some(operator);
         }
-        let f = find(program, self.at, self.begun, self.stems, ops);
-        if f.code == FAULT {
-            return fault();
-        }
-        if !is_drawing(f.code) {
-            return found(f, self.x, self.y);
-        }
-        let p = follow(ops, f.first, f.end, self.x, self.y);
-        if !p.ok {
-            return fault();
-        }
-        found(f, p.x, p.y)
+        let position = self.position.follow(&ops[operator.first..operator.end])?;
+        Some(Operator {
+            after: Reader {
+                position,
+                ..operator.after
+            },
+            ..operator
+        })
     }
 }

@@ -1,27 +1,64 @@
 // The operators of Type 2 charstrings. TN#5177, appendix A.
-pub(crate) const HSTEM: u32 = 1;
+ghost use Rattle.std.specs.Prelude.{◌≡◌, drop};
 
-pub(crate) const VSTEM: u32 = 3;
+// An operator that the machine knows. The four that declare stems are one.
+#[derive(Clone, Copy)]
+pub(crate) enum Opcode {
+    Stem,
+    HintMask,
+    RMoveTo,
+    HMoveTo,
+    VMoveTo,
+    RLineTo,
+    RRCurveTo,
+    EscapeFlex,
+    EndChar,
+}
 
-pub(crate) const VMOVETO: u32 = 4;
+impl Opcode {
+    ghost use Rattle.renderer.specs.Reads.{plain, spare_of, skip_of};
 
-pub(crate) const RLINETO: u32 = 5;
+    // The operator that the byte b begins, of which the bytes after b begin at `at`. A flex is 12 35.
+    #[tactic(auto, unfolding(crate::specs::Reads::plain))]
+    pub(crate) fn read(program: &[u8], at: usize, b: u8) -> Option<Opcode>
+        ensures { result ≡ plain b (drop at program.now) }
+    {
+        match b {
+            1 | 3 | 18 | 23 => Some(Opcode::Stem),
+            4 => Some(Opcode::VMoveTo),
+            5 => Some(Opcode::RLineTo),
+            8 => Some(Opcode::RRCurveTo),
+            12 if program.get(at) == Some(&35) => Some(Opcode::EscapeFlex),
+            14 => Some(Opcode::EndChar),
+            19 => Some(Opcode::HintMask),
+            21 => Some(Opcode::RMoveTo),
+            22 => Some(Opcode::HMoveTo),
+            _ => None,
+        }
+    }
 
-pub(crate) const RRCURVETO: u32 = 8;
+    // How many of so many operands it leaves over; none where it takes more.
+    fn spare(self, count: usize) -> Option<usize>
+        ensures { result ≡ spare_of self count }
+    {
+        match self {
+            Opcode::Stem | Opcode::RLineTo => (2 <= count).then_some(count % 2),
+            Opcode::RRCurveTo => (6 <= count).then_some(count % 6),
+            Opcode::RMoveTo => count.checked_sub(2),
+            Opcode::HMoveTo | Opcode::VMoveTo => count.checked_sub(1),
+            Opcode::EscapeFlex => count.checked_sub(13),
+            Opcode::HintMask | Opcode::EndChar => Some(count),
+        }
+    }
 
-pub(crate) const ESCAPE: u32 = 12;
-
-pub(crate) const ENDCHAR: u32 = 14;
-
-pub(crate) const HSTEMHM: u32 = 18;
-
-pub(crate) const HINTMASK: u32 = 19;
-
-pub(crate) const RMOVETO: u32 = 21;
-
-pub(crate) const HMOVETO: u32 = 22;
-
-pub(crate) const VSTEMHM: u32 = 23;
-
-// The second byte of a flex.
-pub(crate) const FLEX: u32 = 35;
+    // Where its operands start: 1 where one more is the width.
+    pub(crate) fn first_operand(self, count: usize, begun: bool) -> Option<usize>
+        ensures { result ≡ skip_of self count begun }
+    {
+        match self.spare(count)? {
+            0 => Some(0),
+            1 if !begun => Some(1),
+            _ => None,
+        }
+    }
+}

@@ -2,51 +2,56 @@
 ghost use Rattle.std.specs.Prelude.{◌≡◌, length};
 
 use crate::compare;
-use crate::vector::{big_endian, part, sum};
+use crate::kind::Kind;
+use std::fmt::Display;
 use std::fs::File;
 use std::io::{Cursor, Read, Write};
-use std::{io, str};
+use std::ops::Add;
+use std::{fmt, io, str};
 
 // The most bytes of a payload.
 const LONGEST: usize = 8192;
 
 // How many vectors were compared, and how many differ.
-#[derive(Clone, Copy)]
+#[derive(Clone, Copy, Default)]
 pub(crate) struct Tally {
-    pub(crate) compared: u64,
-    pub(crate) different: u64,
+    compared: u64,
+    different: u64,
 }
 
-// What the next vector of a file is.
-#[derive(Clone, Copy)]
-enum Turn {
-    Same,
-    Different,
-    End,
-    // A frame that is cut or too long, or a read that failed: the file cannot be read on.
-    Broken,
-}
-
-// The file is at its end: a read finds nothing, and does not fail.
-fn is_at_end(file: &mut File) -> bool {
-    let mut one = [0u8; 1];
-    match file.read(&mut one) {
-        Ok(n) => n == 0,
-        Err(_) => false,
-    }
-}
-
-// Reads until the buffer is full, the file ends or a read fails, and returns how many bytes are at the buffer's start.
-fn read_full(file: &mut File, buf: &mut [u8]) -> usize {
-    let mut done: usize = 0;
-    while done < buf.len() {
-        match file.read(&mut buf[done..]) {
-            Ok(0) => return done,
-            Ok(n) => done += n,
-            Err(_) => return done,
+impl Tally {
+    // One that was compared.
+    fn one(same: bool) -> Tally {
+        Tally {
+            compared: 1,
+            different: if same { 0 } else { 1 },
         }
     }
-    done
+
+    // What cannot be read counts as one that differs.
+    const UNREAD: Tally = Tally {
+        compared: 0,
+        different: 1,
+    };
+}
+
+impl Add for Tally {
+    type Output = Tally;
+
+    fn add(self, t: Tally) -> Tally {
+        Tally {
+            compared: self.compared.saturating_add(t.compared),
+            different: self.different.saturating_add(t.different),
+        }
+    }
+}
+
+impl Display for Tally {
+    fn fmt<W: fmt::Write>(&self, f: &mut fmt::Formatter<W>) -> fmt::Result {
+        let compared = self.compared;
+        let different = self.different;
+        write!(f, "{compared} compared, {different} different")
+    }
 }
 
 fn buffer() -> [u8; LONGEST]
@@ -55,74 +60,35 @@ fn buffer() -> [u8; LONGEST]
     [0; LONGEST]
 }
 
-// Reads a payload of n bytes into a buffer and compares it.
-fn compare_payload(file: &mut File, kind: u64, n: usize, buf: &mut [u8]) -> Turn {
-    if buf.len() < n {
-        return Turn::Broken;
-    }
-    if read_full(file, &mut buf[..n]) != n {
-        return Turn::Broken;
-    }
-    if compare(kind, part(buf, 0, n)) {
-        Turn::Same
-    } else {
-        Turn::Different
-    }
-}
-
-// Reads the next frame of a file and compares its payload.
-fn compare_next(file: &mut File, kind: u64) -> Turn {
+// Reads the next frame of a file and compares its payload; None at the file's end. A frame that is cut or too long is
+// an error, as is a read that fails.
+fn compare_next(file: &mut File, kind: Kind) -> io::Result<Option<bool>> {
     let mut head = [0u8; 4];
-    let got = read_full(file, &mut head);
-    if got == 4 {
-        let n = big_endian(&head) as usize;
-        let mut buf = buffer();
-        return compare_payload(file, kind, n, &mut buf);
+    if file.read(&mut head[..1])? == 0 {
+        return Ok(None);
     }
-    if got == 0 && is_at_end(file) {
-        Turn::End
-    } else {
-        Turn::Broken
+    file.read_exact(&mut head[1..])?;
+    let n = u32::from_be_bytes(head) as usize;
+    if n > LONGEST {
+        return Err(io::Error::from(io::ErrorKind::InvalidData));
     }
+    let mut payload = buffer();
+    file.read_exact(&mut payload[..n])?;
+    Ok(Some(compare(kind, &payload[..n])))
 }
 
-// Compares every vector of an open file. What cannot be read on counts as one that differs.
-// A proved loop has to end, and nothing says that a file does: the turns count down from a number that no run uses up.
-fn compare_all(file: &mut File, kind: u64) -> Tally {
-    let mut compared: u64 = 0;
-    let mut different: u64 = 0;
-    let mut turns = u64::MAX;
-    while turns > 0 {
-        turns -= 1;
+// Compares every vector of an open file.
+// A proved loop has to end, and nothing says that a file does: the turns count to a number that no run reaches.
+fn compare_all(file: &mut File, kind: Kind) -> Tally {
+    let mut t = Tally::default();
+    for _ in 0..u64::MAX {
         match compare_next(file, kind) {
-            Turn::Same => {
-                compared = sum(compared, 1);
-            }
-            Turn::Different => {
-                compared = sum(compared, 1);
-                different = sum(different, 1);
-            }
-            Turn::End => {
-                return Tally {
-                    compared,
-                    different,
-                };
-            }
-            Turn::Broken => {
-                turns = 0;
-            }
+            Ok(Some(same)) => t = t + Tally::one(same),
+            Ok(None) => return t,
+            Err(_) => break,
         }
     }
-    Tally {
-        compared,
-        different: sum(different, 1),
-    }
-}
-
-pub(crate) fn print(rt: &HostRuntime, name: &str, t: Tally) -> io::Result<()> {
-    let compared = t.compared;
-    let different = t.different;
-    println!(rt; "{name}: {compared} compared, {different} different")
+    t + Tally::UNREAD
 }
 
 // The system's words of an error's text, without its number and what is left of a buffer.
@@ -143,15 +109,12 @@ fn say_not_opened(rt: &HostRuntime, file: &str, error: io::Error) -> io::Result<
 }
 
 // A file that cannot be opened counts as one vector that differs.
-fn compare_file(rt: &HostRuntime, file: &str, kind: u64) -> io::Result<Tally> {
-    match File::open(rt, file) {
+fn compare_file(rt: &HostRuntime, kind: Kind) -> io::Result<Tally> {
+    match File::open(rt, kind.file()) {
         Ok(mut opened) => Ok(compare_all(&mut opened, kind)),
         Err(e) => {
-            say_not_opened(rt, file, e)?;
-            Ok(Tally {
-                compared: 0,
-                different: 1,
-            })
+            say_not_opened(rt, kind.file(), e)?;
+            Ok(Tally::UNREAD)
         }
     }
 }
@@ -161,12 +124,10 @@ fn name(file: &str) -> &str {
     file.strip_suffix(".vec").unwrap_or(file)
 }
 
-// Replays a file, prints its line and adds it to the sums before.
-pub(crate) fn replay(rt: &HostRuntime, file: &str, kind: u64, before: Tally) -> io::Result<Tally> {
-    let t = compare_file(rt, file, kind)?;
-    print(rt, name(file), t)?;
-    Ok(Tally {
-        compared: sum(before.compared, t.compared),
-        different: sum(before.different, t.different),
-    })
+// Replays a kind's file, and prints its line.
+pub(crate) fn replay(rt: &HostRuntime, kind: Kind) -> io::Result<Tally> {
+    let t = compare_file(rt, kind)?;
+    let name = name(kind.file());
+    println!(rt; "{name}: {t}")?;
+    Ok(t)
 }

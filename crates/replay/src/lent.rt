@@ -1,7 +1,6 @@
 // What is lent to a call, and what of it changed.
 ghost use Rattle.std.specs.Prelude.{◌≡◌, length};
 
-use crate::vector::{part, rest};
 use compare::holds;
 
 // The most bytes of an output, and words of a command store.
@@ -27,25 +26,19 @@ pub(crate) fn command_store() -> [u64; WORDS]
     [USED; WORDS]
 }
 
-// From a place on an output is as before the call.
-pub(crate) fn is_unchanged(out: &[u8], at: usize) -> bool {
-    holds(rest(out, at), b"", BEFORE)
+// A part of an output is as before the call.
+pub(crate) fn is_unchanged(out: &[u8]) -> bool {
+    holds(out, b"", BEFORE)
 }
 
 // The first `room` bytes of an output are front, then zeros, and behind them nothing has changed.
 pub(crate) fn is_written(out: &[u8], room: usize, front: &[u8]) -> bool {
-    holds(part(out, 0, room), front, 0) && is_unchanged(out, room)
+    let (lent, behind) = out.split_at(room.min(out.len()));
+    holds(lent, front, 0) && is_unchanged(behind)
 }
 
 // The first n words of a command store are 0, and each other is as before.
 pub(crate) fn is_wiped(words: &[u64], n: usize) -> bool {
-    let mut i: usize = 0;
-    while i < words.len() {
-        let expected: u64 = if i < n { 0 } else { USED };
-        if words[i] != expected {
-            return false;
-        }
-        i += 1;
-    }
-    true
+    let (lent, behind) = words.split_at(n.min(words.len()));
+    lent.iter().all(|w| *w == 0) && behind.iter().all(|w| *w == USED)
 }

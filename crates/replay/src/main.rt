@@ -13,20 +13,18 @@ mod bounds;
 mod doubles;
 mod files;
 mod glyphs;
+mod kind;
 mod lent;
 mod parts;
 mod runs;
 mod vector;
 
+use doubles::is_double;
 use files::{Tally, replay};
-use glyphs::{bank_at, charstring_at};
-use lent::command_store;
-use runs::is_run;
+use kind::{KINDS, Kind};
 use std::io;
 use type1::Reading;
-use vector::{
-    after_string, byte, double, nth_short, part, short_matrix, short_string, size, string,
-};
+use vector::Vector;
 
 // The stem records of a store.
 const RECORDS: usize = 512;
@@ -66,16 +64,6 @@ fn run(charstring: &[u8], bank: &[u8], reading: Reading, words: &mut [u64]) -> A
     with_stems(answer, stems)
 }
 
-fn compare_run(v: &[u8]) -> bool {
-    let reading = Reading::new(size(v, 1));
-    let charstring = string(v, 9);
-    let at = after_string(v, 9);
-    let bank = string(v, at);
-    let mut words = command_store();
-    let r = run(charstring, bank, reading, &mut words);
-    is_run(&words, r, v, after_string(v, at))
-}
-
 // What converting answers, and the stem store after it.
 #[derive(Drop)]
 struct AfterConverting {
@@ -111,24 +99,6 @@ fn convert(
     with_records(answer, stems)
 }
 
-// The kind of the vectors of the strict reading.
-const STRICT: u64 = 21;
-
-// Converts a vector's charstring, strictly where that is the vector's kind.
-fn convert_vector(v: &[u8], words: &mut [u64], out: &mut [u8]) -> AfterConverting {
-    convert(
-        short_string(v, charstring_at(v)),
-        short_string(v, bank_at(v)),
-        Reading {
-            len_iv: nth_short(v, 1, 6) as usize,
-            strict: byte(v, 0) == STRICT,
-        },
-        short_matrix(v, 1),
-        words,
-        out,
-    )
-}
-
 // The most bytes of a charstring that is nothing but `09`.
 const LONG: usize = 1048577;
 
@@ -142,7 +112,7 @@ fn closepaths() -> [u8; LONG]
 fn convert_closepaths(n: usize, bank: &[u8], words: &mut [u64], out: &mut [u8]) -> AfterConverting {
     let code = closepaths();
     convert(
-        part(&code, 0, n),
+        code.get(..n).unwrap_or(b""),
         bank,
         Reading::new(usize::MAX),
         geometry::Matrix::identity(),
@@ -151,88 +121,42 @@ fn convert_closepaths(n: usize, bank: &[u8], words: &mut [u64], out: &mut [u8]) 
     )
 }
 
-// Our function gives what the vector says. A vector of another kind than its file's counts as different.
-fn compare(kind: u64, v: &[u8]) -> bool {
-    if byte(v, 0) != kind {
-        return false;
-    }
-    let x = double(v, 1);
+// Our function gives what the vector says; None where the vector is cut, or asks for more than is lent.
+fn compare_fields(kind: Kind, v: &mut Vector) -> Option<bool> {
     match kind {
-        1 => doubles::is_double(v, binary64::round(x)),
-        2 => doubles::is_double(v, binary64::floor(x)),
-        3 => doubles::is_double(v, binary64::abs(x)),
-        4 => doubles::compare_is_finite(v),
-        5 => doubles::compare_to_usize(v),
-        6 => doubles::compare_to_i64(v),
-        7 => doubles::is_double(v, geometry::round10(x)),
-        8 => doubles::compare_transform_point(v),
-        9 => doubles::compare_transform_delta(v),
-        10 => parts::compare_decrypt_charstring(v),
-        11 => doubles::is_double(v, type2::quantize(x)),
-        12 => parts::compare_push_number(v),
-        13 => parts::compare_choose_widths(v),
-        14 => compare_run(v),
-        15 => glyphs::compare_convert(v),
-        16 => glyphs::compare_finish(v),
-        17 => glyphs::compare_closepaths(v),
-        18 => parts::compare_push_number(v),
-        19 => bounds::compare_glyph_box(v),
-        20 => bounds::compare_box_of_run(v),
-        STRICT => glyphs::compare_convert(v),
-        _ => false,
+        Kind::Round => is_double(binary64::round(v.double()?), v),
+        Kind::Floor => is_double(binary64::floor(v.double()?), v),
+        Kind::Abs => is_double(binary64::abs(v.double()?), v),
+        Kind::IsFinite => doubles::compare_is_finite(v),
+        Kind::ToUsize => doubles::compare_to_usize(v),
+        Kind::ToI64 => doubles::compare_to_i64(v),
+        Kind::Round10 => is_double(geometry::round10(v.double()?), v),
+        Kind::TransformPoint => doubles::compare_transform_point(v),
+        Kind::TransformDelta => doubles::compare_transform_delta(v),
+        Kind::DecryptCharstring => parts::compare_decrypt_charstring(v),
+        Kind::Quantize => is_double(type2::quantize(v.double()?), v),
+        Kind::PushNumber | Kind::AdobeNumbers => parts::compare_push_number(v),
+        Kind::ChooseWidths => parts::compare_choose_widths(v),
+        Kind::Run => runs::compare_run(v),
+        Kind::Convert => glyphs::compare_convert(v, false),
+        Kind::Strict => glyphs::compare_convert(v, true),
+        Kind::Finish => glyphs::compare_finish(v),
+        Kind::Closepaths => glyphs::compare_closepaths(v),
+        Kind::GlyphBox => bounds::compare_glyph_box(v),
+        Kind::BoxOfRun => bounds::compare_box_of_run(v),
     }
 }
 
-// The functions on doubles.
-fn replay_doubles(rt: &HostRuntime, before: Tally) -> io::Result<Tally> {
-    let mut t = replay(rt, "round.vec", 1, before)?;
-    t = replay(rt, "floor.vec", 2, t)?;
-    t = replay(rt, "abs.vec", 3, t)?;
-    t = replay(rt, "is_finite.vec", 4, t)?;
-    t = replay(rt, "to_usize.vec", 5, t)?;
-    replay(rt, "to_i64.vec", 6, t)
-}
-
-// Those on points.
-fn replay_points(rt: &HostRuntime, before: Tally) -> io::Result<Tally> {
-    let mut t = replay(rt, "round10.vec", 7, before)?;
-    t = replay(rt, "transform_point.vec", 8, t)?;
-    replay(rt, "transform_delta.vec", 9, t)
-}
-
-// The cipher, Type 2 numbers and the widths of a font.
-fn replay_parts(rt: &HostRuntime, before: Tally) -> io::Result<Tally> {
-    let mut t = replay(rt, "decrypt_charstring.vec", 10, before)?;
-    t = replay(rt, "quantize.vec", 11, t)?;
-    t = replay(rt, "push_number.vec", 12, t)?;
-    t = replay(rt, "adobe_numbers.vec", 18, t)?;
-    replay(rt, "choose_widths.vec", 13, t)
-}
-
-// The run, converting and finishing.
-fn replay_glyphs(rt: &HostRuntime, before: Tally) -> io::Result<Tally> {
-    let mut t = replay(rt, "run.vec", 14, before)?;
-    t = replay(rt, "convert.vec", 15, t)?;
-    t = replay(rt, "strict.vec", STRICT, t)?;
-    t = replay(rt, "finish.vec", 16, t)?;
-    replay(rt, "closepaths.vec", 17, t)
-}
-
-// The boxes of finished charstrings.
-fn replay_boxes(rt: &HostRuntime, before: Tally) -> io::Result<Tally> {
-    let t = replay(rt, "glyph_box.vec", 19, before)?;
-    replay(rt, "box_of_run.vec", 20, t)
+// Our function gives what a payload says, to its end. A vector of another kind than its file's counts as different.
+fn compare(kind: Kind, payload: &[u8]) -> bool {
+    let mut v = Vector::new(kind.form(), payload);
+    v.byte() == Some(kind.byte()) && compare_fields(kind, &mut v) == Some(true) && v.is_at_end()
 }
 
 fn main(rt: HostRuntime) -> io::Result<()> {
-    let none = Tally {
-        compared: 0,
-        different: 0,
-    };
-    let mut t = replay_doubles(&rt, none)?;
-    t = replay_points(&rt, t)?;
-    t = replay_parts(&rt, t)?;
-    t = replay_glyphs(&rt, t)?;
-    t = replay_boxes(&rt, t)?;
-    files::print(&rt, "total", t)
+    let mut total = Tally::default();
+    for kind in KINDS {
+        total = total + replay(&rt, kind)?;
+    }
+    println!(rt; "total: {total}")
 }

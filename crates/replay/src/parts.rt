@@ -2,80 +2,75 @@
 ghost use Rattle.std.specs.Prelude.{◌≡◌, length};
 
 use crate::lent::{BEFORE, is_unchanged, is_written, output};
-use crate::vector::{after_string, double, number, part, place, read_doubles, rest, size, string};
+use crate::vector::{Vector, refusal_number};
 use compare::{holds, is_cleared, same};
+use refusal::Refusal;
+use type2::Widths;
 
 // An output that is long enough: the plain bytes, then zeros.
-fn decrypts(data: &[u8], len_iv: usize, plain: &[u8], out: &mut [u8]) -> bool {
-    let r = charstring::decrypt_charstring(data, len_iv, out);
-    r.number == 0 && r.length == plain.len() && holds(out, plain, 0)
+fn decrypts(data: &[u8], len_iv: usize, plain: &[u8]) -> bool {
+    let mut out = output();
+    let r = charstring::decrypt_charstring(data, len_iv, &mut out);
+    r == Ok(plain.len()) && holds(&out, plain, 0)
 }
 
 // An output that is one byte short: 18 and zeros, and nothing behind the output changes.
-fn refuses_short(data: &[u8], len_iv: usize, plain: &[u8], out: &mut [u8]) -> bool {
-    if plain.len() == 0 {
+fn refuses_short(data: &[u8], len_iv: usize, plain: &[u8]) -> bool {
+    let Some(room) = plain.len().checked_sub(1) else {
         return true;
-    }
-    let room = plain.len() - 1;
-    if out.len() < room {
+    };
+    let mut out = output();
+    if room > out.len() {
         return false;
     }
     let r = charstring::decrypt_charstring(data, len_iv, &mut out[..room]);
-    r.number == 18 && r.length == 0 && is_written(out, room, b"")
+    r == Err(Refusal::OutputShort) && is_written(&out, room, b"")
 }
 
-pub(crate) fn compare_decrypt_charstring(v: &[u8]) -> bool {
-    let len_iv = size(v, 1);
-    let data = string(v, 9);
-    let at = after_string(v, 9);
-    let plain = string(v, at);
-    if v.len() != after_string(v, at) {
-        return false;
-    }
-    let mut long = output();
-    let mut short = output();
-    decrypts(data, len_iv, plain, &mut long) && refuses_short(data, len_iv, plain, &mut short)
+pub(crate) fn compare_decrypt_charstring(v: &mut Vector) -> Option<bool> {
+    let len_iv = v.size()?;
+    let data = v.string()?;
+    let plain = v.string()?;
+    Some(decrypts(data, len_iv, plain) && refuses_short(data, len_iv, plain))
 }
 
 // A push that is refused: the number, and nothing changes.
-fn is_refused(r: type2::Pushed, refusal: u64, out: &[u8]) -> bool {
-    r.number as u64 == refusal && r.next == 0 && is_unchanged(out, 0)
+fn is_refused(r: Result<usize, Refusal>, refusal: u64, out: &[u8]) -> bool {
+    r.is_err() && refusal_number(r) == refusal && is_unchanged(out)
 }
 
 // The bytes of an output from the second on are the pushed ones, and nothing else changes.
 fn is_pushed(out: &[u8], bytes: &[u8]) -> bool {
-    holds(part(out, 0, 1), b"", BEFORE) && holds(rest(out, 1), bytes, BEFORE)
+    let (first, rest) = out.split_at(out.len().min(1));
+    is_unchanged(first) && holds(rest, bytes, BEFORE)
 }
 
 // Into an output that is long enough, at its second byte: the bytes, and nothing else changes.
-fn pushes(x: f64, refusal: u64, bytes: &[u8], out: &mut [u8]) -> bool {
-    let r = type2::push_number(out, 1, x);
+fn pushes(x: f64, refusal: u64, bytes: &[u8]) -> bool {
+    let mut out = output();
+    let r = type2::push_number(&mut out, 1, x);
     if refusal != 0 {
-        return is_refused(r, refusal, out);
+        return is_refused(r, refusal, &out);
     }
-    r.number == 0 && r.next == place(bytes.len(), 1) && is_pushed(out, bytes)
+    r == Ok(bytes.len().saturating_add(1)) && is_pushed(&out, bytes)
 }
 
 // Into an output that is one byte short: the refusal before, else 18, and nothing changes.
-fn refuses_push(x: f64, refusal: u64, bytes: &[u8], out: &mut [u8]) -> bool {
+fn refuses_push(x: f64, refusal: u64, bytes: &[u8]) -> bool {
+    let mut out = output();
     let room = bytes.len();
-    if out.len() < room {
+    if room > out.len() {
         return false;
     }
     let r = type2::push_number(&mut out[..room], 1, x);
-    is_refused(r, if refusal != 0 { refusal } else { 18 }, out)
+    is_refused(r, if refusal != 0 { refusal } else { 18 }, &out)
 }
 
-pub(crate) fn compare_push_number(v: &[u8]) -> bool {
-    let x = double(v, 1);
-    let refusal = number(v, 9);
-    let bytes = string(v, 17);
-    if v.len() != after_string(v, 17) {
-        return false;
-    }
-    let mut long = output();
-    let mut short = output();
-    pushes(x, refusal, bytes, &mut long) && refuses_push(x, refusal, bytes, &mut short)
+pub(crate) fn compare_push_number(v: &mut Vector) -> Option<bool> {
+    let x = v.double()?;
+    let refusal = v.number()?;
+    let bytes = v.string()?;
+    Some(pushes(x, refusal, bytes) && refuses_push(x, refusal, bytes))
 }
 
 // The most widths of a payload.
@@ -90,33 +85,34 @@ fn width_list() -> [f64; MOST]
     [UNUSED; MOST]
 }
 
-// The widths are the vector's results, which begin at a place.
-fn is_chosen(r: widths::Chosen, v: &[u8], at: usize) -> bool {
-    r.number == number(v, at)
-        && same(r.widths.default_width_x, double(v, place(at, 8)))
-        && same(r.widths.nominal_width_x, double(v, place(at, 16)))
-        && v.len() == place(at, 24)
+// The widths are the vector's results.
+fn is_chosen(r: Result<Widths, Refusal>, v: &mut Vector) -> Option<bool> {
+    let (refused, default, nominal) = match r {
+        Ok(w) => (0, w.default_width_x, w.nominal_width_x),
+        Err(refusal) => (refusal.number() as u64, 0.0, 0.0),
+    };
+    Some(refused == v.number()? && same(default, v.double()?) && same(nominal, v.double()?))
 }
 
-// With a scratch of `room`: the results at a place, the scratch cleared, and nothing behind it changes.
-fn chooses(ws: &[f64], room: usize, v: &[u8], at: usize, scratch: &mut [f64]) -> bool {
-    if scratch.len() < room {
-        return false;
+// With a scratch of the vector's length: the vector's results, the scratch cleared, and nothing behind it changes.
+fn chooses(ws: &[f64], v: &mut Vector) -> Option<bool> {
+    let mut scratch = width_list();
+    let room = v.size()?;
+    if room > MOST {
+        return None;
     }
     let r = widths::choose_widths(ws, &mut scratch[..room]);
-    is_chosen(r, v, at) && is_cleared(scratch, room, UNUSED)
+    Some(is_chosen(r, v)? && is_cleared(&scratch, room, UNUSED))
 }
 
-fn compare_widths(v: &[u8], n: usize, ws: &mut [f64], scratch: &mut [f64]) -> bool {
-    if ws.len() < n {
-        return false;
+pub(crate) fn compare_choose_widths(v: &mut Vector) -> Option<bool> {
+    let mut list = width_list();
+    let n = v.size()?;
+    if n > MOST {
+        return None;
     }
-    let at = read_doubles(v, 9, &mut ws[..n]);
-    chooses(&ws[..n], size(v, at), v, place(at, 8), scratch)
-}
-
-pub(crate) fn compare_choose_widths(v: &[u8]) -> bool {
-    let mut ws = width_list();
-    let mut scratch = width_list();
-    compare_widths(v, size(v, 1), &mut ws, &mut scratch)
+    for w in &mut list[..n] {
+        *w = v.double()?;
+    }
+    chooses(&list[..n], v)
 }

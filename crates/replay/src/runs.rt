@@ -1,215 +1,159 @@
 // A run: its answer, groups and commands against the vector's.
-use crate::lent::is_wiped;
-use crate::vector::{double, number, place, size, sum};
-use crate::{AfterRun, RECORDS};
+use crate::lent::{command_store, is_wiped};
+use crate::vector::Vector;
+use crate::{AfterRun, run};
 use compare::{from_pattern, same};
-use outline::GROUP;
+use outline::{ENTRY, GROUP, Stem};
+use type1::Reading;
 
-// The record at a place; a zero record beyond the end.
-fn stem_at(stems: [outline::Stem; RECORDS], at: usize) -> outline::Stem {
-    if at < RECORDS {
-        return stems[at];
-    }
-    outline::Stem {
-        horizontal: false,
-        pos: 0.0,
-        width: 0.0,
-    }
+// The record is the vector's.
+fn is_stem(s: Stem, v: &mut Vector) -> Option<bool> {
+    Some(
+        u64::from(s.horizontal) == v.number()?
+            && same(s.pos, v.double()?)
+            && same(s.width, v.double()?),
+    )
 }
 
-fn direction(s: outline::Stem) -> u64 {
-    if s.horizontal { 1 } else { 0 }
-}
-
-// The record is that of the vector's place.
-fn is_stem(s: outline::Stem, v: &[u8], at: usize) -> bool {
-    direction(s) == number(v, at)
-        && same(s.pos, double(v, place(at, 8)))
-        && same(s.width, double(v, place(at, 16)))
-}
-
-// The place after the stems of a group; 0 where one is not among the records.
-fn after_stems(
-    stems: [outline::Stem; RECORDS],
-    first: usize,
-    count: usize,
-    v: &[u8],
-    from: usize,
-) -> usize {
-    let mut at = from;
-    let mut i: usize = 0;
-    while i < count {
-        if !is_stem(stem_at(stems, place(first, i)), v, at) {
-            return 0;
+// So many records from one on are the vector's stems.
+fn are_stems(stems: &[Stem], first: usize, count: usize, v: &mut Vector) -> Option<bool> {
+    for s in stems.get(first..)?.get(..count)? {
+        if !is_stem(*s, v)? {
+            return Some(false);
         }
-        at = place(at, 24);
-        i += 1;
     }
-    at
+    Some(true)
 }
-
-// The most entries of a command store.
-const ENTRIES: usize = 1024;
 
 // Word k of an entry; 0 beyond the end.
-fn word(words: &[u64], entry: usize, k: usize) -> u64 {
-    if entry >= ENTRIES {
-        return 0;
-    }
-    let at = place(outline::ENTRY * entry, k);
-    if at < words.len() { words[at] } else { 0 }
+fn word(entry: &[u64], k: usize) -> u64 {
+    entry.get(k).copied().unwrap_or(0)
 }
 
-// The place after the vector's group at a place, which is that of an entry whose records begin at `used`; 0 where it is not.
-fn after_group(
-    words: &[u64],
-    entry: usize,
-    used: u64,
-    stems: [outline::Stem; RECORDS],
-    v: &[u8],
-    at: usize,
-) -> usize {
-    let count = word(words, entry, 2);
-    if word(words, entry, 1) != used || count != number(v, at) {
-        return 0;
-    }
-    after_stems(stems, used as usize, count as usize, v, place(at, 8))
+// The words of so many entries.
+fn entry_words(words: &[u64], entries: usize) -> Option<&[u64]> {
+    words.get(..entries.checked_mul(ENTRY)?)
 }
 
-// The place after a vector's groups, which begin with their count; 0 where one differs.
+// A group's entry, whose records begin at `used`, is the vector's group.
+fn is_group(entry: &[u64], used: usize, stems: &[Stem], v: &mut Vector) -> Option<bool> {
+    let count = word(entry, 2);
+    if word(entry, 1) != used as u64 || count != v.number()? {
+        return Some(false);
+    }
+    are_stems(stems, used, count as usize, v)
+}
+
+// The groups are the vector's, which begin with their count.
 // A group's entry has the first of its records, which follow those of the group before, and their count.
-fn after_groups(words: &[u64], r: AfterRun, v: &[u8], from: usize) -> usize {
-    let answer = r.answer;
-    let stems = r.stems;
-    let entries = answer.entries;
-    let mut at = place(from, 8);
-    let mut groups: u64 = 0;
-    let mut used: u64 = 0;
-    let mut e: usize = 0;
-    while e < entries {
-        if word(words, e, 0) == GROUP {
-            at = after_group(words, e, used, stems, v, at);
-            if at == 0 {
-                return 0;
+fn has_groups(words: &[u64], stems: &[Stem], count: usize, v: &mut Vector) -> Option<bool> {
+    let groups = v.size()?;
+    let mut seen: usize = 0;
+    let mut used: usize = 0;
+    for entry in words.chunks(ENTRY) {
+        if word(entry, 0) == GROUP {
+            if !is_group(entry, used, stems, v)? {
+                return Some(false);
             }
-            groups = sum(groups, 1);
-            used = sum(used, word(words, e, 2));
+            seen = seen.saturating_add(1);
+            used = used.saturating_add(word(entry, 2) as usize);
         }
-        e += 1;
     }
-    if groups == number(v, from) && used == answer.stems as u64 {
-        at
-    } else {
-        0
-    }
+    Some(seen == groups && used == count)
 }
 
 // How many numbers a vector's command has.
 fn numbers_of(kind: u64) -> usize {
     match kind {
-        0 => 2,
-        1 => 2,
+        0 | 1 => 2,
         2 => 6,
         3 => 13,
         _ => 0,
     }
 }
 
-// The place after a vector's command, which is the entry's; 0 where it is not.
-fn after_command(words: &[u64], entry: usize, v: &[u8], from: usize) -> usize {
-    let kind = number(v, from);
-    if word(words, entry, 0) != sum(kind, 1) {
-        return 0;
-    }
-    let n = numbers_of(kind);
-    let mut at = place(from, 8);
-    let mut i: usize = 0;
-    while i < n {
-        if !same(from_pattern(word(words, entry, place(i, 1))), double(v, at)) {
-            return 0;
-        }
-        at = place(at, 8);
-        i += 1;
-    }
-    at
-}
-
 // The start of a group, among a vector's commands: its number.
 const START: u64 = 4;
 
-// The place after a vector's commands, which begin with their count; 0 where one differs.
-fn after_commands(words: &[u64], entries: usize, v: &[u8], from: usize) -> usize {
-    let mut at = place(from, 8);
+// The entry is the vector's command. A group's start has the group's number.
+fn is_command(entry: &[u64], group: u64, v: &mut Vector) -> Option<bool> {
+    let kind = v.number()?;
+    if word(entry, 0) != kind.saturating_add(1) {
+        return Some(false);
+    }
+    for w in entry.iter().skip(1).take(numbers_of(kind)) {
+        if !same(from_pattern(*w), v.double()?) {
+            return Some(false);
+        }
+    }
+    Some(kind != START || v.number()? == group)
+}
+
+// The commands are the vector's, which begin with their count.
+fn has_commands(words: &[u64], entries: usize, v: &mut Vector) -> Option<bool> {
+    if v.size()? != entries {
+        return Some(false);
+    }
     let mut groups: u64 = 0;
-    let mut e: usize = 0;
-    while e < entries {
-        let kind = number(v, at);
-        let next = after_command(words, e, v, at);
-        if next == 0 {
-            return 0;
+    for entry in words.chunks(ENTRY) {
+        if !is_command(entry, groups, v)? {
+            return Some(false);
         }
-        at = next;
-        if kind == START {
-            if number(v, at) != groups {
-                return 0;
-            }
-            groups = sum(groups, 1);
-            at = place(at, 8);
+        if word(entry, 0) == GROUP {
+            groups = groups.saturating_add(1);
         }
-        e += 1;
     }
-    if number(v, from) == entries as u64 {
-        at
-    } else {
-        0
-    }
+    Some(true)
 }
 
-fn is_blank(s: outline::Stem) -> bool {
-    direction(s) == 0 && same(s.pos, 0.0) && same(s.width, 0.0)
+fn is_blank(s: Stem) -> bool {
+    !s.horizontal && same(s.pos, 0.0) && same(s.width, 0.0)
 }
 
-pub(crate) fn all_blank(stems: [outline::Stem; RECORDS]) -> bool {
-    let mut i: usize = 0;
-    while i < RECORDS {
-        if !is_blank(stems[i]) {
-            return false;
-        }
-        i += 1;
-    }
-    true
+pub(crate) fn all_blank(stems: &[Stem]) -> bool {
+    stems.iter().all(|s| is_blank(*s))
 }
 
 // A refused run: all but the number are 0, and both stores are zero.
 fn is_refusal(words: &[u64], r: AfterRun) -> bool {
     let answer = r.answer;
-    let stems = r.stems;
     same(answer.width, 0.0)
         && answer.ran == 0
         && answer.entries == 0
         && answer.stems == 0
         && is_wiped(words, words.len())
-        && all_blank(stems)
+        && all_blank(&r.stems)
 }
 
-// A run that is not refused: width, bytes run, groups and commands are the vector's, from a place on.
-fn is_ended(words: &[u64], r: AfterRun, v: &[u8], at: usize) -> bool {
+// A run that is not refused: width, bytes run, groups and commands are the vector's.
+fn is_ended(words: &[u64], r: AfterRun, v: &mut Vector) -> Option<bool> {
     let answer = r.answer;
-    if !same(answer.width, double(v, at)) || answer.ran != size(v, place(at, 8)) {
-        return false;
-    }
-    let commands = after_groups(words, r, v, place(at, 16));
-    commands != 0 && after_commands(words, answer.entries, v, commands) == v.len()
+    let words = entry_words(words, answer.entries)?;
+    Some(
+        same(answer.width, v.double()?)
+            && answer.ran == v.size()?
+            && has_groups(words, &r.stems, answer.stems, v)?
+            && has_commands(words, answer.entries, v)?,
+    )
 }
 
-// The run is that of the vector's results, which begin at a place.
-pub(crate) fn is_run(words: &[u64], r: AfterRun, v: &[u8], at: usize) -> bool {
-    let answer = r.answer;
-    if answer.number != number(v, at) {
-        return false;
+// The run is that of the vector's results.
+fn is_run(words: &[u64], r: AfterRun, v: &mut Vector) -> Option<bool> {
+    let number = v.number()?;
+    if r.answer.number != number {
+        return Some(false);
     }
-    if answer.number != 0 {
-        return v.len() == place(at, 8) && is_refusal(words, r);
+    if number != 0 {
+        return Some(is_refusal(words, r));
     }
-    is_ended(words, r, v, place(at, 8))
+    is_ended(words, r, v)
+}
+
+pub(crate) fn compare_run(v: &mut Vector) -> Option<bool> {
+    let reading = Reading::new(v.size()?);
+    let charstring = v.string()?;
+    let bank = v.string()?;
+    let mut words = command_store();
+    let r = run(charstring, bank, reading, &mut words);
+    is_run(&words, r, v)
 }

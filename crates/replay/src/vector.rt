@@ -1,169 +1,107 @@
-// Reads a vector at any place: what is beyond the end reads as 0, or as nothing. tools/oracle/VECTORS.md has the layout.
+// Reads a vector, one field after the other; None where it is cut. tools/oracle/VECTORS.md has the layout.
 use compare::from_pattern;
+use geometry::Matrix;
+use refusal::Refusal;
 
-fn wide(b: u8) -> u64 {
-    b as u64
+// How numbers are written: in 8 bytes, or in as many as a byte before them says.
+#[derive(Clone, Copy, PartialEq, Eq)]
+pub(crate) enum Form {
+    Long,
+    Short,
 }
 
-// The byte at a place; 0 beyond the end.
-pub(crate) fn byte(v: &[u8], at: usize) -> u64 {
-    if at < v.len() { wide(v[at]) } else { 0 }
+// What is left of a vector.
+#[derive(Drop)]
+pub(crate) struct Vector<'a> {
+    form: Form,
+    left: &'a [u8],
 }
 
-// a + b; the largest number where the sum is larger.
-pub(crate) fn sum(a: u64, b: u64) -> u64 {
-    if a <= u64::MAX - b { a + b } else { u64::MAX }
-}
-
-pub(crate) fn place(at: usize, n: usize) -> usize {
-    if at <= usize::MAX - n {
-        at + n
-    } else {
-        usize::MAX
-    }
-}
-
-// n bytes from a place on; none where they are not all there.
-pub(crate) fn part(v: &[u8], at: usize, n: usize) -> &[u8] {
-    if v.len() < at {
-        return &v[..0];
-    }
-    if v.len() - at < n {
-        return &v[..0];
-    }
-    let end = at + n;
-    &v[at..end]
-}
-
-// The bytes from a place on; none beyond the end.
-pub(crate) fn rest(v: &[u8], at: usize) -> &[u8] {
-    if v.len() < at {
-        return &v[..0];
-    }
-    &v[at..]
-}
-
-// The number that the bytes of a slice make, big-endian, of which the last 8 count.
-pub(crate) fn big_endian(v: &[u8]) -> u64 {
+// The number that bytes make, of which the last 8 count.
+fn big_endian(bytes: &[u8]) -> u64 {
     let mut n: u64 = 0;
-    let mut i: usize = 0;
-    while i < v.len() {
-        n = (n << 8) | wide(v[i]);
-        i += 1;
+    for b in bytes {
+        n = (n << 8) | u64::from(*b);
     }
     n
 }
 
-// The number at a place; 0 beyond the end.
-pub(crate) fn number(v: &[u8], at: usize) -> u64 {
-    big_endian(part(v, at, 8))
-}
+impl<'a> Vector<'a> {
+    pub(crate) fn new(form: Form, payload: &'a [u8]) -> Vector<'a> {
+        Vector {
+            form,
+            left: payload,
+        }
+    }
 
-pub(crate) fn size(v: &[u8], at: usize) -> usize {
-    number(v, at) as usize
-}
+    pub(crate) fn is_at_end(&self) -> bool {
+        self.left.is_empty()
+    }
 
-// The string at a place; none where it is not all there.
-pub(crate) fn string(v: &[u8], at: usize) -> &[u8] {
-    part(v, place(at, 8), size(v, at))
-}
+    fn bytes(&mut self, n: usize) -> Option<&'a [u8]> {
+        let left = self.left;
+        if left.len() < n {
+            return None;
+        }
+        let (front, left) = left.split_at(n);
+        self.left = left;
+        Some(front)
+    }
 
-// The place after that string.
-pub(crate) fn after_string(v: &[u8], at: usize) -> usize {
-    place(place(at, 8), size(v, at))
-}
+    pub(crate) fn byte(&mut self) -> Option<u8> {
+        let (b, left) = self.left.split_first()?;
+        self.left = left;
+        Some(*b)
+    }
 
-// The double at a place.
-pub(crate) fn double(v: &[u8], at: usize) -> f64 {
-    from_pattern(number(v, at))
-}
+    pub(crate) fn number(&mut self) -> Option<u64> {
+        let n = match self.form {
+            Form::Long => 8,
+            Form::Short => usize::from(self.byte()?),
+        };
+        Some(big_endian(self.bytes(n)?))
+    }
 
-// The signed number at a place, in two's complement.
-pub(crate) fn signed(v: &[u8], at: usize) -> i64 {
-    let bits = number(v, at);
-    if bits < 0x8000_0000_0000_0000 {
-        bits as i64
-    } else {
-        !((u64::MAX - bits) as i64)
+    pub(crate) fn size(&mut self) -> Option<usize> {
+        Some(self.number()? as usize)
+    }
+
+    pub(crate) fn string(&mut self) -> Option<&'a [u8]> {
+        let n = self.size()?;
+        self.bytes(n)
+    }
+
+    pub(crate) fn double(&mut self) -> Option<f64> {
+        Some(from_pattern(self.number()?))
+    }
+
+    // In two's complement; or, where numbers are short, half of the number, or where it is odd as far below -1 as its half
+    // is above 0.
+    pub(crate) fn signed(&mut self) -> Option<i64> {
+        let n = self.number()?;
+        Some(match self.form {
+            Form::Long => n.cast_signed(),
+            Form::Short if n % 2 == 0 => (n / 2).cast_signed(),
+            Form::Short => !(n / 2).cast_signed(),
+        })
+    }
+
+    pub(crate) fn matrix(&mut self) -> Option<Matrix> {
+        Some(Matrix {
+            a: self.double()?,
+            b: self.double()?,
+            c: self.double()?,
+            d: self.double()?,
+            tx: self.double()?,
+            ty: self.double()?,
+        })
     }
 }
 
-// Fills a slice with the doubles from a place on, and returns the place after them.
-pub(crate) fn read_doubles(v: &[u8], from: usize, to: &mut [f64]) -> usize {
-    let mut at = from;
-    let mut i: usize = 0;
-    while i < to.len() {
-        to[i] = double(v, at);
-        at = place(at, 8);
-        i += 1;
-    }
-    at
-}
-
-pub(crate) fn matrix(v: &[u8]) -> geometry::Matrix {
-    geometry::Matrix {
-        a: double(v, 1),
-        b: double(v, 9),
-        c: double(v, 17),
-        d: double(v, 25),
-        tx: double(v, 33),
-        ty: double(v, 41),
-    }
-}
-
-// The short number at a place: a byte n, then n bytes.
-pub(crate) fn short(v: &[u8], at: usize) -> u64 {
-    big_endian(part(v, place(at, 1), byte(v, at) as usize))
-}
-
-pub(crate) fn after_short(v: &[u8], at: usize) -> usize {
-    place(place(at, 1), byte(v, at) as usize)
-}
-
-// The place after n short numbers.
-pub(crate) fn after_shorts(v: &[u8], from: usize, n: usize) -> usize {
-    let mut at = from;
-    let mut i: usize = 0;
-    while i < n {
-        at = after_short(v, at);
-        i += 1;
-    }
-    at
-}
-
-// Short number n of those from a place on.
-pub(crate) fn nth_short(v: &[u8], from: usize, n: usize) -> u64 {
-    short(v, after_shorts(v, from, n))
-}
-
-// Signed number n of those: half of the short number, or, where that is odd, as far below -1 as its half is above 0.
-pub(crate) fn nth_signed(v: &[u8], from: usize, n: usize) -> i64 {
-    let twice = nth_short(v, from, n);
-    let half = (twice / 2) as i64;
-    if twice % 2 == 0 { half } else { !half }
-}
-
-pub(crate) fn nth_double(v: &[u8], from: usize, n: usize) -> f64 {
-    from_pattern(nth_short(v, from, n))
-}
-
-// The string at a place whose length is a short number.
-pub(crate) fn short_string(v: &[u8], at: usize) -> &[u8] {
-    part(v, after_short(v, at), short(v, at) as usize)
-}
-
-pub(crate) fn after_short_string(v: &[u8], at: usize) -> usize {
-    place(after_short(v, at), short(v, at) as usize)
-}
-
-// Six short numbers.
-pub(crate) fn short_matrix(v: &[u8], at: usize) -> geometry::Matrix {
-    geometry::Matrix {
-        a: nth_double(v, at, 0),
-        b: nth_double(v, at, 1),
-        c: nth_double(v, at, 2),
-        d: nth_double(v, at, 3),
-        tx: nth_double(v, at, 4),
-        ty: nth_double(v, at, 5),
+// The number of a refusal; 0 where there is none.
+pub(crate) fn refusal_number<T: Copy>(r: Result<T, Refusal>) -> u64 {
+    match r {
+        Ok(_) => 0,
+        Err(e) => u64::from(e.number()),
     }
 }

@@ -1,5 +1,5 @@
 -- Laws: Document 01's starred examples. Each is closed by computing.
-use Rattle.std.specs.Prelude.{◌≡◌, refl, ℕ, true, false, List, [], ◌∷◌, ◌++◌, pos, negsuc, Float}
+use Rattle.std.specs.Prelude.{◌≡◌, refl, ℕ, true, false, Ok, List, [], ◌∷◌, ◌++◌, pos, negsuc, Float}
 use Rattle.std.specs.Float.{fin}
 use Rattle.std.specs.Float.Ieee.{add, sub, mul, div, lt, le, eq, ne, of_int}
 use Rattle.binary64.specs.Value.{mag}
@@ -71,7 +71,7 @@ w600 = fin false 75 (pos 3)
 abbrev w707 : Float
 w707 = fin false 707 (pos 0)
 
-widths_500_500_600 : chosen (w500 ∷ w500 ∷ w600 ∷ []) 3 ≡ answer_of w500 w707
+widths_500_500_600 : chosen (w500 ∷ w500 ∷ w600 ∷ []) 3 ≡ Ok (answer_of w500 w707)
 unfolding chosen all_finite widths_of commonest nominal best keep count floored quantized abs away add sub lt le eq ne
 widths_500_500_600 = refl
 

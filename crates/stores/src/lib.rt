@@ -8,21 +8,15 @@ ghost use Rattle.stores.specs.Zeros.{zeros, zeros_from, kept};
 pub fn wipe_words(words: &mut [u64])
     ensures { words.new ≡ zeros words.old }
 {
-    let mut i = 0;
-    while i < words.len() {
-        words[i] = 0;
-        i += 1;
-    }
+    words.fill(0);
 }
 
 // Every byte from a place on becomes 0; none where the place is beyond the end.
 pub fn zero_from(bytes: &mut [u8], from: usize)
     ensures { bytes.new ≡ zeros_from from bytes.old }
 {
-    let mut i = from;
-    while i < bytes.len() {
-        bytes[i] = 0;
-        i += 1;
+    if from < bytes.len() {
+        bytes[from..].fill(0);
     }
 }
 

@@ -20,7 +20,7 @@ use Rattle.type1.specs.declared.St.{St}
 use Rattle.type1.specs.declared.Tok.{Tok}
 use Rattle.type1.specs.declared.Num.{Num}
 use Rattle.type1.specs.declared.Ran.{Ran}
-use Rattle.type1.specs.declared.Drawn.{Drawn}
+use Rattle.std.specs.Prelude.{Some}
 use Rattle.type1.specs.Operator as op
 use Rattle.type1.specs.Operator.{Operator, closepath, of_byte, of_escape}
 use Rattle.type1.specs.Number.{Token, cut, number, operator, token, token_two, token_five, token_escape, one_byte, two_bytes, two_bytes_below, four_bytes, double}
@@ -318,14 +318,14 @@ module _ (reading : Reading) (code : List ℕ) (from start : ℕ) (e : Bool) (st
     did_so m f s op w r is = next m f s ∙ ap (λ (a : Token). consume (limits m) f a s (run_bytes (limits m) f after_it)) is ∙ ap (λ (a : Outcome). and_then a (run_bytes (limits m) f after_it 0)) (w op s r)
 
     -- a line or a curve was listed
-    module _ (r : Drawn) (d : List ℕ) (op : o ≡ true) (ch : st.changed ≡ false) (low : v < 32) (D : Draws v n x y k ops cmds r d) (z : r.done ≡ true) where
+    module _ (pt : Point) (d : List ℕ) (op : o ≡ true) (ch : st.changed ≡ false) (low : v < 32) (D : Draws v n x y k ops cmds (Some pt) d) where
       abbrev to : Ran
-      to = ran_of (drawn_to r k (with_opened o st)) 0
+      to = ran_of (drawn_to pt k (with_opened o st)) 0
 
       did : (m : Mem) (s : State) → Holds here (read_mem ops cmds m) s → Meets to (read_mem ops d m) (operate (limits m) (refused 6) (operator_of v) s)
       did m s H =
-          subst (Meets to (read_mem ops d m)) (ap (λ (j : ℕ). operate (within (length m.stems) j) (refused 6) (operator_of v) s) G.whole ∙ sym (operate-limits reading (within (length m.stems) (length cmds₀)) (refused 6) (operator_of v) s (read_no_pop (operator_of v) (D.drawn z).0)))
-          (D.done z (with_opened o st) m s op ch H)
+          subst (Meets to (read_mem ops d m)) (ap (λ (j : ℕ). operate (within (length m.stems) j) (refused 6) (operator_of v) s) G.whole ∙ sym (operate-limits reading (within (length m.stems) (length cmds₀)) (refused 6) (operator_of v) s (read_no_pop (operator_of v) D.drawn.0)))
+          (D.done (with_opened o st) m s op ch H)
 
       after_did : (m : Mem) (s : State) → Holds here (read_mem ops cmds m) s → (u : State) × Holds to.st (read_mem ops d m) u × (operate (limits m) (refused 6) (operator_of v) s ≡ going u)
       after_did m s H = goes (operate (limits m) (refused 6) (operator_of v) s) to (read_mem ops d m) (did m s H) refl
@@ -333,7 +333,7 @@ module _ (reading : Reading) (code : List ℕ) (from start : ℕ) (e : Bool) (st
       itself : (m : Mem) → Fit st (read_mem ops₀ cmds₀ m) → Holds here (read_mem ops cmds m) (state m)
       itself m F = holds_itself here (read_mem ops cmds m) (G.fit m F)
 
-      pub listed : Going reading code from start e st ops₀ cmds₀ ops d (i + 1) k' 0 r.x r.y (k + 1) o
+      pub listed : Going reading code from start e st ops₀ cmds₀ ops d (i + 1) k' 0 pt.x pt.y (k + 1) o
       listed = record {
         fit = λ m F. (after_did m (state m) (itself m F)).1.fit;
         sound = λ m F b s. let (u, K, is) = after_did m (state m) (itself m F) in held_sound to.st (read_mem ops d m) u K (subst SoundOut is ((sound_stable (limits m)).operator (refused 6) (operator_of v) (state m) (G.sound m F b s) tt));
@@ -343,12 +343,12 @@ module _ (reading : Reading) (code : List ℕ) (from start : ℕ) (e : Bool) (st
               u',
               K',
               λ f w.
-                  is f w ∙ did_so m f u (operator_of v) w (D.drawn z).0 (token_op v after_it low (D.drawn z).1 ∙ ap (operator 0) (sym (operator-low v (omega arith))))
+                  is f w ∙ did_so m f u (operator_of v) w D.drawn.0 (token_op v after_it low D.drawn.1 ∙ ap (operator 0) (sym (operator-low v (omega arith))))
                   ∙ ap (λ (a : Outcome). and_then a (run_bytes (limits m) f after_it 0)) is',
             );
         short = short-after;
         few = lit≤ tt;
-        space = (let a = D.space z in let b = D.same in omega arith);
+        space = (let a = D.space in let b = D.same in omega arith);
         inside = omega arith;
         on = (let a = G.on in omega arith);
         whole = D.same ∙ G.whole;

@@ -15,8 +15,12 @@ use Rattle.charstring.specs.Cipher.{max_charstring_bytes}
 use Rattle.bank.specs.Bank.{Valid, body, found, body_at, bytes_at, part}
 use Rattle.bank.specs.Call.{counted, called}
 use Rattle.bank.specs.Laws.{found-body, found_within, called-below, called_is}
-use Rattle.bank.specs.declared.Found.{Found}
-use Rattle.bank.specs.declared.Found.TheVariants.{At, Nothing}
+use Rattle.std.specs.declared.ops.Range.{Range}
+use Rattle.std.specs.Prelude.{Some, None, Result, Ok, Err}
+use Rattle.std.specs.Prelude as Rust
+use Rattle.refusal.specs.declared.Refusal.{Refusal}
+use Rattle.refusal.specs.declared.Refusal.TheVariants.{TooManyBytes, MissingOperands, NoSuchSubroutine}
+use Rattle.refusal.specs.Refusal.{number_of}
 use Rattle.bank.specs.declared.Callee.{Callee}
 use Rattle.type1.specs.declared.St.{St}
 use Rattle.type1.specs.declared.Reading.{Reading}
@@ -42,15 +46,15 @@ module _ (bank : List ℕ) (reading : Reading) (t : St) (m : Mem) (s : State) (H
   abbrev font : Font
   font = font_of bank reading
 
-  stops : (n : ℕ) → 3 ≤ n → ((deep : Deep) → call_subr font deep s ≡ refused n) → Calls bank reading m s (record { st = t; flow = n; index = 0 })
-  stops n h e = record { called = λ z. absurd (let y : ⊥ = omega arith in y); stopped = λ z. (h, e) }
+  stops : (r : Refusal) → 3 ≤ number_of r → ((deep : Deep) → call_subr font deep s ≡ refused (number_of r)) → Calls bank reading m s (Err r)
+  stops r h e = (h, e)
 
   few : t.operands ≡ 0 → (deep : Deep) → call_subr font deep s ≡ refused 7
   unfolding call_subr
   few z deep = ap (λ (b : Bool). check b 7 (call_body deep (named font (top 1 s)) (without 1 s))) (lt-leb 1 (length s.operands) (let n = operand_count t m s H in omega arith))
 
-  pub call_none : t.operands ≡ 0 → Calls bank reading m s (record { st = t; flow = 7; index = 0 })
-  call_none z = stops 7 (lit≤ tt) (few z)
+  pub call_none : t.operands ≡ 0 → Calls bank reading m s (Err MissingOperands)
+  call_none z = stops MissingOperands (lit≤ tt) (few z)
 
   module _ (ne : t.operands ≡ 0 → ⊥) where
     abbrev v : Float
@@ -71,18 +75,24 @@ module _ (bank : List ℕ) (reading : Reading) (t : St) (m : Mem) (s : State) (H
     unfolding named
     below e = ap (λ (b : Bool). pick b (body (to_unsigned 64 v) bank) none) e
 
-    call_below : le plus_zero v ≡ false → Calls bank reading m s (record { st = t; flow = 8; index = 0 })
-    call_below e = stops 8 (lit≤ tt) (nobody (below e))
+    call_below : le plus_zero v ≡ false → Calls bank reading m s (Err NoSuchSubroutine)
+    call_below e = stops NoSuchSubroutine (lit≤ tt) (nobody (below e))
 
     module _ (ge : le plus_zero v ≡ true) (ok : Valid bank) (i : ℕ) (is : i ≡ to_unsigned 64 v) where
-      named_is : (f : Found) → found i bank ≡ f → named font v ≡ body_at f bank
+      named_is : (f : Rust.Option (Range ℕ)) → found i bank ≡ f → named font v ≡ body_at f bank
       unfolding named
-      named_is f e = ap (λ (b : Bool). pick b (body (to_unsigned 64 v) bank) none) ge ∙ ap (λ (n : ℕ). body n bank) (sym is) ∙ sym (found-body bank i ok) ∙ ap (λ (g : Found). body_at g bank) e
+      named_is f e = ap (λ (b : Bool). pick b (body (to_unsigned 64 v) bank) none) ge ∙ ap (λ (n : ℕ). body n bank) (sym is) ∙ sym (found-body bank i ok) ∙ ap (λ (g : Rust.Option (Range ℕ)). body_at g bank) e
 
-      call_nothing : found i bank ≡ Nothing → Calls bank reading m s (record { st = t; flow = 8; index = 0 })
-      call_nothing e = stops 8 (lit≤ tt) (nobody (named_is Nothing e))
+      call_nothing : found i bank ≡ None → Calls bank reading m s (Err NoSuchSubroutine)
+      call_nothing e = stops NoSuchSubroutine (lit≤ tt) (nobody (named_is None e))
 
-      module _ (start end : ℕ) (e : found i bank ≡ At start end) where
+      module _ (r : Range ℕ) (e : found i bank ≡ Some r) where
+        abbrev start : ℕ
+        start = r.start
+
+        abbrev end : ℕ
+        end = r.end
+
         abbrev l : List ℕ
         l = part start end bank
 
@@ -91,7 +101,7 @@ module _ (bank : List ℕ) (reading : Reading) (t : St) (m : Mem) (s : State) (H
 
         somebody : (deep : Deep) → call_subr font deep s ≡ and_then (charge l (without 1 s)) (λ (u : State). returned (deep l u))
         unfolding call_body
-        somebody deep = call_is deep ∙ ap (λ (b : Option (List ℕ)). call_body deep b (without 1 s)) (named_is (At start end) e)
+        somebody deep = call_is deep ∙ ap (λ (b : Option (List ℕ)). call_body deep b (without 1 s)) (named_is (Some r) e)
 
         ran_is : s.ran ≡ t.ran
         unfolding abs
@@ -101,8 +111,8 @@ module _ (bank : List ℕ) (reading : Reading) (t : St) (m : Mem) (s : State) (H
         unfolding charge
         charge_is b q = ap (λ (k : Bool). check k 3 (going (with_ran (s.ran + length l) (without 1 s)))) (ap₂ (λ (x y : ℕ). leb (x + y) max_charstring_bytes) ran_is part_length ∙ q)
 
-        call_large : t.ran ≤ max_charstring_bytes → max_charstring_bytes - t.ran < end - start → Calls bank reading m s (record { st = t; flow = 3; index = 0 })
-        call_large a b = stops 3 (lit≤ tt) (λ deep. somebody deep ∙ ap (λ (o : Outcome). and_then o (λ (u : State). returned (deep l u))) (charge_is false (lt-leb (t.ran + (end - start)) max_charstring_bytes (omega arith))))
+        call_large : t.ran ≤ max_charstring_bytes → max_charstring_bytes - t.ran < end - start → Calls bank reading m s (Err TooManyBytes)
+        call_large a b = stops TooManyBytes (lit≤ tt) (λ deep. somebody deep ∙ ap (λ (o : Outcome). and_then o (λ (u : State). returned (deep l u))) (charge_is false (lt-leb (t.ran + (end - start)) max_charstring_bytes (omega arith))))
 
         charged : t.ran + (end - start) ≤ max_charstring_bytes → Holds (calling (end - start) t) m (with_ran (s.ran + length l) (without 1 s))
         unfolding abs
@@ -114,34 +124,32 @@ module _ (bank : List ℕ) (reading : Reading) (t : St) (m : Mem) (s : State) (H
               fit = small_fit (with_count (t.operands - 1) t) m F _ _ _ _ _ _ _ _ _ _ _ _ _ _ F.bounds.operands F.bounds.postscript F.bounds.points F.bounds.hints h F.ops F.ps F.cells;
             }
 
-        call_made : t.ran ≤ max_charstring_bytes → end - start ≤ max_charstring_bytes - t.ran → Calls bank reading m s (record { st = calling (end - start) t; flow = 0; index = i })
-        call_made a b = record {
-          called = λ z. (with_ran (s.ran + length l) (without 1 s), charged (omega arith), λ deep. somebody deep ∙ ap (λ (o : Outcome). and_then o (λ (u : State). returned (deep l u))) (charge_is true (le-leb (t.ran + (end - start)) max_charstring_bytes (omega arith))) ∙ ap (λ (f : Found). returned (deep (bytes_at f bank) (with_ran (s.ran + length l) (without 1 s)))) (sym e));
-          stopped = λ z. absurd (z refl);
-        }
+        call_made : t.ran ≤ max_charstring_bytes → end - start ≤ max_charstring_bytes - t.ran → Calls bank reading m s (Ok (record { st = calling (end - start) t; index = i }))
+        call_made a b = (with_ran (s.ran + length l) (without 1 s), charged (omega arith), λ deep. somebody deep ∙ ap (λ (o : Outcome). and_then o (λ (u : State). returned (deep l u))) (charge_is true (le-leb (t.ran + (end - start)) max_charstring_bytes (omega arith))) ∙ ap (λ (f : Rust.Option (Range ℕ)). returned (deep (bytes_at f bank) (with_ran (s.ran + length l) (without 1 s)))) (sym e))
 
     -- ---- as `bank::call` answers
-    module _ (ok : Valid bank) (a : t.ran ≤ max_charstring_bytes) (k : Callee) (is : k ≡ called bank v t.ran) where
-      abbrev Answer : Callee → Type 0
-      Answer j = ((j.number ≡ 0 → ⊥) → Calls bank reading m s (record { st = t; flow = j.number; index = 0 })) × (j.number ≡ 0 → Calls bank reading m s (record { st = ran_to j.ran t; flow = 0; index = j.index }))
+    module _ (ok : Valid bank) (a : t.ran ≤ max_charstring_bytes) where
+      abbrev Answer : Result Callee Refusal → Type 0
+      Answer (Ok j) = Calls bank reading m s (Ok (record { st = ran_to j.ran t; index = j.index }))
+      Answer (Err r) = Calls bank reading m s (Err r)
 
       answers : Answer (called bank v t.ran)
       answers = by_sign (le plus_zero v) refl
         where
-          by_size : (start end : ℕ) → found (to_unsigned 64 v) bank ≡ At start end → le plus_zero v ≡ true → (b : Bool) → leb (t.ran + (end - start)) max_charstring_bytes ≡ b → Answer (counted (to_unsigned 64 v) t.ran (At start end))
-          by_size start end e ge true q = let h = leb-true (t.ran + (end - start)) max_charstring_bytes q in rw q (λ n. absurd (n refl), λ z. call_made ge ok (to_unsigned 64 v) refl start end e a (omega arith))
-          by_size start end e ge false q = let h = leb-false (t.ran + (end - start)) max_charstring_bytes q in rw q (λ n. call_large ge ok (to_unsigned 64 v) refl start end e a (omega arith), λ z. absurd (let y : ⊥ = omega arith in y))
+          by_size : (r : Range ℕ) → found (to_unsigned 64 v) bank ≡ Some r → le plus_zero v ≡ true → (b : Bool) → leb (t.ran + (r.end - r.start)) max_charstring_bytes ≡ b → Answer (counted (to_unsigned 64 v) t.ran (Some r))
+          by_size r e ge true q = let h = leb-true (t.ran + (r.end - r.start)) max_charstring_bytes q in rw q (call_made ge ok (to_unsigned 64 v) refl r e a (omega arith))
+          by_size r e ge false q = let h = leb-false (t.ran + (r.end - r.start)) max_charstring_bytes q in rw q (call_large ge ok (to_unsigned 64 v) refl r e a (omega arith))
 
-          by_place : (f : Found) → found (to_unsigned 64 v) bank ≡ f → le plus_zero v ≡ true → Answer (counted (to_unsigned 64 v) t.ran f)
-          by_place (At start end) e ge = by_size start end e ge (leb (t.ran + (end - start)) max_charstring_bytes) refl
-          by_place Nothing e ge = (λ n. call_nothing ge ok (to_unsigned 64 v) refl e, λ z. absurd (let y : ⊥ = omega arith in y))
+          by_place : (f : Rust.Option (Range ℕ)) → found (to_unsigned 64 v) bank ≡ f → le plus_zero v ≡ true → Answer (counted (to_unsigned 64 v) t.ran f)
+          by_place (Some r) e ge = by_size r e ge (leb (t.ran + (r.end - r.start)) max_charstring_bytes) refl
+          by_place None e ge = call_nothing ge ok (to_unsigned 64 v) refl e
 
           by_sign : (b : Bool) → le plus_zero v ≡ b → Answer (called bank v t.ran)
           by_sign true q = subst Answer (sym (called_is bank v t.ran q (to_unsigned 64 v) refl _ refl)) (by_place (found (to_unsigned 64 v) bank) refl q)
-          by_sign false q = subst Answer (sym (called-below bank v t.ran q)) (λ n. call_below q, λ z. absurd (let y : ⊥ = omega arith in y))
+          by_sign false q = subst Answer (sym (called-below bank v t.ran q)) (call_below q)
 
-      pub call_refused : (k.number ≡ 0 → ⊥) → Calls bank reading m s (record { st = t; flow = k.number; index = 0 })
-      call_refused = (subst Answer (sym is) answers).0
+      pub call_refused : {r : Refusal} → Err r ≡ called bank v t.ran → Calls bank reading m s (Err r)
+      call_refused is = subst Answer (sym is) answers
 
-      pub call_goes : k.number ≡ 0 → Calls bank reading m s (record { st = ran_to k.ran t; flow = 0; index = k.index })
-      call_goes = (subst Answer (sym is) answers).1
+      pub call_goes : {j : Callee} → Ok j ≡ called bank v t.ran → Calls bank reading m s (Ok (record { st = ran_to j.ran t; index = j.index }))
+      call_goes is = subst Answer (sym is) answers

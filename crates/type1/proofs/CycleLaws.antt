@@ -21,6 +21,9 @@ use Rattle.type1.specs.declared.St.{St}
 use Rattle.type1.specs.declared.Reading.{Reading}
 use Rattle.type1.specs.declared.Ran.{Ran}
 use Rattle.type1.specs.declared.Tok.{Tok}
+use Rattle.std.specs.Prelude.{Ok, Err}
+use Rattle.refusal.specs.declared.Refusal.{Refusal}
+use Rattle.refusal.specs.Refusal.{number_of}
 use Rattle.type1.specs.declared.Called.{Called}
 use Rattle.type1.specs.Operator as op
 use Rattle.type1.specs.Operator.{Operator, look, one_byte, two_bytes, of_byte, of_escape}
@@ -269,19 +272,12 @@ module _ (bank : List ℕ) (reading : Reading) (levels : ℕ) where
     plained h room er r m' e s K =
         subst (Meets r m') (ap (λ (n : ℕ). operate (limits_of reading (within n (length m.cmds))) (refused 6) (operator_of o) s) er ∙ other_call (limits_in reading m) (refused 6) (call_subr font (deep_of (limits_in reading m)) s) (operator_of o) s (either_op o h (ltb o 256) refl)) (e s K)
 
-    module _ (c : Called) (calls : (s : State) → Holds t m s → Calls bank reading m s c) (h : T (eqb o 10)) where
+    module _ (h : T (eqb o 10)) where
       -- a call that is refused
-      pub call_refused : (r : Ran) → r ≡ ran_of c.st c.flow → T (not (eqb c.flow 0)) → MeetsFrom r m All'
-      call_refused r e n s K = let off : (3 ≤ c.flow) × ((deep : List ℕ → State → Outcome) → call_subr font deep s ≡ refused c.flow) = (calls s K).stopped (not_eq c.flow 0 n) in
-          subst (Meets r m) (sym (op_d_call h s ∙ off.1 (deep_of (limits_in reading m)))) (ap (λ (q : Ran). q.flow) e, off.0)
+      pub call_refused : (k : Refusal) → ((s : State) → Holds t m s → Calls bank reading m s (Err k)) → (r : Ran) (u : St) → r ≡ ran_of u (number_of k) → MeetsFrom r m All'
+      call_refused k calls r u e s K = let off = calls s K in subst (Meets r m) (sym (op_d_call h s ∙ off.1 (deep_of (limits_in reading m)))) (ap (λ (q : Ran). q.flow) e, off.0)
 
-      module _ (n : T (not (not (eqb c.flow 0)))) where
-        abbrev Made : State → Type 0
-        Made s = (u : State) × Holds c.st m u × ((deep : List ℕ → State → Outcome) → call_subr font deep s ≡ returned (deep (bytes_at (found c.index bank) bank) u))
-
-        made : (s : State) → Holds t m s → Made s
-        made s K = (calls s K).called (eqb→eq c.flow 0 (twice_not (eqb c.flow 0) n))
-
+      module _ (c : Called) (made : (s : State) → Holds t m s → Calls bank reading m s (Ok c)) where
         -- one with no level left for it
         pub too_deep : (r : Ran) → r ≡ ran_of c.st 4 → T (eqb levels 0) → MeetsFrom r m All'
         too_deep r e l s K =

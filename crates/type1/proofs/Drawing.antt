@@ -1,5 +1,5 @@
 -- Laws: a line or a curve of an open subpath is one entry, where the stems in force did not change.
-use mathlib.Core.Path.{◌≡◌, refl, sym, ap, ◌∙◌, subst}
+use mathlib.Core.Path.{◌≡◌, refl, sym, ap, subst}
 use Prim.Native.Nat.{ℕ, ◌+◌, ◌-◌, ◌*◌, ◌≤◌, ◌<◌}
 use native.Mathlib.Omega.{arith}
 use mathlib.Core.Bool.{Bool, true, false, true≢false, ◌&&◌}
@@ -11,8 +11,8 @@ use lib.Ieee.{Float, binary64, add, fits, to_bits}
 use Rattle.outline.specs.declared.Stem.{Stem}
 use Rattle.type1.specs.declared.St.{St}
 use Rattle.type1.specs.declared.Ran.{Ran}
-use Rattle.type1.specs.declared.Drawn.{Drawn}
-use Rattle.type1.specs.declared.Delta.{Delta}
+use Rattle.std.specs.Prelude.{Option, Some, None}
+use Rattle.geometry.specs.declared.Point.{Point}
 use Rattle.type1.specs.declared.Deltas.{Deltas}
 use Rattle.type1.specs.Operator as op
 use Rattle.outline.specs.Outline.{Command, line, curve}
@@ -25,7 +25,7 @@ use Rattle.type1.specs.Reading.{placed, drawn_to, is_read, Stores, Adds, Draws}
 use Rattle.type1.proofs.Store.{with_entries, enter_full, wrote_3, wrote_7, point_entered, curve_entered}
 use Rattle.type1.proofs.Groups.{kept-none, commits_none, quiet_told}
 use Rattle.type1.proofs.PathLaws.{lists_on, lines_listed, line_open, curves_listed, curve_open}
-use Rattle.type1.specs.Deltas.{axes_of, tangents_of, point_delta, curve_deltas, by_point, by_curve}
+use Rattle.type1.specs.Deltas.{axes_of, tangents_of, point_delta, curve_deltas, by_point, by_deltas, by_curve}
 use Rattle.type1.specs.DeltaLaws.{lines, curves}
 use Rattle.type1.proofs.OperandLaws.{point-does, curve_does}
 
@@ -63,14 +63,14 @@ entered_not X t c d b r S z e m s room H =
     subst (λ (q : List ℕ). Meets r (with_cmds q m) (enter (within room (length c)) X s)) (sym (S.full z).0) (enter_full t (with_cmds c m) s H room X r e (S.full z).1)
 
 -- ---- nothing was done
-pub adds_none : (D : Limits → State → Outcome) (x y : Float) (k : ℕ) (c d : List ℕ) (r : Drawn) → r.done ≡ false → d ≡ c → Adds D x y k c r d
-adds_none D x y k c d r z e = record { done = λ w. absurd (true≢false (sym w ∙ z)); space = λ w. absurd (true≢false (sym w ∙ z)); none = λ w. e; same = ap length e }
+pub adds_none : (D : Limits → State → Outcome) (x y : Float) (k : ℕ) (c d : List ℕ) → d ≡ c → Adds D x y k c None d
+adds_none D x y k c d e = record { done = tt; space = tt; none = e; same = ap length e }
 
-pub draws-none : (v n : ℕ) (x y : Float) (k : ℕ) (ops : List Float) (c d : List ℕ) (r : Drawn) → r.done ≡ false → d ≡ c → Draws v n x y k ops c r d
-draws-none v n x y k ops c d r z e = record { done = λ w. absurd (true≢false (sym w ∙ z)); drawn = λ w. absurd (true≢false (sym w ∙ z)); space = λ w. absurd (true≢false (sym w ∙ z)); none = λ w. e; same = ap length e }
+pub draws-none : (v n : ℕ) (x y : Float) (k : ℕ) (ops : List Float) (c d : List ℕ) → d ≡ c → Draws v n x y k ops c None d
+draws-none v n x y k ops c d e = record { done = tt; drawn = tt; space = tt; none = e; same = ap length e }
 
-abbrev drawn_of : Float → Float → Drawn
-drawn_of x y = record { x = x; y = y; done = true }
+abbrev drawn_of : Float → Float → Option Point
+drawn_of x y = Some (point_at x y)
 
 -- ---- an entry, after a commit that has nothing to do
 module _ (X : Command) (x y : Float) (k : ℕ) (c d : List ℕ) (b : Bool) (S : Stores X k c b d) (z : b ≡ true) (same : Bool) (t : St) (room : ℕ) (ch : t.changed ≡ false) where
@@ -85,24 +85,24 @@ module _ (X : Command) (x y : Float) (k : ℕ) (c d : List ℕ) (b : Bool) (S : 
 
 pub line_added : (dx dy x y : Float) (k : ℕ) (c d : List ℕ) (b : Bool) → is_finite (point_at (add binary64 x dx) (add binary64 y dy)) ≡ true → Stores (line (point_at (add binary64 x dx) (add binary64 y dy))) k c b d → b ≡ true → Adds (λ lim. line_by lim dx dy) x y k c (drawn_of (add binary64 x dx) (add binary64 y dy)) d
 line_added dx dy x y k c d b f S z = record {
-  done = λ w t room o ch m s q H.
+  done = λ t room o ch m s q H.
       let T0 = placed 0 x y k t in
       let r = ran_of (placed 0 (add binary64 x dx) (add binary64 y dy) (k + 1) t) 0 in
       line_open false T0 c d room dx dy r o (lines_listed false T0 (placed 0 (add binary64 x dx) (add binary64 y dy) k t) r r c d room dx dy refl f (lists (line (point_at (add binary64 x dx) (add binary64 y dy))) (add binary64 x dx) (add binary64 y dy) k c d b S z false t room ch)) m s q (quiet_told false T0 (with_cmds c m) s H ch) H;
-  space = λ w. S.space z;
-  none = λ w. absurd (true≢false w);
+  space = S.space z;
+  none = tt;
   same = S.same;
 }
 
 pub curve_added : (x y dx1 dy1 dx2 dy2 dx3 dy3 x1 y1 x2 y2 x3 y3 : Float) (k : ℕ) (c d : List ℕ) (b : Bool) → (x1 ≡ add binary64 x dx1) × ((y1 ≡ add binary64 y dy1) × ((x2 ≡ add binary64 x1 dx2) × ((y2 ≡ add binary64 y1 dy2) × ((x3 ≡ add binary64 x2 dx3) × (y3 ≡ add binary64 y2 dy3)))))
     → (is_finite (point_at x1 y1) && (is_finite (point_at x2 y2) && is_finite (point_at x3 y3))) ≡ true → Stores (curve (point_at x1 y1) (point_at x2 y2) (point_at x3 y3)) k c b d → b ≡ true → Adds (λ lim. curve_by lim dx1 dy1 dx2 dy2 dx3 dy3) x y k c (drawn_of x3 y3) d
 curve_added x y dx1 dy1 dx2 dy2 dx3 dy3 x1 y1 x2 y2 x3 y3 k c d b is f S z = record {
-  done = λ w t room o ch m s q H.
+  done = λ t room o ch m s q H.
       let T0 = placed 0 x y k t in
       let r = ran_of (placed 0 x3 y3 (k + 1) t) 0 in
       curve_open false T0 c d room dx1 dy1 dx2 dy2 dx3 dy3 r o (curves_listed T0 x1 y1 x2 y2 x3 y3 dx1 dy1 dx2 dy2 dx3 dy3 is false (placed 0 x3 y3 k t) r c d room refl f (lists (curve (point_at x1 y1) (point_at x2 y2) (point_at x3 y3)) x3 y3 k c d b S z false t room ch)) m s q (quiet_told false T0 (with_cmds c m) s H ch) H;
-  space = λ w. S.space z;
-  none = λ w. absurd (true≢false w);
+  space = S.space z;
+  none = tt;
   same = S.same;
 }
 
@@ -126,29 +126,30 @@ curve_read w (inr (inl e)) = read_as w 30 e tt (λ q. let z : ⊥ = omega arith 
 curve_read w (inr (inr e)) = read_as w 31 e tt (λ q. let z : ⊥ = omega arith in z)
 
 -- ---- the operators, in which E is done by the deltas of the operands
-module _ (n : ℕ) (x y : Float) (k : ℕ) (ops : List Float) (c : List ℕ) (r : Drawn) (d : List ℕ) where
+module _ (n : ℕ) (x y : Float) (k : ℕ) (ops : List Float) (c d : List ℕ) where
   drawn_by : (w : ℕ) (D E : Limits → State → Outcome) → ((lim : Limits) (s : State) → operate lim (refused 6) (operator_of w) s ≡ D lim s) → T (is_read (operator_of w)) × (w ≡ 12 → ⊥)
-      → ((t : St) (room : ℕ) → Step false (placed 0 x y k t) (ran_of (drawn_to r k t) 0) c d room E → Takes false (placed n x y k t) (ran_of (drawn_to r k t) 0) ops c d room D)
-      → Adds E x y k c r d → (v : ℕ) → w ≡ v → Draws v n x y k ops c r d
-  drawn_by w D E is read does A v e = subst (λ (v : ℕ). Draws v n x y k ops c r d) e (record {
-    done = λ h t m s op ch H.
+      → ((p : Point) (t : St) (room : ℕ) → Step false (placed 0 x y k t) (ran_of (drawn_to p k t) 0) c d room E → Takes false (placed n x y k t) (ran_of (drawn_to p k t) 0) ops c d room D)
+      → (r : Option Point) → Adds E x y k c r d → (v : ℕ) → w ≡ v → Draws v n x y k ops c r d
+  drawn_by w D E is read does None A v e = draws-none v n x y k ops c d A.none
+  drawn_by w D E is read does (Some p) A v e = subst (λ (v : ℕ). Draws v n x y k ops c (Some p) d) e (record {
+    done = λ t m s op ch H.
         let room = length m.stems in
-        let q = ran_of (drawn_to r k t) 0 in
-        let got = does t room (λ n u q j K. A.done h t room op ch n u q K) m s refl (quiet_told false (placed n x y k t) (with_ops ops (with_cmds c m)) s H ch) H in
+        let q = ran_of (drawn_to p k t) 0 in
+        let got = does p t room (λ n u q j K. A.done t room op ch n u q K) m s refl (quiet_told false (placed n x y k t) (with_ops ops (with_cmds c m)) s H ch) H in
         subst (Meets q (with_ops ops (with_cmds d m))) (sym (is (within room (length c)) s))
-        (subst (λ (z : List Stem). Meets q (with_ops ops (with_cmds d (with_stems z m))) (D (within room (length c)) s)) (kept-none (placed n x y k t) (drawn_to r k t) m.edges m.across m.stems refl) got);
-    drawn = λ h. read;
+        (subst (λ (z : List Stem). Meets q (with_ops ops (with_cmds d (with_stems z m))) (D (within room (length c)) s)) (kept-none (placed n x y k t) (drawn_to p k t) m.edges m.across m.stems refl) got);
+    drawn = read;
     space = A.space;
-    none = A.none;
+    none = tt;
     same = A.same;
   })
 
-  pub line_drawn : (v w : ℕ) → w ≡ v → (w ≡ 5) ⊎ ((w ≡ 6) ⊎ (w ≡ 7)) → (e : Delta) → e ≡ point_delta (axes_of w) (take (n - 0) ops) → e.enough ≡ true → Adds (λ lim. line_by lim e.dx e.dy) x y k c r d → Draws v n x y k ops c r d
-  line_drawn v w p key e is h A =
-      drawn_by w (by_point line_by (axes_of w)) (λ lim. line_by lim e.dx e.dy) (λ lim s. lines lim (refused 6) s w key) (line_read w key)
-      (λ t room S. point-does false (placed n x y k t) _ ops c room line_by (axes_of w) e is (placed 0 x y k t) d refl h S) A v p
+  pub line_drawn : (v w : ℕ) → w ≡ v → (w ≡ 5) ⊎ ((w ≡ 6) ⊎ (w ≡ 7)) → (e : Point) → Some e ≡ point_delta (axes_of w) (take (n - 0) ops) → (r : Option Point) → Adds (λ lim. line_by lim e.x e.y) x y k c r d → Draws v n x y k ops c r d
+  line_drawn v w p key e is r A =
+      drawn_by w (by_point line_by (axes_of w)) (λ lim. line_by lim e.x e.y) (λ lim s. lines lim (refused 6) s w key) (line_read w key)
+      (λ q t room S. point-does false (placed n x y k t) _ ops c room line_by (axes_of w) e is (placed 0 x y k t) d refl S) r A v p
 
-  pub curve_drawn : (v w : ℕ) → w ≡ v → (w ≡ 8) ⊎ ((w ≡ 30) ⊎ (w ≡ 31)) → (e : Deltas) → e ≡ curve_deltas (tangents_of w) (take (n - 0) ops) → e.enough ≡ true → Adds (λ lim. curve_by lim e.dx1 e.dy1 e.dx2 e.dy2 e.dx3 e.dy3) x y k c r d → Draws v n x y k ops c r d
-  curve_drawn v w p key e is h A =
-      drawn_by w (by_curve (tangents_of w)) (λ lim. curve_by lim e.dx1 e.dy1 e.dx2 e.dy2 e.dx3 e.dy3) (λ lim s. curves lim (refused 6) s w key) (curve_read w key)
-      (λ t room S. curve_does false (placed n x y k t) _ ops c room (tangents_of w) e is (placed 0 x y k t) d refl h S) A v p
+  pub curve_drawn : (v w : ℕ) → w ≡ v → (w ≡ 8) ⊎ ((w ≡ 30) ⊎ (w ≡ 31)) → (e : Deltas) → Some e ≡ curve_deltas (tangents_of w) (take (n - 0) ops) → (r : Option Point) → Adds (λ lim. by_deltas lim e) x y k c r d → Draws v n x y k ops c r d
+  curve_drawn v w p key e is r A =
+      drawn_by w (by_curve (tangents_of w)) (λ lim. by_deltas lim e) (λ lim s. curves lim (refused 6) s w key) (curve_read w key)
+      (λ q t room S. curve_does false (placed n x y k t) _ ops c room (tangents_of w) e is (placed 0 x y k t) d refl S) r A v p

@@ -6,7 +6,7 @@ use native.Mathlib.Numerals.{add-one}
 use native.Mathlib.Omega.{arith}
 use mathlib.Core.Bool.{Bool, true, false, not, ◌&&◌, ◌||◌}
 use mathlib.Core.List.{List, [], ◌∷◌, ◌++◌}
-use borrow.Author.Tests.{le-leb, lt-leb, eqb-true, eqb-false, ltb-false}
+use borrow.Author.Tests.{le-leb, lt-leb, eqb-true, eqb-false}
 use lib.Dec.{T, eqb, leb, ltb, lit≤}
 use lib.Arith.{lt_of_le-ne}
 use lib.ListN.{length, get_or, set, take, drop, length-set, length-append, length-drop}
@@ -16,6 +16,7 @@ use lib.Ieee.Scale.{finite}
 use Rattle.hints.specs.Hints.{at_most, is_among, in_force, may_be_last}
 use Rattle.hints.specs.Laws.{cut_below}
 use Rattle.outline.specs.declared.Stem.{Stem}
+use Rattle.std.proofs.lemmas.List.{get_or_default}
 use Rattle.type1.specs.declared.St.{St}
 use Rattle.type1.specs.declared.Ran.{Ran}
 use Rattle.outline.specs.Outline.{same_stem, is_in, same_stems, pick, stem_of, zero_stem}
@@ -217,27 +218,16 @@ module _ (z : List Stem) (first : ℕ) (e : List Float) (a : List Bool) where
   unfolding same_stems stems_at
   same_begun = refl
 
-  -- a turn of `all_same`: what it read at place r of the store
-  module _ (i n r : ℕ) (v : Stem) (zs : List Stem) (d : Bool) (room : first + n ≤ length z) (l : i < n) (er : r ≡ first + i) (ez : zs ≡ z) (ev : v ≡ get_or zs r zero_stem) (ed : d ≡ not (same_stem v (stem_at e a i))) where
-    read_is : d ≡ not (same_stem (get_or z (first + i) zero_stem) (stem_at e a i))
-    read_is = ed ∙ ap (λ (u : Stem). not (same_stem u (stem_at e a i))) (ev ∙ ap₂ (λ (y : List Stem) (j : ℕ). get_or y j zero_stem) ez er)
+  -- a turn of `all_same`: what it read at a place of the store
+  module _ (i : ℕ) (d v : Stem) (b : Bool) (inside : first + i < length z) (ev : v ≡ stem_at e a i) (eb : b ≡ same_stem (get_or z (first + i) d) v) where
+    read_is : b ≡ same_stem (get_or z (first + i) zero_stem) (stem_at e a i)
+    read_is = eb ∙ ap₂ same_stem (get_or_default z (first + i) d zero_stem inside) ev
 
-    pub same_turn : T (not d) → both i ≡ true → both (i + 1) ≡ true
-    same_turn t p = ap both (add-one i) ∙ both-suc i (omega arith) ∙ ap₂ (λ (x y : Bool). x && y) p (twice (same_stem (get_or z (first + i) zero_stem) (stem_at e a i)) (subst (λ (b : Bool). T (not b)) read_is t))
-      where
-        twice : (b : Bool) → T (not (not b)) → b ≡ true
-        twice true q = refl
-        twice false q = absurd q
+    pub same_turn : b ≡ true → both i ≡ true → both (i + 1) ≡ true
+    same_turn t p = ap both (add-one i) ∙ both-suc i inside ∙ ap₂ (λ (x y : Bool). x && y) p (sym read_is ∙ t)
 
-    pub same_stop : T d → false ≡ both n
-    same_stop t = sym (both_not i n l room (once (same_stem (get_or z (first + i) zero_stem) (stem_at e a i)) (subst T read_is t)))
-      where
-        once : (b : Bool) → T (not b) → b ≡ false
-        once true q = absurd q
-        once false q = refl
-
-  pub same_end : (i n : ℕ) → ltb i n ≡ false → i ≤ n → both i ≡ true → true ≡ both n
-  same_end i n over l p = sym (ap both (let k = ltb-false i n over in let y : n ≡ i = omega arith in y) ∙ p)
+    pub same_stop : (n : ℕ) → i < n → first + n ≤ length z → b ≡ false → false ≡ both n
+    same_stop n l room t = sym (both_not i n l room (sym read_is ∙ t))
 
 -- ---- what `is_last` answers, by `hints::may_be_last` and `all_same`
 module _ (t : St) (z : List Stem) (e : List Float) (a : List Bool) (low : t.last ≤ t.stems) (room : t.stems ≤ length z) where

@@ -11,13 +11,15 @@ use lib.Ieee.{Float, nan}
 use lib.Ieee.Scale.{finite}
 use Rattle.type1.specs.declared.St.{St}
 use Rattle.type1.specs.declared.Ran.{Ran}
-use Rattle.type1.specs.declared.Delta.{Delta}
+use Rattle.std.specs.Prelude.{Option, Some, None, is_some, unwrap_or}
+use Rattle.geometry.specs.declared.Point.{Point}
+use Rattle.outline.specs.Outline.{origin, plus_zero}
 use Rattle.type1.specs.declared.Deltas.{Deltas}
 use Rattle.type1.specs.Operator as op
 use Rattle.type1.specs.State.{State}
-use Rattle.type1.specs.Run.{Limits, within, Outcome, refused, check, top, cleared, curve_by, set_point, point_at, operate}
+use Rattle.type1.specs.Run.{Limits, within, Outcome, refused, check, top, cleared, set_point, point_at, operate}
 use Rattle.type1.specs.Memory.{Mem, Bounds, Holds, Meets, kept, after, with_cmds, with_ops, Step, Takes}
-use Rattle.type1.specs.Deltas.{Axes, Tangents, point_delta, curve_deltas, by_point, by_curve}
+use Rattle.type1.specs.Deltas.{Axes, Tangents, deltas_of, by, point_delta, curve_deltas, by_point, by_deltas, by_curve}
 use Rattle.type1.specs.Reading.{with_count}
 use Rattle.type1.specs.Small.{ran_of, Space}
 use Rattle.type1.proofs.Stacks.{operands_are, operand_count, top_is, cleared_holds}
@@ -46,42 +48,50 @@ clear_space t u r room e S = subst (λ (v : St). Space v r.st room) e S
 pub clear_bounds : (t u : St) (words room : ℕ) → u ≡ with_count 0 t → Bounds t words → t.stems ≤ room → Bounds u words × (u.stems ≤ room)
 clear_bounds t u words room e b h = subst (λ (v : St). Bounds v words × (v.stems ≤ room)) (sym e) (record { operands = lit≤ tt; postscript = b.postscript; points = b.points; hints = b.hints; last = b.last; groups = b.groups; entries = b.entries; ran = b.ran }, h)
 
--- ---- moves and lines, as f does them by the delta d that was made of the operands
-module _ (same : Bool) (t : St) (r : Ran) (o : List Float) (c : List ℕ) (room : ℕ) (f : Limits → Float → Float → State → Outcome) (a : Axes) (d : Delta) (is : d ≡ point_delta a (take (t.operands - 0) o)) where
-  point_is : d ≡ point_delta a (take t.operands o)
-  point_is = is ∙ ap (λ (n : ℕ). point_delta a (take n o)) (let z : t.operands - 0 ≡ t.operands = omega arith in z)
+-- ---- what f does by the operands that there are
+by_given : {A : Type 0} (f : A → Outcome) (d : A) (o : Option A) → by f o ≡ check (is_some o) 7 (f (unwrap_or o d))
+by_given f d None = refl
+by_given f d (Some x) = refl
 
-  unfolded : (lim : Limits) (s : State) → by_point f a lim s ≡ check (point_delta a s.operands).enough 7 (f lim (point_delta a s.operands).dx (point_delta a s.operands).dy (cleared s))
+-- ---- moves and lines, as f does them by the delta that was made of the operands
+module _ (same : Bool) (t : St) (r : Ran) (o : List Float) (c : List ℕ) (room : ℕ) (f : Limits → Float → Float → State → Outcome) (a : Axes) where
+  abbrev delta : List Float → Point
+  delta l = unwrap_or (point_delta a l) origin
+
+  point_is : (d : Option Point) → d ≡ point_delta a (take (t.operands - 0) o) → d ≡ point_delta a (take t.operands o)
+  point_is d is = is ∙ ap (λ (n : ℕ). point_delta a (take n o)) (let z : t.operands - 0 ≡ t.operands = omega arith in z)
+
+  unfolded : (lim : Limits) (s : State) → by_point f a lim s ≡ check (is_some (point_delta a s.operands)) 7 (f lim (delta s.operands).x (delta s.operands).y (cleared s))
   unfolding by_point
-  unfolded lim s = refl
+  unfolded lim s = by_given (λ (d : Point). f lim d.x d.y (cleared s)) origin (point_delta a s.operands)
 
-  pub point-short : d.enough ≡ false → r ≡ ran_of t 7 → Takes same t r o c c room (by_point f a)
-  point-short e = short same t r o c room (by_point f a) (λ l. (point_delta a l).enough) (λ lim l. f lim (point_delta a l).dx (point_delta a l).dy) unfolded (sym (ap (λ (z : Delta). z.enough) point_is) ∙ e)
+  pub point-short : None ≡ point_delta a (take (t.operands - 0) o) → r ≡ ran_of t 7 → Takes same t r o c c room (by_point f a)
+  point-short is = short same t r o c room (by_point f a) (λ l. is_some (point_delta a l)) (λ lim l. f lim (delta l).x (delta l).y) unfolded (sym (ap is_some (point_is None is)))
 
-  pub point-does : (u : St) (c' : List ℕ) → u ≡ with_count 0 t → d.enough ≡ true → Step same u r c c' room (λ lim. f lim d.dx d.dy) → Takes same t r o c c' room (by_point f a)
-  point-does u c' p e S =
-      does same t r o c room (by_point f a) (λ l. (point_delta a l).enough) (λ lim l. f lim (point_delta a l).dx (point_delta a l).dy) unfolded u c' p (sym (ap (λ (z : Delta). z.enough) point_is) ∙ e)
-      (subst (λ (z : Delta). Step same u r c c' room (λ lim. f lim z.dx z.dy)) point_is S)
+  pub point-does : (d : Point) → Some d ≡ point_delta a (take (t.operands - 0) o) → (u : St) (c' : List ℕ) → u ≡ with_count 0 t → Step same u r c c' room (λ lim. f lim d.x d.y) → Takes same t r o c c' room (by_point f a)
+  point-does d is u c' p S =
+      does same t r o c room (by_point f a) (λ l. is_some (point_delta a l)) (λ lim l. f lim (delta l).x (delta l).y) unfolded u c' p (sym (ap is_some (point_is (Some d) is)))
+      (subst (λ (z : Option Point). Step same u r c c' room (λ lim. f lim (unwrap_or z origin).x (unwrap_or z origin).y)) (point_is (Some d) is) S)
 
 -- ---- curves likewise
-module _ (same : Bool) (t : St) (r : Ran) (o : List Float) (c : List ℕ) (room : ℕ) (a : Tangents) (d : Deltas) (is : d ≡ curve_deltas a (take (t.operands - 0) o)) where
-  abbrev by : Limits → Deltas → State → Outcome
-  by lim z = curve_by lim z.dx1 z.dy1 z.dx2 z.dy2 z.dx3 z.dy3
+module _ (same : Bool) (t : St) (r : Ran) (o : List Float) (c : List ℕ) (room : ℕ) (a : Tangents) where
+  abbrev none : Deltas
+  none = deltas_of plus_zero plus_zero plus_zero plus_zero plus_zero plus_zero
 
-  curve_is : d ≡ curve_deltas a (take t.operands o)
-  curve_is = is ∙ ap (λ (n : ℕ). curve_deltas a (take n o)) (let z : t.operands - 0 ≡ t.operands = omega arith in z)
+  curve_is : (d : Option Deltas) → d ≡ curve_deltas a (take (t.operands - 0) o) → d ≡ curve_deltas a (take t.operands o)
+  curve_is d is = is ∙ ap (λ (n : ℕ). curve_deltas a (take n o)) (let z : t.operands - 0 ≡ t.operands = omega arith in z)
 
-  opened : (lim : Limits) (s : State) → by_curve a lim s ≡ check (curve_deltas a s.operands).enough 7 (by lim (curve_deltas a s.operands) (cleared s))
+  opened : (lim : Limits) (s : State) → by_curve a lim s ≡ check (is_some (curve_deltas a s.operands)) 7 (by_deltas lim (unwrap_or (curve_deltas a s.operands) none) (cleared s))
   unfolding by_curve
-  opened lim s = refl
+  opened lim s = by_given (λ (d : Deltas). by_deltas lim d (cleared s)) none (curve_deltas a s.operands)
 
-  pub curve_short : d.enough ≡ false → r ≡ ran_of t 7 → Takes same t r o c c room (by_curve a)
-  curve_short e = short same t r o c room (by_curve a) (λ l. (curve_deltas a l).enough) (λ lim l. by lim (curve_deltas a l)) opened (sym (ap (λ (z : Deltas). z.enough) curve_is) ∙ e)
+  pub curve_short : None ≡ curve_deltas a (take (t.operands - 0) o) → r ≡ ran_of t 7 → Takes same t r o c c room (by_curve a)
+  curve_short is = short same t r o c room (by_curve a) (λ l. is_some (curve_deltas a l)) (λ lim l. by_deltas lim (unwrap_or (curve_deltas a l) none)) opened (sym (ap is_some (curve_is None is)))
 
-  pub curve_does : (u : St) (c' : List ℕ) → u ≡ with_count 0 t → d.enough ≡ true → Step same u r c c' room (λ lim. by lim d) → Takes same t r o c c' room (by_curve a)
-  curve_does u c' p e S =
-      does same t r o c room (by_curve a) (λ l. (curve_deltas a l).enough) (λ lim l. by lim (curve_deltas a l)) opened u c' p (sym (ap (λ (z : Deltas). z.enough) curve_is) ∙ e)
-      (subst (λ (z : Deltas). Step same u r c c' room (λ lim. by lim z)) curve_is S)
+  pub curve_does : (d : Deltas) → Some d ≡ curve_deltas a (take (t.operands - 0) o) → (u : St) (c' : List ℕ) → u ≡ with_count 0 t → Step same u r c c' room (λ lim. by_deltas lim d) → Takes same t r o c c' room (by_curve a)
+  curve_does d is u c' p S =
+      does same t r o c room (by_curve a) (λ l. is_some (curve_deltas a l)) (λ lim l. by_deltas lim (unwrap_or (curve_deltas a l) none)) opened u c' p (sym (ap is_some (curve_is (Some d) is)))
+      (subst (λ (z : Option Deltas). Step same u r c c' room (λ lim. by_deltas lim (unwrap_or z none))) (curve_is (Some d) is) S)
 
 -- ---- 12 33
 abbrev pub sets_point : Limits → State → Outcome

@@ -15,7 +15,9 @@ use lib.IntN.{ℤ, pos, negsuc}
 use lib.ListN.{length, get_or, take, drop}
 use lib.Seq.{take-take, slice_empty, slice-cons, drop-nil, take-nil, length-take-le}
 use lib.Ieee.{Float, nan, fin, le, to_unsigned, to_signed}
-use Rattle.othersubrs.specs.declared.Taken.{Taken}
+use Rattle.std.specs.Prelude.{Err}
+use Rattle.refusal.specs.declared.Refusal.{Refusal}
+use Rattle.refusal.specs.Refusal.{number_of}
 use Rattle.othersubrs.specs.OtherSubrs.{may_take, taken}
 use Rattle.othersubrs.specs.Laws.{not_taken}
 use Rattle.type1.specs.declared.St.{St}
@@ -150,17 +152,17 @@ module _ (same : Bool) (t : St) (r : Ran) (o ps x : List Float) (c : List ℕ) (
 
   module _ (h : 2 ≤ t.operands) where
     -- as `othersubrs::arguments` refuses
-    pub others_refused : (ps' x' : List Float) (c' : List ℕ) (k : Taken) → k ≡ taken t.operands (get_or o (t.operands - 2) nan) → (k.number ≡ 0 → ⊥) → r ≡ ran_of t k.number → Others same t r o ps x c ps' x' c' room
-    others_refused ps' x' c' k is ne p = others_few ps' x' c' (p ∙ ap (ran_of t) seven) (λ m s H. other_not t (with_ops o (with_ps ps (with_cells x (with_cmds c m)))) s H (within room (length c)) h refusal)
+    pub others_refused : (ps' x' : List Float) (c' : List ℕ) (k : Refusal) → Err k ≡ taken t.operands (get_or o (t.operands - 2) nan) → r ≡ ran_of t (number_of k) → Others same t r o ps x c ps' x' c' room
+    others_refused ps' x' c' k is p = others_few ps' x' c' (p ∙ ap (ran_of t) seven) (λ m s H. other_not t (with_ops o (with_ps ps (with_cells x (with_cmds c m)))) s H (within room (length c)) h refusal)
       where
         v : Float
         v = get_or o (t.operands - 2) nan
 
         refusal : may_take t.operands v ≡ false
-        refusal = (not_taken t.operands v k is ne).0
+        refusal = (not_taken t.operands v k is).0
 
-        seven : k.number ≡ 7
-        seven = (not_taken t.operands v k is ne).1
+        seven : number_of k ≡ 7
+        seven = ap number_of (not_taken t.operands v k is).1
 
     module _ (ge : le plus_zero (get_or o (t.operands - 2) nan) ≡ true) (k : ℕ) (is-k : k ≡ to_unsigned 64 (get_or o (t.operands - 2) nan)) where
       module _ (l : k ≤ t.operands - 2) (z : ℤ) (is-z : z ≡ to_signed 63 (get_or o (t.operands - 2 + 1) nan)) (fit-z : mag z < 9223372036854775808) where

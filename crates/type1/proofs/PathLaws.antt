@@ -274,6 +274,11 @@ moved-bounds t u x y words room e b h = subst (λ (v : St). Bounds v words × (v
 pub finite-both : (x y : Float) (b : Bool) → b ≡ is_finite (point_at x y) → b ≡ true → T (finite x) × T (finite y)
 finite-both x y b e h = let t = subst T (sym (sym e ∙ h)) tt in (and_l (finite x) (finite y) t, and_r (finite x) (finite y) t)
 
+pub both_fine : (a b : Bool) → T a × T b → T (a && b)
+both_fine true true h = tt
+both_fine true false h = h.1
+both_fine false b h = h.0
+
 pub path_infinite : (t : St) (r : Ran) (n room : ℕ) → r ≡ ran_of t (suc n) → Path t r room
 path_infinite t r n room e = record { quiet = λ z. ap (λ (q : Ran). q.st.groups) e; settled = λ z. absurd (let y : suc n ≡ 0 = sym (ap (λ (q : Ran). q.flow) e) ∙ z in let x : ⊥ = omega arith in x); space = λ z. absurd (z (ap (λ (q : Ran). q.st.groups) e)) }
 
@@ -390,14 +395,11 @@ both_false p q (inr h) = ap (λ (a : Bool). a && q) h
 pub both_true : (p q : Bool) → p ≡ true → q ≡ true → (p && q) ≡ true
 both_true p q h k = ap₂ (λ (a b : Bool). a && b) h k
 
-pub three_first : (p q r : Bool) → p ≡ false → (p && (q && r)) ≡ false
-three_first p q r h = ap (λ (a : Bool). a && (q && r)) h
-
-pub three_second : (p q r : Bool) → p ≡ true → q ≡ false → (p && (q && r)) ≡ false
-three_second p q r h k = ap₂ (λ (a b : Bool). a && (b && r)) h k
-
-pub three_third : (p q r : Bool) → p ≡ true → q ≡ true → r ≡ false → (p && (q && r)) ≡ false
-three_third p q r h k l = ap₂ (λ (a b : Bool). a && (b && r)) h k ∙ l
+pub one_false : (p q r : Bool) → (p ≡ true → q ≡ true → r ≡ true → ⊥) → (p && (q && r)) ≡ false
+one_false true true true h = absurd (h refl refl refl)
+one_false true true false h = refl
+one_false true false r h = refl
+one_false false q r h = refl
 
 pub three_all : (p q r : Bool) → p ≡ true → q ≡ true → r ≡ true → (p && (q && r)) ≡ true
 three_all p q r h k l = ap₂ (λ (a b : Bool). a && (b && r)) h k ∙ l
@@ -407,8 +409,3 @@ true_of b d e h = subst T (sym (sym e ∙ h)) tt
 
 pub curve_after : (t u : St) (words n room : ℕ) → Grown t u words room → n ≡ words → 14 * u.entries ≤ n
 curve_after t u words n room G e = subst (λ (j : ℕ). 14 * u.entries ≤ j) (sym e) G.bounds.entries
-
--- the first of a curve's points is not finite
-pub curves_first : (t : St) (x1 y1 x2 y2 x3 y3 dx1 dy1 dx2 dy2 dx3 dy3 : Float) → (x1 ≡ add binary64 t.x dx1) × ((y1 ≡ add binary64 t.y dy1) × ((x2 ≡ add binary64 x1 dx2) × ((y2 ≡ add binary64 y1 dy2) × ((x3 ≡ add binary64 x2 dx3) × (y3 ≡ add binary64 y2 dy3)))))
-    → (same : Bool) (r : Ran) (c : List ℕ) (room : ℕ) → r ≡ ran_of t 14 → is_finite (point_at x1 y1) ≡ false → Step same t r c c room (λ lim. curve_to lim dx1 dy1 dx2 dy2 dx3 dy3)
-curves_first t x1 y1 x2 y2 x3 y3 dx1 dy1 dx2 dy2 dx3 dy3 is same r c room p f = curves_infinite t x1 y1 x2 y2 x3 y3 dx1 dy1 dx2 dy2 dx3 dy3 is same r c room p (three_first (is_finite (point_at x1 y1)) (is_finite (point_at x2 y2)) (is_finite (point_at x3 y3)) f)

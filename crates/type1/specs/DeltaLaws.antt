@@ -2,22 +2,22 @@
 use Rattle.std.specs.Prelude.{◌≡◌, ℕ, Bool, true, false, ◌⊎◌, leb, length, Float}
 use Rattle.std.proofs.Math.Path.{refl, subst}
 use Rattle.std.proofs.Common.{sym, inl, inr}
-use Rattle.type1.specs.declared.Delta.{Delta}
+use Rattle.std.specs.Prelude.{Some, None}
 use Rattle.type1.specs.declared.Deltas.{Deltas}
 use Rattle.type1.specs.Operator as op
 use Rattle.type1.specs.Operator.{of_byte}
 use Rattle.outline.specs.Outline.{plus_zero, pick}
 use Rattle.type1.specs.State.{State}
-use Rattle.type1.specs.Run.{Limits, Outcome, check, top, cleared, move_by, line_by, curve_by, operate}
+use Rattle.type1.specs.Run.{Limits, Outcome, check, top, cleared, point_at, move_by, line_by, curve_by, operate}
 use Rattle.type1.specs.Memory.{operator_of}
-use Rattle.type1.specs.Deltas.{axes_of, tangents_of, no_delta, no_deltas, point_delta, curve_deltas, by_point, by_curve, stem_from}
+use Rattle.type1.specs.Deltas.{axes_of, tangents_of, deltas_of, by, point_delta, curve_deltas, by_point, by_curve, stem_from}
 
-by_point_lem : (b : Bool) (x y : Float) (f : Float → Float → Outcome) → (let d : Delta = pick b (record { dx = x; dy = y; enough = true }) no_delta in check b 7 (f x y) ≡ check d.enough 7 (f d.dx d.dy))
+by_point_lem : (b : Bool) (x y : Float) (f : Float → Float → Outcome) → check b 7 (f x y) ≡ by (λ d. f d.x d.y) (pick b (Some (point_at x y)) None)
 by_point_lem true x y f = refl
 by_point_lem false x y f = refl
 
 by_curve_lem : (b : Bool) (x1 y1 x2 y2 x3 y3 : Float) (f : Float → Float → Float → Float → Float → Float → Outcome)
-    → (let d : Deltas = pick b (record { dx1 = x1; dy1 = y1; dx2 = x2; dy2 = y2; dx3 = x3; dy3 = y3; enough = true }) no_deltas in check b 7 (f x1 y1 x2 y2 x3 y3) ≡ check d.enough 7 (f d.dx1 d.dy1 d.dx2 d.dy2 d.dx3 d.dy3))
+    → check b 7 (f x1 y1 x2 y2 x3 y3) ≡ by (λ (d : Deltas). f d.first.x d.first.y d.second.x d.second.y d.third.x d.third.y) (pick b (Some (deltas_of x1 y1 x2 y2 x3 y3)) None)
 by_curve_lem true x1 y1 x2 y2 x3 y3 f = refl
 by_curve_lem false x1 y1 x2 y2 x3 y3 f = refl
 

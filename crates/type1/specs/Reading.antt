@@ -1,5 +1,7 @@
 -- Definitions: what the functions that read bytes and call bodies say of the run (document 01, "Reading", "Bytes run"; T1, 6.2 and 6.4).
-use Rattle.std.specs.Prelude.{ℕ, ◌+◌, ◌-◌, ◌*◌, ◌≤◌, ◌<◌, ◌≡◌, Bool, true, false, List, T, eqb, length, drop, ℤ, Float}
+use Rattle.std.specs.Prelude.{ℕ, ◌+◌, ◌-◌, ◌*◌, ◌≤◌, ◌<◌, ◌≡◌, Bool, true, false, List, T, eqb, length, drop, ℤ, Float, Option, IfSome, IfNone, OnSome, Result, Ok, Err}
+use Rattle.refusal.specs.declared.Refusal.{Refusal}
+use Rattle.refusal.specs.Refusal.{number_of}
 use Rattle.charstring.specs.declared.Cursor.{Cursor}
 use Rattle.charstring.specs.Cipher.{Bytes}
 use Rattle.charstring.specs.Cursor.{rest}
@@ -9,7 +11,7 @@ use Rattle.type1.specs.declared.St.{St}
 use Rattle.type1.specs.declared.Reading.{Reading}
 use Rattle.type1.specs.declared.Tok.{Tok}
 use Rattle.type1.specs.declared.Num.{Num}
-use Rattle.type1.specs.declared.Drawn.{Drawn}
+use Rattle.geometry.specs.declared.Point.{Point}
 use Rattle.type1.specs.declared.Called.{Called}
 use Rattle.type1.specs.Operator as op
 use Rattle.type1.specs.Operator.{Operator}
@@ -92,25 +94,25 @@ pub record Stores (x : Command) (k : ℕ) (c : List ℕ) (r : Bool) (d : List �
   pub full : r ≡ false → (d ≡ c) × (length c - entry_words * k < 14)
   pub same : length d ≡ length c
 
--- the state after a line or a curve from t
-abbrev pub drawn_to : Drawn → ℕ → St → St
-drawn_to r k t = placed 0 r.x r.y (k + 1) t
+-- the state after a line or a curve from t to p
+abbrev pub drawn_to : Point → ℕ → St → St
+drawn_to p k t = placed 0 p.x p.y (k + 1) t
 
 -- D was done at (x, y) with k entries listed, or nothing was
-pub record Adds (D : Limits → State → Outcome) (x y : Float) (k : ℕ) (c : List ℕ) (r : Drawn) (d : List ℕ) : Type 0 where
-  pub done : r.done ≡ true → (t : St) (room : ℕ) → t.opened ≡ true → t.changed ≡ false
-      → (m : Mem) (s : State) → length m.stems ≡ room → Holds (placed 0 x y k t) (with_cmds c m) s → Meets (ran_of (drawn_to r k t) 0) (after (placed 0 x y k t) (ran_of (drawn_to r k t) 0) d m) (D (within room (length c)) s)
-  pub space : r.done ≡ true → entry_words * (k + 1) ≤ length c
-  pub none : r.done ≡ false → d ≡ c
+pub record Adds (D : Limits → State → Outcome) (x y : Float) (k : ℕ) (c : List ℕ) (r : Option Point) (d : List ℕ) : Type 0 where
+  pub done : IfSome r (λ p. (t : St) (room : ℕ) → t.opened ≡ true → t.changed ≡ false
+      → (m : Mem) (s : State) → length m.stems ≡ room → Holds (placed 0 x y k t) (with_cmds c m) s → Meets (ran_of (drawn_to p k t) 0) (after (placed 0 x y k t) (ran_of (drawn_to p k t) 0) d m) (D (within room (length c)) s))
+  pub space : OnSome r (entry_words * (k + 1) ≤ length c)
+  pub none : IfNone r (d ≡ c)
   pub same : length d ≡ length c
 
 -- the operator of the byte v was done, with n operands, or nothing was
-pub record Draws (v n : ℕ) (x y : Float) (k : ℕ) (ops : List Float) (c : List ℕ) (r : Drawn) (d : List ℕ) : Type 0 where
-  pub done : r.done ≡ true → (t : St) (m : Mem) (s : State) → t.opened ≡ true → t.changed ≡ false
-      → Holds (placed n x y k t) (with_ops ops (with_cmds c m)) s → Meets (ran_of (drawn_to r k t) 0) (with_ops ops (with_cmds d m)) (operate (within (length m.stems) (length c)) (refused 6) (operator_of v) s)
-  pub drawn : r.done ≡ true → T (is_read (operator_of v)) × (v ≡ 12 → ⊥)
-  pub space : r.done ≡ true → entry_words * (k + 1) ≤ length c
-  pub none : r.done ≡ false → d ≡ c
+pub record Draws (v n : ℕ) (x y : Float) (k : ℕ) (ops : List Float) (c : List ℕ) (r : Option Point) (d : List ℕ) : Type 0 where
+  pub done : IfSome r (λ p. (t : St) (m : Mem) (s : State) → t.opened ≡ true → t.changed ≡ false
+      → Holds (placed n x y k t) (with_ops ops (with_cmds c m)) s → Meets (ran_of (drawn_to p k t) 0) (with_ops ops (with_cmds d m)) (operate (within (length m.stems) (length c)) (refused 6) (operator_of v) s))
+  pub drawn : OnSome r (T (is_read (operator_of v)) × (v ≡ 12 → ⊥))
+  pub space : OnSome r (entry_words * (k + 1) ≤ length c)
+  pub none : IfNone r (d ≡ c)
   pub same : length d ≡ length c
 
 -- f does these operators as the run does
@@ -139,6 +141,6 @@ pub record Reads (reading : Reading) (code : List ℕ) (from key : ℕ) (encrypt
   pub number : (t.flow ≡ 0 → ⊥) → (t.flow ≡ 1 → ⊥) → 3 ≤ t.flow
 
 -- a call is about to be made, or is refused
-pub record Calls (bank : List ℕ) (reading : Reading) (m : Mem) (s : State) (r : Called) : Type 0 where
-  pub called : r.flow ≡ 0 → (u : State) × Holds r.st m u × ((deep : List ℕ → State → Outcome) → call_subr (font_of bank reading) deep s ≡ returned (deep (bytes_at (found r.index bank) bank) u))
-  pub stopped : (r.flow ≡ 0 → ⊥) → (3 ≤ r.flow) × ((deep : List ℕ → State → Outcome) → call_subr (font_of bank reading) deep s ≡ refused r.flow)
+abbrev pub Calls : List ℕ → Reading → Mem → State → Result Called Refusal → Type 0
+Calls bank reading m s (Ok c) = (u : State) × Holds c.st m u × ((deep : List ℕ → State → Outcome) → call_subr (font_of bank reading) deep s ≡ returned (deep (bytes_at (found c.index bank) bank) u))
+Calls bank reading m s (Err r) = (3 ≤ number_of r) × ((deep : List ℕ → State → Outcome) → call_subr (font_of bank reading) deep s ≡ refused (number_of r))

@@ -5,12 +5,15 @@ ghost use Rattle.outline.specs.Store.{entry_words};
 ghost use Rattle.type1.specs.Reading.{placed, tok_of, Numbered, Operated, Draws, is_quick, Reads};
 ghost use Rattle.type1.specs.Small as Small;
 
-use crate::entries::{add_curve, add_line, not_drawn};
+use crate::entries::{add_curve, add_line};
 use crate::opcodes::{
     CLOSEPATH_BYTE, ESCAPE, ESCAPED, HLINETO, HVCURVETO, RLINETO, RRCURVETO, VHCURVETO, VLINETO,
 };
 use crate::operands::{curve_deltas, point_delta};
-use crate::{Drawn, Num, Reading, St, Tok};
+use crate::states::flow_of;
+use crate::{Num, Reading, St, Tok};
+use geometry::Point;
+use refusal::Refusal;
 
 fn wide(b: u8) -> u16
     ensures { result ≡ b }
@@ -160,8 +163,16 @@ fn operator_at(code: &[u8], i: usize, key: u16, encrypted: bool, v: u8, st: St) 
 }
 
 // The operator of the byte v, if it is a line or a curve that is not refused: with n operands, at (x, y), with k
-// entries listed. Else nothing is done.
-fn draw(v: u8, n: usize, x: f64, y: f64, k: usize, ops: &[f64; 256], cmds: &mut [u64]) -> Drawn
+// entries listed: the point after it. Else nothing is done. x and y stay apart, as `token` keeps them in registers.
+fn draw(
+    v: u8,
+    n: usize,
+    x: f64,
+    y: f64,
+    k: usize,
+    ops: &[f64; 256],
+    cmds: &mut [u64],
+) -> Option<Point>
     requires { (n ≤ 256) × (entry_words * k ≤ length cmds.old) }
     ensures { Draws v n x y k ops.now cmds.old result cmds.new }
 {
@@ -169,22 +180,14 @@ fn draw(v: u8, n: usize, x: f64, y: f64, k: usize, ops: &[f64; 256], cmds: &mut 
     let held = &ops[..];
     match op {
         RLINETO | HLINETO | VLINETO => {
-            let d = point_delta(op, &held[0..n]);
-            if !d.enough {
-                return not_drawn(x, y);
-            }
-            return add_line(d.dx, d.dy, x, y, k, cmds);
+            let d = point_delta(op, &held[0..n])?;
+            add_line(d, x, y, k, cmds)
         }
         RRCURVETO | VHCURVETO | HVCURVETO => {
-            let d = curve_deltas(op, &held[0..n]);
-            if !d.enough {
-                return not_drawn(x, y);
-            }
-            return add_curve(d.dx1, d.dy1, d.dx2, d.dy2, d.dx3, d.dy3, x, y, k, cmds);
+            let d = curve_deltas(op, &held[0..n])?;
+            add_curve(d, x, y, k, cmds)
         }
-        _ => {
-            return not_drawn(x, y);
-        }
+        _ => None,
     }
 }
 
@@ -192,7 +195,7 @@ fn draw(v: u8, n: usize, x: f64, y: f64, k: usize, ops: &[f64; 256], cmds: &mut 
 fn is_quick(changed: bool, opened: bool) -> bool
     ensures { result ≡ is_quick changed opened }
 {
-    if changed { false } else { opened }
+    !changed && opened
 }
 
 // Reads numbers, which it pushes, closepath, and lines and curves, which it lists where `is_quick` says so, up to
@@ -218,6 +221,7 @@ pub(crate) fn token(
     let mut y = st.y;
     let mut entries = st.entries;
     let mut opened = st.opened;
+    // Each turn goes on by the bytes of a number or an operator.
     while i < code.len() {
         let c = code[i];
         let v = charstring::byte_of(c, key, encrypted);
@@ -239,8 +243,7 @@ pub(crate) fn token(
                         place(st, n, x, y, entries, opened),
                     );
                 }
-                let d = draw(v, n, x, y, entries, ops, cmds);
-                if !d.done {
+                let Some(p) = draw(v, n, x, y, entries, ops, cmds) else {
                     return operator_at(
                         code,
                         i + 1,
@@ -249,10 +252,10 @@ pub(crate) fn token(
                         v,
                         place(st, n, x, y, entries, opened),
                     );
-                }
+                };
                 n = 0;
-                x = d.x;
-                y = d.y;
+                x = p.x;
+                y = p.y;
                 entries += 1;
                 i += 1;
                 key = k;
@@ -260,9 +263,9 @@ pub(crate) fn token(
         } else {
             let k = charstring::next_key(c, key);
             let w = number_at(code, i + 1, k, encrypted, v);
-            let cut = operand_stack::number_if(w.cut, 5);
-            let over = operand_stack::refusal(n, reading.strict);
-            let f = operand_stack::first(cut, over);
+            let cut = operand_stack::refuse_if(w.cut, Refusal::Cut);
+            let over = operand_stack::room(n, reading.strict);
+            let f = flow_of(operand_stack::first(cut, over));
             if f != 0 {
                 return found(place(st, n, x, y, entries, opened), i + 1, k, f, 0);
             }

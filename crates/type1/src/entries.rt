@@ -1,177 +1,154 @@
 // The command store's entries are written.
-ghost use Rattle.std.specs.Prelude.{◌≡◌, false, ℕ, ◌+◌, ◌*◌, ◌≤◌, ◌<◌, length, get_or, T};
-ghost use Rattle.std.specs.Float.{nan};
+ghost use Rattle.std.specs.Prelude.{◌≡◌, ℕ, ◌+◌, ◌*◌, ◌≤◌, ◌<◌, length, get_or, T, is_ok, IfErr};
+ghost use Rattle.std.specs.Float.{nan, binary64};
+ghost use Rattle.std.specs.Float.Ieee.{fits, to_bits};
 ghost use Rattle.std.specs.Float.Ieee.Scale.{finite};
+ghost use Rattle.refusal.specs.declared.Refusal.TheVariants.{CommandsFull};
 ghost use Rattle.type1.specs.State as State;
 ghost use Rattle.outline.specs.Outline as Outline;
 ghost use Rattle.type1.specs.Run as Run;
 ghost use Rattle.outline.specs.Store.{entry_words, point_command};
-ghost use Rattle.type1.specs.Run.{within, point_at, is_finite};
+ghost use Rattle.type1.specs.Run.{within, is_finite};
 ghost use Rattle.type1.specs.Memory.{Mem, Good, Holds, Meets, with_cells, with_cmds, Plain};
 ghost use Rattle.type1.specs.Reading.{Stores, Adds};
+ghost use Rattle.type1.specs.Deltas.{by_deltas};
 ghost use Rattle.type1.specs.Small as Small;
 
 use crate::states::made;
-use crate::{Drawn, Ran, St};
+use crate::{Deltas, Ran, St};
 use geometry::Point;
 use outline::{CURVE, ENTRY, FLEX, LINE};
+use refusal::Refusal;
 
-pub(crate) fn not_drawn(x: f64, y: f64) -> Drawn
-    ensures { result.done ≡ false }
+// A finite double as a word.
+fn bits(x: f64) -> u64
+    requires { T (finite x) }
+    ensures { (result ≡ to_bits binary64 x) × T (fits binary64 x) }
 {
-    Drawn { x, y, done: false }
+    f64::to_bits(x)
 }
 
 // An entry of one point, a move or a line, where there is room.
-fn store_point(kind: u64, x: f64, y: f64, k: usize, cmds: &mut [u64]) -> bool
+fn store_point(kind: u64, p: Point, k: usize, cmds: &mut [u64]) -> Result<(), Refusal>
     requires k_in_bounds { entry_words * k ≤ length cmds.old }
     requires kind_nonzero { (0 < kind) × (kind < 3) }
-    requires t { T (finite x) × T (finite y) }
-    ensures { Stores (point_command kind (point_at x y)) k cmds.old result cmds.new }
+    requires t { T (is_finite p) }
+    ensures stores { Stores (point_command kind p) k cmds.old (is_ok result) cmds.new }
+    ensures refused { IfErr result (λ e. e ≡ CommandsFull) }
 {
     let at = ENTRY * k;
     if cmds.len() - at < ENTRY {
-        return false;
+        return Err(Refusal::CommandsFull);
     }
     cmds[at] = kind;
-    cmds[at + 1] = f64::to_bits(x);
-    cmds[at + 2] = f64::to_bits(y);
-    true
+    cmds[at + 1] = bits(p.x);
+    cmds[at + 2] = bits(p.y);
+    Ok(())
 }
 
 // A curve through p to q and r, where there is room.
-fn store_curve(
-    px: f64,
-    py: f64,
-    qx: f64,
-    qy: f64,
-    rx: f64,
-    ry: f64,
-    k: usize,
-    cmds: &mut [u64],
-) -> bool
+fn store_curve(p: Point, q: Point, r: Point, k: usize, cmds: &mut [u64]) -> Result<(), Refusal>
     requires k_in_bounds { entry_words * k ≤ length cmds.old }
-    requires t { T (is_finite (point_at px py)) × (T (is_finite (point_at qx qy)) × T (is_finite (point_at rx ry))) }
-    ensures { Stores (Outline.curve (point_at px py) (point_at qx qy) (point_at rx ry)) k cmds.old result cmds.new }
+    requires t { T (is_finite p) × (T (is_finite q) × T (is_finite r)) }
+    ensures stores { Stores (Outline.curve p q r) k cmds.old (is_ok result) cmds.new }
+    ensures refused { IfErr result (λ e. e ≡ CommandsFull) }
 {
     let at = ENTRY * k;
     if cmds.len() - at < ENTRY {
-        return false;
+        return Err(Refusal::CommandsFull);
     }
     cmds[at] = CURVE;
-    cmds[at + 1] = f64::to_bits(px);
-    cmds[at + 2] = f64::to_bits(py);
-    cmds[at + 3] = f64::to_bits(qx);
-    cmds[at + 4] = f64::to_bits(qy);
-    cmds[at + 5] = f64::to_bits(rx);
-    cmds[at + 6] = f64::to_bits(ry);
-    true
+    cmds[at + 1] = bits(p.x);
+    cmds[at + 2] = bits(p.y);
+    cmds[at + 3] = bits(q.x);
+    cmds[at + 4] = bits(q.y);
+    cmds[at + 5] = bits(r.x);
+    cmds[at + 6] = bits(r.y);
+    Ok(())
 }
 
-// A line from (x, y) with k entries listed.
-pub(crate) fn add_line(dx: f64, dy: f64, x: f64, y: f64, k: usize, cmds: &mut [u64]) -> Drawn
+// A line from (x, y) with k entries listed: the point after it, where it was listed.
+pub(crate) fn add_line(delta: Point, x: f64, y: f64, k: usize, cmds: &mut [u64]) -> Option<Point>
     requires { entry_words * k ≤ length cmds.old }
-    ensures { Adds (λ lim. Run.line_by lim dx dy) x y k cmds.old result cmds.new }
+    ensures { Adds (λ lim. Run.line_by lim delta.x delta.y) x y k cmds.old result cmds.new }
 {
-    let px = x + dx;
-    let py = y + dy;
-    if !finite_point(px, py) {
-        return not_drawn(x, y);
+    let p = Point {
+        x: x + delta.x,
+        y: y + delta.y,
+    };
+    if !finite_point(p) {
+        return None;
     }
-    if store_point(LINE, px, py, k, cmds) {
-        return Drawn {
-            x: px,
-            y: py,
-            done: true,
-        };
+    match store_point(LINE, p, k, cmds) {
+        Ok(()) => Some(p),
+        Err(_) => None,
     }
-    not_drawn(x, y)
 }
 
 // A curve likewise.
-pub(crate) fn add_curve(
-    dx1: f64,
-    dy1: f64,
-    dx2: f64,
-    dy2: f64,
-    dx3: f64,
-    dy3: f64,
-    x: f64,
-    y: f64,
-    k: usize,
-    cmds: &mut [u64],
-) -> Drawn
+pub(crate) fn add_curve(deltas: Deltas, x: f64, y: f64, k: usize, cmds: &mut [u64]) -> Option<Point>
     requires { entry_words * k ≤ length cmds.old }
-    ensures { Adds (λ lim. Run.curve_by lim dx1 dy1 dx2 dy2 dx3 dy3) x y k cmds.old result cmds.new }
+    ensures { Adds (λ lim. by_deltas lim deltas) x y k cmds.old result cmds.new }
 {
-    let px = x + dx1;
-    let py = y + dy1;
-    let qx = px + dx2;
-    let qy = py + dy2;
-    let rx = qx + dx3;
-    let ry = qy + dy3;
-    if !finite_point(px, py) {
-        return not_drawn(x, y);
+    let p = Point {
+        x: x + deltas.first.x,
+        y: y + deltas.first.y,
+    };
+    let q = Point {
+        x: p.x + deltas.second.x,
+        y: p.y + deltas.second.y,
+    };
+    let r = Point {
+        x: q.x + deltas.third.x,
+        y: q.y + deltas.third.y,
+    };
+    if !finite_point(p) || !finite_point(q) || !finite_point(r) {
+        return None;
     }
-    if !finite_point(qx, qy) {
-        return not_drawn(x, y);
+    match store_curve(p, q, r, k, cmds) {
+        Ok(()) => Some(r),
+        Err(_) => None,
     }
-    if !finite_point(rx, ry) {
-        return not_drawn(x, y);
-    }
-    if store_curve(px, py, qx, qy, rx, ry, k, cmds) {
-        return Drawn {
-            x: rx,
-            y: ry,
-            done: true,
-        };
-    }
-    not_drawn(x, y)
 }
 
 // An entry of one point: a move or a line.
-pub(crate) fn enter_point(kind: u64, x: f64, y: f64, st: St, cmds: &mut [u64]) -> Ran
+pub(crate) fn enter_point(kind: u64, p: Point, st: St, cmds: &mut [u64]) -> Ran
     requires entries_in_bounds { entry_words * st.entries ≤ length cmds.old }
     requires kind_nonzero { (0 < kind) × (kind < 3) }
-    requires t { T (finite x) × T (finite y) }
+    requires t { T (is_finite p) }
     ensures meets { (m : Mem) (s : State.State) (room : ℕ) → Holds st (with_cmds cmds.old m) s →
-        Meets result (with_cmds cmds.new m) (Run.enter (within room (length cmds.old)) (point_command kind (point_at x y)) s) }
+        Meets result (with_cmds cmds.new m) (Run.enter (within room (length cmds.old)) (point_command kind p) s) }
     ensures plain { Plain st result.st }
     ensures entered { Small.Entered st result.st (length cmds.old) }
 {
     let k = st.entries;
-    if store_point(kind, x, y, k, cmds) {
-        let mut s = st;
-        s.entries = k + 1;
-        return made(s, 0);
+    match store_point(kind, p, k, cmds) {
+        Ok(()) => {
+            let mut s = st;
+            s.entries = k + 1;
+            made(s, 0)
+        }
+        Err(refusal) => made(st, refusal.number()),
     }
-    made(st, 17)
 }
 
 // A curve through p to q and r.
-pub(crate) fn enter_curve(
-    px: f64,
-    py: f64,
-    qx: f64,
-    qy: f64,
-    rx: f64,
-    ry: f64,
-    st: St,
-    cmds: &mut [u64],
-) -> Ran
+pub(crate) fn enter_curve(p: Point, q: Point, r: Point, st: St, cmds: &mut [u64]) -> Ran
     requires entries_in_bounds { entry_words * st.entries ≤ length cmds.old }
-    requires t { T (is_finite (point_at px py)) × (T (is_finite (point_at qx qy)) × T (is_finite (point_at rx ry))) }
+    requires t { T (is_finite p) × (T (is_finite q) × T (is_finite r)) }
     ensures meets { (m : Mem) (s : State.State) (room : ℕ) → Holds st (with_cmds cmds.old m) s →
-        Meets result (with_cmds cmds.new m) (Run.enter (within room (length cmds.old)) (Outline.curve (point_at px py) (point_at qx qy) (point_at rx ry)) s) }
+        Meets result (with_cmds cmds.new m) (Run.enter (within room (length cmds.old)) (Outline.curve p q r) s) }
     ensures plain { Plain st result.st }
 {
     let k = st.entries;
-    if store_curve(px, py, qx, qy, rx, ry, k, cmds) {
-        let mut s = st;
-        s.entries = k + 1;
-        return made(s, 0);
+    match store_curve(p, q, r, k, cmds) {
+        Ok(()) => {
+            let mut s = st;
+            s.entries = k + 1;
+            made(s, 0)
+        }
+        Err(refusal) => made(st, refusal.number()),
     }
-    made(st, 17)
 }
 
 // A point's coordinates as words.
@@ -254,12 +231,8 @@ pub(crate) fn list_flex(height: f64, st: St, cells: &[f64; 17], cmds: &mut [u64]
     )
 }
 
-pub(crate) fn finite_point(x: f64, y: f64) -> bool
-    ensures { result ≡ is_finite (point_at x y) }
+pub(crate) fn finite_point(p: Point) -> bool
+    ensures { result ≡ is_finite p }
 {
-    if binary64::is_finite(x) {
-        binary64::is_finite(y)
-    } else {
-        false
-    }
+    binary64::is_finite(p.x) && binary64::is_finite(p.y)
 }

@@ -21,10 +21,10 @@ mod states;
 mod stems;
 mod subroutines;
 
+use geometry::Point;
 use outline::Stem;
 use run::run;
-use states::made;
-use stems::clear;
+use states::{flow_of, made};
 
 // How a charstring and its subroutines are read.
 #[derive(Clone, Copy)]
@@ -106,7 +106,8 @@ struct Tok {
     op: u16,
 }
 
-// A number of a charstring, and where the bytes after it begin.
+// A number of a charstring, and where the bytes after it begin. `cut` beside it and no Option: `token` tests it with the depth
+// in one branch, and a branch for each refusal is slower (docs/DECISIONS.md, The strict reading).
 #[derive(Clone, Copy)]
 struct Num {
     x: f64,
@@ -115,48 +116,19 @@ struct Num {
     cut: bool,
 }
 
-// The delta of a move or a line, and whether there were operands enough.
-#[derive(Clone, Copy)]
-struct Delta {
-    dx: f64,
-    dy: f64,
-    enough: bool,
-}
-
-// The three deltas of a curve, likewise.
+// The three deltas of a curve, each from the point before it.
 #[derive(Clone, Copy)]
 struct Deltas {
-    dx1: f64,
-    dy1: f64,
-    dx2: f64,
-    dy2: f64,
-    dx3: f64,
-    dy3: f64,
-    enough: bool,
-}
-
-// Whether an entry was listed, and the point after it.
-#[derive(Clone, Copy)]
-struct Drawn {
-    x: f64,
-    y: f64,
-    done: bool,
+    first: Point,
+    second: Point,
+    third: Point,
 }
 
 // A call about to be made: which body.
 #[derive(Clone, Copy)]
 struct Called {
     st: St,
-    flow: u8,
     index: usize,
-}
-
-// The place and the key at which a charstring's plain bytes begin.
-#[derive(Clone, Copy)]
-struct Begun {
-    at: usize,
-    key: u16,
-    encrypted: bool,
 }
 
 // What a run leaves: document 01's number, and where it is 0 the width, the bytes run, and how many
@@ -170,14 +142,16 @@ pub struct Interpreted {
     pub stems: usize,
 }
 
-// Every record becomes the zero record.
+// Every record becomes the zero record: vertical, 0, 0. Stored as a literal: LLVM then writes its fields and no padding.
 pub fn wipe(stems: &mut [Stem])
     ensures { stems.new ≡ replicate (length stems.old) Outline.zero_stem }
 {
-    let mut i = 0;
-    while i < stems.len() {
-        clear(stems, i);
-        i += 1;
+    for stem in stems.iter_mut() {
+        *stem = Stem {
+            horizontal: false,
+            pos: 0.0,
+            width: 0.0,
+        };
     }
 }
 
@@ -209,7 +183,7 @@ fn start_run(charstring: &[u8], bank: &[u8]) -> Ran
     ensures { result ≡ Small.ran_of (zero_st (length charstring.now)) (start_flow charstring.now bank.now) }
 {
     let st = zero_state(charstring.len());
-    made(st, bank::refused_before(bank, charstring.len()))
+    made(st, flow_of(bank::refused_before(bank, charstring.len())))
 }
 
 // The number that a run's flow stands for.

@@ -1,4 +1,5 @@
-// Operators, by T1's names: a byte, or 256 and the byte after a 12.
+// Operators, by T1's names: a byte, or 256 and the byte after a 12. Codes, as they are read: an enum would need a table from
+// each code to its variant, which says no more.
 pub(crate) const HSTEM: u16 = 1;
 
 pub(crate) const VSTEM: u16 = 3;

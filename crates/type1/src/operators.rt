@@ -5,7 +5,7 @@ ghost use Rattle.std.specs.Float.Ieee.Scale.{finite};
 ghost use Rattle.type1.specs.State as State;
 ghost use Rattle.type1.specs.Operator as Op;
 ghost use Rattle.type1.specs.Run as Run;
-ghost use Rattle.type1.specs.Run.{within, limits_of, point_at, operate};
+ghost use Rattle.type1.specs.Run.{within, limits_of, operate};
 ghost use Rattle.type1.specs.Memory.{Mem, Bounds, Holds, Meets, operator_of, with_ops, with_ps, with_cells, with_hints, with_path, after, Told, Takes, Hinted};
 ghost use Rattle.type1.specs.Deltas.{axes_of, tangents_of, by_point, by_curve, stem_from};
 ghost use Rattle.type1.specs.Small as Small;
@@ -17,11 +17,13 @@ use crate::opcodes::{
 };
 use crate::operands::{curve_deltas, point_delta};
 use crate::paths::{curve_by, line_by, move_by, set_point};
-use crate::states::{at_point, cleared, copied, kept, made};
+use crate::states::{at_point, cleared, copied, flow_of, kept, made};
 use crate::stems::add_stem;
 use crate::subroutines::callothersubr;
 use crate::{BEARING_X, BEARING_Y, Ran, Reading, St, WIDTH};
+use geometry::Point;
 use outline::Stem;
+use refusal::Refusal;
 
 // rmoveto, hmoveto, vmoveto
 fn move_operator(
@@ -39,11 +41,10 @@ fn move_operator(
 {
     let held = &ops[..];
     let n = st.operands;
-    let d = point_delta(op, &held[0..n]);
-    if !d.enough {
-        return made(st, 7);
+    match point_delta(op, &held[0..n]) {
+        Some(delta) => move_by(delta, same, room, cleared(st), cmds),
+        None => made(st, 7),
     }
-    move_by(d.dx, d.dy, same, room, cleared(st), cmds)
 }
 
 // rlineto, hlineto, vlineto
@@ -63,11 +64,10 @@ fn line_operator(
 {
     let held = &ops[..];
     let n = st.operands;
-    let d = point_delta(op, &held[0..n]);
-    if !d.enough {
-        return made(st, 7);
+    match point_delta(op, &held[0..n]) {
+        Some(delta) => line_by(delta, same, room, cleared(st), cmds),
+        None => made(st, 7),
     }
-    line_by(d.dx, d.dy, same, room, cleared(st), cmds)
 }
 
 // rrcurveto, vhcurveto, hvcurveto
@@ -87,22 +87,10 @@ fn curve_operator(
 {
     let held = &ops[..];
     let n = st.operands;
-    let d = curve_deltas(op, &held[0..n]);
-    if !d.enough {
-        return made(st, 7);
+    match curve_deltas(op, &held[0..n]) {
+        Some(deltas) => curve_by(deltas, same, room, cleared(st), cmds),
+        None => made(st, 7),
     }
-    curve_by(
-        d.dx1,
-        d.dy1,
-        d.dx2,
-        d.dy2,
-        d.dx3,
-        d.dy3,
-        same,
-        room,
-        cleared(st),
-        cmds,
-    )
 }
 
 // 12 33
@@ -118,7 +106,11 @@ fn setcurrentpoint(same: bool, room: usize, st: St, ops: &[f64; 256], cmds: &mut
     if n < 2 {
         return made(st, 7);
     }
-    set_point(ops[n - 2], ops[n - 1], same, room, cleared(st), cmds)
+    let p = Point {
+        x: ops[n - 2],
+        y: ops[n - 1],
+    };
+    set_point(p, same, room, cleared(st), cmds)
 }
 
 // hstem and vstem: a stem, counted from a side bearing.
@@ -200,7 +192,11 @@ fn hsbw(st: St, ops: &[f64; 256], cells: &mut [f64; 17]) -> Ran
     if n < 2 {
         return made(st, 7);
     }
-    side_bearing(ops[n - 2], 0.0, ops[n - 1], cleared(st), cells)
+    let p = Point {
+        x: ops[n - 2],
+        y: 0.0,
+    };
+    side_bearing(p, ops[n - 1], cleared(st), cells)
 }
 
 // 12 7
@@ -214,18 +210,22 @@ fn sbw(st: St, ops: &[f64; 256], cells: &mut [f64; 17]) -> Ran
     if n < 4 {
         return made(st, 7);
     }
-    side_bearing(ops[n - 4], ops[n - 3], ops[n - 2], cleared(st), cells)
+    let p = Point {
+        x: ops[n - 4],
+        y: ops[n - 3],
+    };
+    side_bearing(p, ops[n - 2], cleared(st), cells)
 }
 
-fn side_bearing(x: f64, y: f64, width: f64, st: St, cells: &mut [f64; 17]) -> Ran
+fn side_bearing(p: Point, width: f64, st: St, cells: &mut [f64; 17]) -> Ran
     ensures meets { (m : Mem) (s : State.State) → Holds st (with_cells cells.old m) s →
-        Meets result (with_cells cells.new m) (Run.going (State.with_bearing (point_at x y) width s)) }
+        Meets result (with_cells cells.new m) (Run.going (State.with_bearing p width s)) }
     ensures groups_value { result.st.groups ≡ st.groups }
 {
-    cells[BEARING_X] = x;
-    cells[BEARING_Y] = y;
+    cells[BEARING_X] = p.x;
+    cells[BEARING_Y] = p.y;
     cells[WIDTH] = width;
-    made(at_point(x, y, st), 0)
+    made(at_point(p, st), 0)
 }
 
 // 9
@@ -272,9 +272,9 @@ fn pop(st: St, ops: &mut [f64; 256], ps: &[f64; 256], reading: Reading) -> Ran
 {
     let p = st.postscript;
     let n = st.operands;
-    let none = operand_stack::number_if(p == 0, 11);
-    let over = operand_stack::refusal(n, reading.strict);
-    let f = operand_stack::first(none, over);
+    let none = operand_stack::refuse_if(p == 0, Refusal::NothingToPop);
+    let over = operand_stack::room(n, reading.strict);
+    let f = flow_of(operand_stack::first(none, over));
     if f != 0 {
         return made(st, f);
     }
@@ -311,63 +311,25 @@ pub(crate) fn plain(
     ensures space { Small.Space st result.st room }
 {
     match op {
-        HSTEM => {
-            return one_stem(true, cells[BEARING_Y], st, ops, edges, across);
-        }
-        VSTEM => {
-            return one_stem(false, cells[BEARING_X], st, ops, edges, across);
-        }
-        RMOVETO | HMOVETO | VMOVETO => {
-            return kept(move_operator(op, same, room, st, ops, cmds));
-        }
-        RLINETO | HLINETO | VLINETO => {
-            return kept(line_operator(op, same, room, st, ops, cmds));
-        }
-        RRCURVETO | VHCURVETO | HVCURVETO => {
-            return kept(curve_operator(op, same, room, st, ops, cmds));
-        }
+        HSTEM => one_stem(true, cells[BEARING_Y], st, ops, edges, across),
+        VSTEM => one_stem(false, cells[BEARING_X], st, ops, edges, across),
+        RMOVETO | HMOVETO | VMOVETO => kept(move_operator(op, same, room, st, ops, cmds)),
+        RLINETO | HLINETO | VLINETO => kept(line_operator(op, same, room, st, ops, cmds)),
+        RRCURVETO | VHCURVETO | HVCURVETO => kept(curve_operator(op, same, room, st, ops, cmds)),
         // `token` does it as it reads, so `op` is never given it
-        CLOSEPATH => {
-            return closepath(st);
-        }
-        RETURN => {
-            return made(st, 1);
-        }
-        HSBW => {
-            return hsbw(st, ops, cells);
-        }
-        ENDCHAR => {
-            return made(cleared(st), 2);
-        }
-        DOTSECTION => {
-            return made(cleared(st), 0);
-        }
-        VSTEM3 => {
-            return kept(stems3(false, cells[BEARING_X], copied(st), ops, edges, across));
-        }
-        HSTEM3 => {
-            return kept(stems3(true, cells[BEARING_Y], copied(st), ops, edges, across));
-        }
-        SEAC => {
-            return made(st, 12);
-        }
-        SBW => {
-            return sbw(st, ops, cells);
-        }
-        DIV => {
-            return div(st, ops);
-        }
-        CALLOTHERSUBR => {
-            return kept(callothersubr(same, room, st, ops, ps, cells, cmds));
-        }
-        POP => {
-            return pop(st, ops, ps, reading);
-        }
-        SETCURRENTPOINT => {
-            return kept(setcurrentpoint(same, room, st, ops, cmds));
-        }
-        _ => {
-            return made(st, 6);
-        }
+        CLOSEPATH => closepath(st),
+        RETURN => made(st, 1),
+        HSBW => hsbw(st, ops, cells),
+        ENDCHAR => made(cleared(st), 2),
+        DOTSECTION => made(cleared(st), 0),
+        VSTEM3 => kept(stems3(false, cells[BEARING_X], copied(st), ops, edges, across)),
+        HSTEM3 => kept(stems3(true, cells[BEARING_Y], copied(st), ops, edges, across)),
+        SEAC => made(st, 12),
+        SBW => sbw(st, ops, cells),
+        DIV => div(st, ops),
+        CALLOTHERSUBR => kept(callothersubr(same, room, st, ops, ps, cells, cmds)),
+        POP => pop(st, ops, ps, reading),
+        SETCURRENTPOINT => kept(setcurrentpoint(same, room, st, ops, cmds)),
+        _ => made(st, 6),
     }
 }

@@ -1,29 +1,16 @@
 // The bytes of a charstring and of its subroutines run: `run`, `op` and `call_body` call each other.
-ghost use Rattle.std.specs.Prelude.{◌≡◌, ◌<◌};
-ghost use Rattle.charstring.specs.Cursor.{start};
+ghost use Rattle.std.specs.Prelude.{◌<◌};
 ghost use Rattle.bank.specs.Bank.{Valid};
-ghost use Rattle.type1.specs.Reading.{cursor_of};
 ghost use Rattle.type1.specs.Cycle.{mem_of, Ready, op_d, run_d, MeetsFrom};
 
 use crate::bytes::token;
 use crate::opcodes::CALLSUBR;
 use crate::operators::plain;
 use crate::states::{made, stopped};
-use crate::stems::{is_last, keep_group, room};
+use crate::stems::{is_last, keep_group};
 use crate::subroutines::callsubr;
-use crate::{Begun, Ran, Reading, St};
+use crate::{Ran, Reading, St};
 use outline::Stem;
-
-fn begin(code: &[u8], reading: Reading) -> Begun
-    ensures { cursor_of result.at result.key result.encrypted ≡ start reading.len_iv code.now }
-{
-    let c = charstring::Cursor::new(code, reading.len_iv);
-    Begun {
-        at: c.at,
-        key: c.key,
-        encrypted: c.encrypted,
-    }
-}
 
 // 10: the body that the top operand names runs, one level deeper.
 #[cycle(call_body_op_run)]
@@ -45,11 +32,10 @@ fn call_body(
         (op_d bank.now reading levels 10 st
         (mem_of ops.old ps.old cells.old edges.old across.old cmds.old stems.old)) }
 {
-    let c = callsubr(bank, st, ops);
-    let f = c.flow;
-    if f != 0 {
-        return made(c.st, f);
-    }
+    let c = match callsubr(bank, st, ops) {
+        Ok(c) => c,
+        Err(refusal) => return made(st, refusal.number()),
+    };
     if levels == 0 {
         return made(c.st, 4);
     }
@@ -95,17 +81,13 @@ fn op(
             bank, reading, levels, st, ops, ps, cells, edges, across, cmds, stems,
         );
     }
-    let n = room(stems);
+    let n = stems.len();
     let same = is_last(st, edges, across, stems);
     let r = plain(
         op, same, n, st, ops, ps, cells, edges, across, cmds, reading,
     );
-    let s = r.st;
-    let g = s.groups;
-    let h = st.groups;
-    if g != h {
+    if r.st.groups != st.groups {
         keep_group(st.stems, st.hints, edges, across, stems);
-        return r;
     }
     r
 }
@@ -131,11 +113,12 @@ pub(crate) fn run(
         (run_d bank.now reading levels code.now st
         (mem_of ops.old ps.old cells.old edges.old across.old cmds.old stems.old)) }
 {
-    let b = begin(code, reading);
+    let b = charstring::Cursor::new(code, reading.len_iv);
     let e = b.encrypted;
     let mut i = b.at;
     let mut key = b.key;
     let mut s = st;
+    // Each turn goes on by the bytes of a token.
     while i < code.len() {
         let t = token(code, i, key, e, s, ops, cmds, reading);
         s = t.st;

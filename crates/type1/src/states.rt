@@ -1,10 +1,13 @@
 // States, and a state with what follows it.
+ghost use Rattle.refusal.specs.Refusal.{number_in};
 ghost use Rattle.std.specs.Prelude.{◌≡◌, eqb};
 ghost use Rattle.outline.specs.Outline.{pick};
 ghost use Rattle.type1.specs.Reading.{with_count};
 ghost use Rattle.type1.specs.Small as Small;
 
 use crate::{Ran, St};
+use geometry::Point;
+use refusal::Refusal;
 
 // The same state, field by field. LLVM then keeps it in registers: copied as a whole, or lent to a call that is not inlined, it would stay in memory.
 pub(crate) fn copied(t: St) -> St
@@ -26,6 +29,16 @@ pub(crate) fn copied(t: St) -> St
         flexing: t.flexing,
         changed: t.changed,
         divided: t.divided,
+    }
+}
+
+// The flow after a step that may be refused.
+pub(crate) fn flow_of(r: Result<(), Refusal>) -> u8
+    ensures { result ≡ number_in r }
+{
+    match r {
+        Ok(()) => 0,
+        Err(refusal) => refusal.number(),
     }
 }
 
@@ -65,12 +78,12 @@ pub(crate) fn cleared(st: St) -> St
     s
 }
 
-pub(crate) fn at_point(x: f64, y: f64, st: St) -> St
-    ensures { result ≡ Small.with_xY x y st }
+pub(crate) fn at_point(p: Point, st: St) -> St
+    ensures { result ≡ Small.with_xY p.x p.y st }
 {
     let mut s = st;
-    s.x = x;
-    s.y = y;
+    s.x = p.x;
+    s.y = p.y;
     s
 }
 

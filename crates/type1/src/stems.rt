@@ -1,5 +1,5 @@
 // The stems in force, groups, and the stem store (document 01, Hints). The functions that hold the stem store are few and thin.
-ghost use Rattle.std.specs.Prelude.{◌≡◌, false, not, ◌&&◌, ℕ, ◌+◌, ◌-◌, ◌≤◌, ◌<◌, length, take, drop, set, ltb};
+ghost use Rattle.std.specs.Prelude.{◌≡◌, false, ◌&&◌, ℕ, ◌+◌, ◌-◌, ◌≤◌, ◌<◌, length, take, drop, ltb};
 ghost use Rattle.std.proofs.Math.Seq.{paste};
 ghost use Rattle.type1.specs.State as State;
 ghost use Rattle.outline.specs.Outline as Outline;
@@ -9,7 +9,7 @@ ghost use Rattle.type1.specs.Run.{within};
 ghost use Rattle.type1.specs.Memory.{Mem, stems_at, Bounds, Holds, Meets, with_cmds, with_hints, after, Path, Step};
 ghost use Rattle.type1.specs.Small as Small;
 
-use crate::states::made;
+use crate::states::{flow_of, made};
 use crate::{Ran, St};
 use outline::{ENTRY, GROUP, Stem};
 
@@ -60,7 +60,7 @@ fn new_group(room: usize, st: St, cmds: &mut [u64]) -> Ran
     let n = st.hints;
     let used = st.stems;
     let k = st.entries;
-    let f = hints::new_group(st.groups, room, used, n, cmds.len(), k);
+    let f = flow_of(hints::new_group(st.groups, room, used, n, cmds.len(), k));
     if f != 0 {
         return made(st, f);
     }
@@ -96,32 +96,6 @@ pub(crate) fn commit(same: bool, room: usize, st: St, cmds: &mut [u64]) -> Ran
     new_group(room, st, cmds)
 }
 
-// How many records there are.
-pub(crate) fn room(stems: &mut [Stem]) -> usize
-    ensures { (result ≡ length stems.old) × (stems.new ≡ stems.old) }
-{
-    stems.len()
-}
-
-fn put(stems: &mut [Stem], i: usize, v: Stem)
-    requires { i < length stems.old }
-    ensures { stems.new ≡ set stems.old i v }
-{
-    stems[i] = v;
-}
-
-// The record at a place becomes the zero record: vertical, 0, 0. Stored as a literal: LLVM then writes its fields and no padding.
-pub(crate) fn clear(stems: &mut [Stem], i: usize)
-    requires { i < length stems.old }
-    ensures { stems.new ≡ set stems.old i Outline.zero_stem }
-{
-    stems[i] = Stem {
-        horizontal: false,
-        pos: 0.0,
-        width: 0.0,
-    };
-}
-
 // The stem in force at a place.
 fn stem_at(i: usize, edges: &[f64; 512], across: &[bool; 256]) -> Stem
     requires { i < 256 }
@@ -134,62 +108,33 @@ fn stem_at(i: usize, edges: &[f64; 512], across: &[bool; 256]) -> Stem
     }
 }
 
-fn sum(a: usize, b: usize) -> usize
-    requires { a + b < 18446744073709551616 }
-    ensures { result ≡ a + b }
-{
-    a + b
-}
-
-// Whether a record differs from the stem in force at a place.
-fn differs_at(v: Stem, i: usize, edges: &[f64; 512], across: &[bool; 256]) -> bool
-    requires { i < 256 }
-    ensures { result ≡ not (Outline.same_stem v (stem_at edges.now across.now i)) }
-{
-    !outline::same_stem(v, stem_at(i, edges, across))
-}
-
 // Whether n records are the stems in force, in the same order.
 fn all_same(
     first: usize,
     n: usize,
     edges: &[f64; 512],
     across: &[bool; 256],
-    stems: &mut [Stem],
+    stems: &[Stem],
 ) -> bool
-    requires { (n ≤ 256) × (first + n ≤ length stems.old) }
-    ensures { (result ≡ Outline.same_stems (take n (drop first stems.old)) (stems_at 0 n edges.now across.now))
-        × (stems.new ≡ stems.old) }
+    requires { (n ≤ 256) × (first + n ≤ length stems.now) }
+    ensures { result ≡ Outline.same_stems (take n (drop first stems.now)) (stems_at 0 n edges.now across.now) }
 {
-    let mut i = 0;
-    while i < n {
-        if differs_at(outline::stem_from(stems, sum(first, i)), i, edges, across) {
+    for i in 0..n {
+        if !outline::same_stem(stems[first + i], stem_at(i, edges, across)) {
             return false;
         }
-        i += 1;
     }
     true
 }
 
-// Where the last group's records begin.
-fn last_from(st: St) -> usize
-    requires { st.last ≤ st.stems }
-    ensures { result ≡ st.stems - st.last }
-{
-    st.stems - st.last
-}
-
 // Whether the stems in force changed and are the last group's, in the same order. With no group they are not.
-pub(crate) fn is_last(st: St, edges: &[f64; 512], across: &[bool; 256], stems: &mut [Stem]) -> bool
-    requires { (st.hints ≤ 256) × ((st.last ≤ st.stems) × (st.stems ≤ length stems.old)) }
-    ensures { (result ≡ (st.changed && (ltb 0 st.groups &&
-        Outline.same_stems (take st.last (drop (st.stems - st.last) stems.old)) (stems_at 0 st.hints edges.now across.now))))
-        × (stems.new ≡ stems.old) }
+pub(crate) fn is_last(st: St, edges: &[f64; 512], across: &[bool; 256], stems: &[Stem]) -> bool
+    requires { (st.hints ≤ 256) × ((st.last ≤ st.stems) × (st.stems ≤ length stems.now)) }
+    ensures { result ≡ (st.changed && (ltb 0 st.groups &&
+        Outline.same_stems (take st.last (drop (st.stems - st.last) stems.now)) (stems_at 0 st.hints edges.now across.now))) }
 {
-    if hints::may_be_last(st.changed, st.groups, st.last, st.hints) {
-        return all_same(last_from(st), st.hints, edges, across, stems);
-    }
-    false
+    hints::may_be_last(st.changed, st.groups, st.last, st.hints)
+        && all_same(st.stems - st.last, st.hints, edges, across, stems)
 }
 
 // The stems in force are stored as a group's records.
@@ -203,9 +148,7 @@ pub(crate) fn keep_group(
     requires { (n ≤ 256) × (used + n ≤ length stems.old) }
     ensures { stems.new ≡ paste stems.old used (stems_at 0 n edges.now across.now) n }
 {
-    let mut i = 0;
-    while i < n {
-        put(stems, sum(used, i), stem_at(i, edges, across));
-        i += 1;
+    for i in 0..n {
+        stems[used + i] = stem_at(i, edges, across);
     }
 }

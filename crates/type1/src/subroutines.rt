@@ -13,9 +13,10 @@ ghost use Rattle.type1.specs.Reading.{Calls};
 ghost use Rattle.type1.specs.Small as Small;
 
 use crate::entries::list_flex;
-use crate::states::made;
+use crate::states::{flow_of, made};
 use crate::stems::commit;
 use crate::{Called, Ran, St};
+use refusal::Refusal;
 
 // The operands from one place to another are left for `pop`, the first popped first.
 fn hand_back(from: usize, to: usize, st: St, ops: &[f64; 256], ps: &mut [f64; 256]) -> Ran
@@ -26,7 +27,7 @@ fn hand_back(from: usize, to: usize, st: St, ops: &[f64; 256], ps: &mut [f64; 25
 {
     let p = st.postscript;
     let held = &ops[..];
-    let f = othersubrs::hand_back(&held[from..to], p, ps);
+    let f = flow_of(othersubrs::hand_back(&held[from..to], p, ps));
     if f != 0 {
         return made(st, f);
     }
@@ -124,11 +125,10 @@ pub(crate) fn callothersubr(
         return made(st, 7);
     }
     let left = n - 2;
-    let a = othersubrs::arguments(n, ops[left]);
-    if a.number != 0 {
-        return made(st, a.number);
-    }
-    let m = a.count;
+    let m = match othersubrs::arguments(n, ops[left]) {
+        Ok(count) => count,
+        Err(refusal) => return made(st, refusal.number()),
+    };
     let from = left - m;
     let mut s = st;
     s.operands = from;
@@ -156,33 +156,21 @@ pub(crate) fn callothersubr(
 }
 
 // 10: the body that the top operand names, its encrypted bytes counted.
-pub(crate) fn callsubr(bank: &[u8], st: St, ops: &[f64; 256]) -> Called
+pub(crate) fn callsubr(bank: &[u8], st: St, ops: &[f64; 256]) -> Result<Called, Refusal>
     requires { Valid bank.now × ((st.operands ≤ 256) × (st.ran ≤ max_charstring_bytes)) }
     ensures { (m : Mem) (s : State.State) (reading : Reading) → Holds st (with_ops ops.now m) s →
         Calls bank.now reading (with_ops ops.now m) s result }
 {
     let n = st.operands;
     if n == 0 {
-        return Called {
-            st,
-            flow: 7,
-            index: 0,
-        };
+        return Err(Refusal::MissingOperands);
     }
-    let c = bank::call(bank, ops[n - 1], st.ran);
-    if c.number != 0 {
-        return Called {
-            st,
-            flow: c.number,
-            index: 0,
-        };
-    }
+    let c = bank::call(bank, ops[n - 1], st.ran)?;
     let mut s = st;
     s.operands = n - 1;
     s.ran = c.ran;
-    Called {
+    Ok(Called {
         st: s,
-        flow: 0,
         index: c.index,
-    }
+    })
 }

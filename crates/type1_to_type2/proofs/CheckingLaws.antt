@@ -1,13 +1,13 @@
 -- Laws: the entries checked one after the other; what is planned. Assumes nothing.
 use mathlib.Core.Path.{◌≡◌, refl, sym, ◌∙◌, ap, ap₂, subst}
-use Prim.Native.Nat.{ℕ, ◌+◌, ◌*◌, ◌≤◌}
+use Prim.Native.Nat.{ℕ, zero, suc, ◌+◌, ◌*◌, ◌≤◌, ◌<◌}
 use native.Mathlib.Omega.{arith}
 use native.Mathlib.Numerals.{add-one}
 use mathlib.Core.Bool.{Bool, true, false, ◌&&◌}
 use mathlib.Core.List.{List, [], ◌∷◌, ◌++◌}
 use lib.ListN.{get_or}
-use lib.Dec.{eqb}
-use borrow.Author.Tests.{eq-eqb, ne_eqb}
+use lib.Dec.{eqb, ltb}
+use borrow.Author.Tests.{eq-eqb, ne_eqb, ltb-true, ltb-false}
 use lib.Ieee.{Float}
 use lib.Ieee.Scale.{finite}
 use Rattle.geometry.specs.declared.Point.{Point}
@@ -20,18 +20,21 @@ use Rattle.type1.specs.Sound.{All, OfPoint, OfCommand}
 use Rattle.type1_to_type2.specs.declared.Collected.{Collected}
 use Rattle.type1_to_type2.specs.declared.Plan.{Plan}
 use Rattle.type2.specs.Bools.{yes}
-use Rattle.folding.specs.Folding.{finite_matrix, folded_point, folded_command, folded_list, folded_width, finite_point, finite_command, finite_list, refusal}
+use Rattle.folding.specs.Folding.{finite_matrix, folded_point, folded_command, folded_list, folded_width, finite_point, finite_command, finite_list}
 use Rattle.type1_to_type2.specs.Table.{table_stems}
 use Rattle.type1_to_type2.specs.Collecting.{Counted, dropped_counts, needs_masks}
-use Rattle.type1_to_type2.specs.declared.Writer.{Writer}
+use Rattle.std.specs.Prelude.{Result, Ok, Err, is_ok}
+use Rattle.refusal.specs.declared.Refusal.{Refusal}
+use Rattle.refusal.specs.declared.Refusal.TheVariants.{NotFinite}
+use mathlib.Core.Bool.{cond, true≢false, and-false}
 use Rattle.outline.specs.declared.Stem.{Stem}
 use Rattle.type1_to_type2.specs.Emission.{Cmd, program}
 use Rattle.type1_to_type2.specs.Writing as Writing
 use Rattle.type1_to_type2.specs.Writing.{Written, refused, write}
 use Rattle.type1_to_type2.specs.Convert.{Glyph, glyph_of, writes}
-use Rattle.type1_to_type2.specs.Streaming.{resumed, resumed_all, Ends}
+use Rattle.type1_to_type2.specs.Streaming.{Ends}
 use Rattle.type1_to_type2.specs.Passes.{BothTables, both}
-use Rattle.type1_to_type2.specs.Entry.{group_count, first_number, Planned, tables, Declares, opens, Opens, settles, Answers}
+use Rattle.type1_to_type2.specs.Entry.{group_count, first_number, Planned, settles, Gives}
 use Rattle.type1_to_type2.proofs.EntryLaws.{list_end}
 use Rattle.type1_to_type2.proofs.Ordering.{dropped_tables, declared-across, declared-upright, declared_masked}
 
@@ -72,6 +75,16 @@ module _ (fold : Fold) (c : List ℕ) where
       ed ∙ ap₂ ◌&&◌ ef eb ∙ sym (finite_end (folded_list fold (drawn_in e c)) (folded_list fold (command_in c e))) ∙ ap finite_list (sym (list_end fold (drawn_in e c) (command_in c e)))
       ∙ ap (λ (k : ℕ). finite_list (folded_list fold (drawn_in k c))) (sym (add-one e))
 
+  -- one that is not finite
+  pub points_false : (e n : ℕ) → e < n → finite_list (folded_list fold (command_in c e)) ≡ false → false ≡ finite_list (folded_list fold (drawn_in n c))
+  unfolding drawn_in
+  points_false e zero h f = absurd (let z : ⊥ = omega (arith, h) in z)
+  points_false e (suc n) h f = go (ltb e n) refl (λ l. points_false e n l f) ∙ sym (finite_end (folded_list fold (drawn_in n c)) (folded_list fold (command_in c n))) ∙ ap finite_list (sym (list_end fold (drawn_in n c) (command_in c n)))
+    where
+      go : (b : Bool) → ltb e n ≡ b → (e < n → false ≡ finite_list (folded_list fold (drawn_in n c))) → false ≡ (finite_list (folded_list fold (drawn_in n c)) && finite_list (folded_list fold (command_in c n)))
+      go true q r = ap (λ (b : Bool). b && finite_list (folded_list fold (command_in c n))) (r (ltb-true e n q))
+      go false q r = let z : e ≡ n = (let l = ltb-false e n q in omega (arith, h, l)) in sym (ap (λ (b : Bool). finite_list (folded_list fold (drawn_in n c)) && b) (sym (ap (λ (i : ℕ). finite_list (folded_list fold (command_in c i))) z) ∙ f) ∙ and-false (finite_list (folded_list fold (drawn_in n c))))
+
 pub groups_none : (c : List ℕ) → 0 ≡ group_count 0 c
 unfolding group_count
 groups_none c = refl
@@ -79,6 +92,9 @@ groups_none c = refl
 pub groups_more : (c : List ℕ) (e g k : ℕ) → g ≡ group_count e c → k ≡ pick (eqb (word c e 0) 5) 1 0 → g + k ≡ group_count (e + 1) c
 unfolding group_count
 groups_more c e g k eg ek = ap₂ ◌+◌ eg ek ∙ ap (λ (n : ℕ). group_count n c) (sym (add-one e))
+
+pub groups_same : (c : List ℕ) (e g : ℕ) → g ≡ group_count e c → ◌≡◌ {A = ℕ} 0 (pick (eqb (word c e 0) 5) 1 0) → g ≡ group_count (e + 1) c
+groups_same c e g eg ek = let z = groups_more c e g 0 eg ek in omega (arith, z)
 
 pub points_all : (fold : Fold) (c : List ℕ) (n e : ℕ) (f : Bool) → e ≡ n → f ≡ finite_list (folded_list fold (drawn_in e c)) → f ≡ finite_list (folded_list fold (drawn_in n c))
 points_all fold c n e f q ef = ef ∙ ap (λ (k : ℕ). finite_list (folded_list fold (drawn_in k c))) q
@@ -102,58 +118,44 @@ matrix_fine m b n e t = sym (ap (λ (x : Bool). pick x n 1) (sym e ∙ t))
 pub matrix_not : (m : Matrix) (b : Bool) (n : ℕ) → b ≡ finite_matrix m → b ≡ false → 1 ≡ first_number m n
 matrix_not m b n e t = sym (ap (λ (x : Bool). pick x n 1) (sym e ∙ t))
 
-pub refused_already : (n : ℕ) (b : Bool) → (n ≡ 0 → ⊥) → n ≡ pick (eqb n 0) (pick b 0 14) n
-refused_already n b h = sym (ap (λ (x : Bool). pick x (pick b 0 14) n) (ne_eqb n 0 h))
-
--- n is 0, f the test of the width, s of the stems, d of both
-module _ (n : ℕ) (f s d : Bool) (w : Float) (h : n ≡ 0) (ef : f ≡ finite w) (ed : d ≡ (f && s)) where
-  zero_now : (k : ℕ) → k ≡ pick d 0 14 → k ≡ pick (eqb n 0) (pick (finite w && s) 0 14) n
-  zero_now k ek = ek ∙ ap (λ (x : Bool). pick x 0 14) (ed ∙ ap (λ (x : Bool). x && s) ef) ∙ sym (ap (λ (x : ℕ). pick (eqb x 0) (pick (finite w && s) 0 14) x) h)
-
-  pub all_fine_lem : d ≡ true → 0 ≡ pick (eqb n 0) (pick (finite w && s) 0 14) n
-  all_fine_lem t = zero_now 0 (sym (ap (λ (x : Bool). pick x 0 14) t))
-
-  pub not_fine : d ≡ false → 14 ≡ pick (eqb n 0) (pick (finite w && s) 0 14) n
-  not_fine t = zero_now 14 (sym (ap (λ (x : Bool). pick x 0 14) t))
-
-pub planned : (number : ℕ) (c d : Collected) (m : Matrix) (width w : Float) (n : ℕ) (b : Bool) → Counted c → w ≡ folded_width m width → (d ≡ dropped_counts c) × (d.across + d.upright ≤ 96)
-    → n ≡ pick (eqb number 0) (pick (finite w && c.finite) 0 14) number → b ≡ needs_masks d
-    → Planned number c m width (record { number = n; masked = b; across = d.across; upright = d.upright; width = w })
-planned number c d m width w n b few ew ed en eb = record {
-  number_is = en ∙ ap (λ (x : Float). pick (eqb number 0) (pick (finite x && c.finite) 0 14) number) ew;
+pub planned : (c d : Collected) (m : Matrix) (width w : Float) (f b : Bool) → Counted c → w ≡ folded_width m width → f ≡ finite w → f ≡ true → c.finite ≡ true → (d ≡ dropped_counts c) × (d.across + d.upright ≤ 96)
+    → b ≡ needs_masks d
+    → Planned c m width (record { masked = b; across = d.across; upright = d.upright; width = w })
+planned c d m width w f b few ew ef t u ed eb = record {
+  fine = ap₂ ◌&&◌ (ap finite (sym ew) ∙ sym ef ∙ t) u;
   width_is = ew;
   few = ed.1;
-  stems = λ gs ta tu C g f. λ i. record {
-    across = (declared-across gs c ta tu C few f ∙ sym (ap (λ (x : Collected). table_stems true x.across ta) ed.0)) i;
-    upright = (declared-upright gs c ta tu C few f ∙ sym (ap (λ (x : Collected). table_stems false x.upright tu) ed.0)) i;
-    masked = (declared_masked gs c ta tu C few f g ∙ sym (eb ∙ ap needs_masks ed.0)) i;
+  stems = λ gs ta tu C g. λ i. record {
+    across = (declared-across gs c ta tu C few u ∙ sym (ap (λ (x : Collected). table_stems true x.across ta) ed.0)) i;
+    upright = (declared-upright gs c ta tu C few u ∙ sym (ap (λ (x : Collected). table_stems false x.upright tu) ed.0)) i;
+    masked = (declared_masked gs c ta tu C few u g ∙ sym (eb ∙ ap needs_masks ed.0)) i;
   };
   order = λ l ta tu C. subst (λ (x : Collected). BothTables x.across x.upright ta tu) (sym ed.0) (dropped_tables c l ta tu C);
 }
 
--- ---- the program's beginning and end
-pub opened_refused : (p : Plan) (ta tu : List Float) (room : ℕ) (w : Writer) (out : List ℕ) → (p.number ≡ 0 → ⊥) → w.number ≡ p.number → Opens p ta tu room w out
-opened_refused p ta tu room w out h e = record { more = λ cs. gone p.masked (both p.across p.upright ta tu) w out cs (λ q. h (sym e ∙ q)) ∙ ap refused e ∙ sym (open_not p ta tu room cs h) }
-  where
-    gone : (masked : Bool) (ss : List Stem) (w : Writer) (out : List ℕ) (cs : List Cmd) → (w.number ≡ 0 → ⊥) → resumed_all masked ss w out cs ≡ refused w.number
-    gone masked ss w out cs h = unfold resumed in rw (ne_eqb w.number 0 h) refl
+-- ---- the program's end
+module _ (x : Written) (room : ℕ) (out : List ℕ) (points : Bool) where
+  pub ended_refused : (e : Refusal) (g : List ℕ → Glyph) → Ends room x (Err e) out → points ≡ true → Gives (settles points (writes g x)) room (Err e) out
+  ended_refused e g F t = go x F
+    where
+      go : (y : Written) → Ends room y (Err e) out → Gives (settles points (writes g y)) room (Err e) out
+      go (Writing.refused j) F = record { glyph = ap (λ (i : ℕ). record { number = i; len = 0; width = plus_zero; ran = 0 }) (F.1.0 ∙ ap (λ (b : Bool). cond b j 14) (sym t)); bytes = tt; same = F.1.1 }
+      go (Writing.wrote b) F = absurd (true≢false (ap is_ok (sym F.0)))
 
-    open_not : (p : Plan) (ta tu : List Float) (room : ℕ) (cs : List Cmd) → (p.number ≡ 0 → ⊥) → opens p ta tu room cs ≡ refused p.number
-    open_not p ta tu room cs h = unfold opens in rw (ne_eqb p.number 0 h) refl
+  pub ended_folding : (e : Refusal) (g : List ℕ → Glyph) → Ends room x (Err e) out → points ≡ false → Gives (settles points (writes g x)) room (Err NotFinite) out
+  ended_folding e g F t = go x F
+    where
+      go : (y : Written) → Ends room y (Err e) out → Gives (settles points (writes g y)) room (Err NotFinite) out
+      go (Writing.refused j) F = record { glyph = ap (λ (b : Bool). record { number = cond b j 14; len = 0; width = plus_zero; ran = 0 }) (sym t); bytes = tt; same = F.1.1 }
+      go (Writing.wrote b) F = absurd (true≢false (ap is_ok (sym F.0)))
 
-pub opened_front : (p : Plan) (ta tu : List Float) (room : ℕ) (w : Writer) (out : List ℕ) → p.number ≡ 0
-    → Declares p.masked p.across p.upright ta tu room w out → Opens p ta tu room w out
-opened_front p ta tu room w out h f = record { more = λ cs. f cs ∙ sym (open_now p ta tu room cs h) }
-  where
-    open_now : (p : Plan) (ta tu : List Float) (room : ℕ) (cs : List Cmd) → p.number ≡ 0 → opens p ta tu room cs ≡ write (program (tables p ta tu) cs) room
-    open_now p ta tu room cs h = unfold opens in rw (eq-eqb p.number 0 h) refl
+  pub ended-written : (k : ℕ) (w : Float) (n : ℕ) → Ends room x (Ok k) out → Gives (settles points (writes (glyph_of w n) x)) room (Ok (record { number = 0; len = k; width = w; ran = n })) out
+  ended-written k w n F = go x F
+    where
+      len_of : Result ℕ Refusal → ℕ
+      len_of (Ok i) = i
+      len_of (Err e) = 0
 
-pub ended_refused : (x : Written) (room : ℕ) (v : Writer) (out : List ℕ) (g : List ℕ → Glyph) (before k : ℕ) (points f : Bool) → Ends room x v out → (v.number ≡ 0 → ⊥) → f ≡ points → k ≡ refusal before v.number f
-    → Answers (settles before points (writes g x)) room (record { number = k; len = 0; width = plus_zero; ran = 0 }) out
-ended_refused (Writing.refused j) room v out g before k points f F h ep ek =
-    record { glyph = ap (λ (i : ℕ). record { number = i; len = 0; width = plus_zero; ran = 0 }) (ek ∙ ap₂ (refusal before) F.1.0 ep); bytes = F.1.1.1 }
-ended_refused (Writing.wrote b) room v out g before k points f F h ep ek = absurd (h F.0)
-
-pub ended-written : (x : Written) (room : ℕ) (v : Writer) (out : List ℕ) (w : Float) (n before : ℕ) (points : Bool) → Ends room x v out → v.number ≡ 0 → Answers (settles before points (writes (glyph_of w n) x)) room (record { number = 0; len = v.next; width = w; ran = n }) out
-ended-written (Writing.refused k) room v out w n before points F h = absurd (let z : ⊥ = omega (arith, F.0, F.1.0, h) in z)
-ended-written (Writing.wrote b) room v out w n before points F h = record { glyph = ap (λ (j : ℕ). record { number = 0; len = j; width = w; ran = n }) F.1.0; bytes = F.1.1 }
+      go : (y : Written) → Ends room y (Ok k) out → Gives (settles points (writes (glyph_of w n) y)) room (Ok (record { number = 0; len = k; width = w; ran = n })) out
+      go (Writing.refused j) F = absurd (let z : ⊥ = omega (arith, F.0, F.1.0) in z)
+      go (Writing.wrote b) F = record { glyph = ap (λ (r : Result ℕ Refusal). record { number = 0; len = len_of r; width = w; ran = n }) F.0; bytes = F.1.0; same = F.1.1 }

@@ -35,16 +35,23 @@ finite-both p q a b e f g h = h ∙ sym (ap (λ (x : Bool). x && finite p.y) (sy
 pub infinite_x : (p q : Point) (a : Bool) → p ≡ q → a ≡ finite p.x → a ≡ false → false ≡ finite_point q
 infinite_x p q a e f g = sym (ap (λ (x : Bool). x && finite p.y) (sym f ∙ g)) ∙ ap finite_point e
 
--- ---- three tests, each before the next
-module _ (a b c : Bool) where
-  pub three_1 : a ≡ false → false ≡ (a && (b && c))
-  three_1 p = cc
+-- ---- tests one after the other
+pub and_then : {v x r q : Bool} → v ≡ true → x ≡ r → r ≡ q → x ≡ (v && q)
+and_then {q = q} h e f = e ∙ f ∙ sym (ap (λ (b : Bool). b && q) h)
 
-  pub three_2 : a ≡ true → b ≡ false → false ≡ (a && (b && c))
-  three_2 p q = cc
+pub and_else : {v x : Bool} (q : Bool) → v ≡ false → x ≡ false → x ≡ (v && q)
+and_else q h e = e ∙ sym (ap (λ (b : Bool). b && q) h)
 
-  pub three_3 : (d : Bool) → a ≡ true → b ≡ true → d ≡ c → d ≡ (a && (b && c))
-  three_3 d p q r = cc
+pub three_left : (a b c : Bool) → ((a && b) && c) ≡ (a && (b && c))
+three_left true b c = refl
+three_left false b c = refl
+
+pub six_left : (a b c d e f : Bool) → (((((a && b) && c) && d) && e) && f) ≡ (a && (b && (c && (d && (e && f)))))
+six_left true true true true e f = refl
+six_left true true true false e f = refl
+six_left true true false d e f = refl
+six_left true false c d e f = refl
+six_left false b c d e f = refl
 
 module _ (c : List ℕ) (e : ℕ) where
   abbrev kind : ℕ

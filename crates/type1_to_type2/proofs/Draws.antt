@@ -18,11 +18,15 @@ use Rattle.binary64.specs.Value.{mag, pl, mi}
 use Rattle.binary64.specs.Rounding.{away, abs}
 use Rattle.binary64.specs.Tests.{eq→balance, balance→eq}
 use Rattle.geometry.specs.declared.Point.{Point}
-use Rattle.stores.specs.Zeros.{zeros_from, kept}
+use Rattle.stores.specs.Zeros.{zeros_from}
+use Rattle.std.specs.Prelude.{Result, Ok, Err}
+use Rattle.refusal.specs.declared.Refusal.{Refusal}
+use Rattle.refusal.specs.Refusal.{number_of}
+use Rattle.refusal.proofs.Numbers.{positive}
 use Rattle.outline.specs.declared.Stem.{Stem}
 use Rattle.outline.specs.Outline.{Command, move, line, curve, flex, plus_zero, pick}
 use Rattle.type1.specs.Run.{point_at}
-use Rattle.type2.specs.Number.{quantized, units, zp, zm, gave, push_number}
+use Rattle.type2.specs.Number.{quantized, units, zp, zm, pushed, push_number}
 use Rattle.type2.specs.Signed.{one_sided}
 use Rattle.type2.proofs.Fixed.{units-quantized}
 use Rattle.type2.proofs.Pushes.{rounded_is}
@@ -46,33 +50,32 @@ two_numbers c d k p q o = let x = in_turn p (in_turn q o) in record { then = x.t
 
 -- what was put, said otherwise
 pub as_put : {g : (ℕ → Written) → ℕ → Written} {w r : Writer} {b a : List ℕ} (h : (ℕ → Written) → ℕ → Written) → Puts g w b r a → ((f : ℕ → Written) (left : ℕ) → g f left ≡ h f left) → Puts h w b r a
-as_put {w = w} {b = b} h p e = record { then = λ f. p.then f ∙ ap (resumed w.number w.next b) (fun_ext (e f)); same = p.same }
+as_put {w = w} {b = b} h p e = record { then = λ f. p.then f ∙ ap (resumed w.next b) (fun_ext (e f)); same = p.same }
 
 -- ---- refusals: from there on the point does not count, and what is not refused was not refused before
-at_either : (n k : ℕ) (a : List ℕ) (p q : Point) (f : Point → ℕ → Written) → (n ≡ 0 → p ≡ q) → resumed n k a (f p) ≡ resumed n k a (f q)
-unfolding resumed
-at_either zero k a p q f h = ap (λ (x : Point). resumed zero k a (f x)) (h refl)
-at_either (suc n) k a p q f h = refused_stays (suc n) k k a a (f p) (f q) (λ e. let z : ⊥ = omega arith in z)
+at_either : (n : Result ℕ Refusal) (a : List ℕ) (p q : Point) (f : Point → ℕ → Written) → ((k : ℕ) → n ≡ Ok k → p ≡ q) → resumed n a (f p) ≡ resumed n a (f q)
+at_either (Ok k) a p q f h = ap (λ (x : Point). resumed (Ok k) a (f x)) (h k refl)
+at_either (Err e) a p q f h = refused_stays e a a (f p) (f q)
 
 abbrev is_written : Written → Bool
 is_written (refused n) = false
 is_written (wrote b) = true
 
-fine-written : (k : ℕ) (a : List ℕ) → is_written (resumed 0 k a (λ left. wrote [])) ≡ true
+fine-written : (k : ℕ) (a : List ℕ) → is_written (resumed (Ok k) a (λ left. wrote [])) ≡ true
 unfolding resumed
-fine-written k a = rw (eq-eqb 0 0 refl)
+fine-written k a = refl
 
-refused_unwritten : (m j : ℕ) (b : List ℕ) (f : ℕ → Written) → is_written (resumed (suc m) j b f) ≡ false
+refused_unwritten : (e : Refusal) (b : List ℕ) (f : ℕ → Written) → is_written (resumed (Err e) b f) ≡ false
 unfolding resumed
-refused_unwritten m j b f = rw (ne_eqb (suc m) 0 (λ e. let z : ⊥ = omega arith in z))
+refused_unwritten e b f = refl
 
-not_refused : (n k m j : ℕ) (a b : List ℕ) (g : (ℕ → Written) → ℕ → Written) → ((f : ℕ → Written) → resumed n k a f ≡ resumed m j b (g f)) → n ≡ 0 → m ≡ 0
-not_refused n k zero j a b g h e = refl
-not_refused n k (suc m) j a b g h e =
-    absurd (subst T (sym (fine-written k a) ∙ ap is_written (ap (λ (x : ℕ). resumed x k a (λ left. wrote [])) (sym e) ∙ h (λ left. wrote [])) ∙ refused_unwritten m j b (g (λ left. wrote []))) tt)
+not_refused : (n m : Result ℕ Refusal) (k : ℕ) (a b : List ℕ) (g : (ℕ → Written) → ℕ → Written) → ((f : ℕ → Written) → resumed n a f ≡ resumed m b (g f)) → n ≡ Ok k → (j : ℕ) × (m ≡ Ok j)
+not_refused n (Ok j) k a b g h e = (j, refl)
+not_refused n (Err r) k a b g h e =
+    absurd (subst T (sym (fine-written k a) ∙ ap is_written (ap (λ (x : Result ℕ Refusal). resumed x a (λ left. wrote [])) (sym e) ∙ h (λ left. wrote [])) ∙ refused_unwritten r b (g (λ left. wrote []))) tt)
 
-was_fine : {g : (ℕ → Written) → ℕ → Written} {w r : Writer} {b a : List ℕ} → Puts g w b r a → r.number ≡ 0 → w.number ≡ 0
-was_fine {g} {w} {r} {b} {a} p = not_refused r.number r.next w.number w.next a b g p.then
+was_fine : {g : (ℕ → Written) → ℕ → Written} {w r : Writer} {b a : List ℕ} {k : ℕ} → Puts g w b r a → r.next ≡ Ok k → (j : ℕ) × (w.next ≡ Ok j)
+was_fine {g} {w} {r} {b} {a} {k} p = not_refused r.next w.next k a b g p.then
 
 -- ---- an operator that waits
 pub no_waiting : (k : ℕ) → k ≡ 0 → (left : ℕ) (f : ℕ → Written) → f left ≡ closed k left f
@@ -83,8 +86,8 @@ pub waiting : (k : ℕ) → (k ≡ 0 → ⊥) → (f : ℕ → Written) (left : 
 unfolding closed
 waiting k e f left = rw (ne_eqb k 0 e)
 
-pub flushed_none : (w : Writer) (b : List ℕ) → w.waits ≡ 0 → (f : ℕ → Written) → resumed w.number w.next b f ≡ resumed w.number w.next b (λ left. closed w.waits left f)
-flushed_none w b e f = ap (resumed w.number w.next b) (fun_ext (λ left. no_waiting w.waits e left f))
+pub flushed_none : (w : Writer) (b : List ℕ) → w.waits ≡ 0 → (f : ℕ → Written) → resumed w.next b f ≡ resumed w.next b (λ left. closed w.waits left f)
+flushed_none w b e f = ap (resumed w.next b) (fun_ext (λ left. no_waiting w.waits e left f))
 
 -- ---- operands that share it, or not
 pub is_shared : (w : Writer) (op : ℕ) (more : Bool) → w.waits ≡ op → more ≡ true → shares op more w ≡ true
@@ -98,14 +101,14 @@ not_shared w op more (inr h) = ap (λ (t : Bool). eqb w.waits op && t) h ∙ and
 pub takes_few : (n m : ℕ) (more : Bool) → m < 256 → more ≡ leb n m → more ≡ true → n < 256
 takes_few n m more h e t = let le : n ≤ m = leb→le n m (subst T (sym t ∙ e) tt) in omega (arith, le, h)
 
-pub shared_none : (w : Writer) (b : List ℕ) (op : ℕ) (more : Bool) → shares op more w ≡ true → (f : ℕ → Written) → resumed w.number w.next b f ≡ resumed w.number w.next b (λ left. pick (shares op more w) (f left) (closed w.waits left f))
-shared_none w b op more t f = ap (λ (x : Bool). resumed w.number w.next b (λ left. pick x (f left) (closed w.waits left f))) (sym t)
+pub shared_none : (w : Writer) (b : List ℕ) (op : ℕ) (more : Bool) → shares op more w ≡ true → (f : ℕ → Written) → resumed w.next b f ≡ resumed w.next b (λ left. pick (shares op more w) (f left) (closed w.waits left f))
+shared_none w b op more t f = ap (λ (x : Bool). resumed w.next b (λ left. pick x (f left) (closed w.waits left f))) (sym t)
 
 pub first-closed : (w : Writer) (op : ℕ) (more : Bool) → shares op more w ≡ false → (f : ℕ → Written) (left : ℕ) → closed w.waits left f ≡ pick (shares op more w) (f left) (closed w.waits left f)
 first-closed w op more t f left = ap (λ (x : Bool). pick x (f left) (closed w.waits left f)) (sym t)
 
 -- ---- the two deltas of a point: the first is refused, or neither is
-module _ (w : Writer) (b : List ℕ) (px py : Float) (n k : ℕ) (a : List ℕ) (z : w.number ≡ 0) (e : gave n k a ≡ push_number b w.next (sub binary64 px w.x)) where
+module _ (w : Writer) (b : List ℕ) (px py : Float) (i : ℕ) (z : w.next ≡ Ok i) where
   abbrev dx : Float
   dx = sub binary64 px w.x
 
@@ -115,15 +118,15 @@ module _ (w : Writer) (b : List ℕ) (px py : Float) (n k : ℕ) (a : List ℕ) 
   rounded : (v u : Float) → units (quantized (sub binary64 v u)) ≡ units (sub binary64 v u)
   rounded v u = units-quantized (sub binary64 v u) (sub-fits binary64 v u)
 
-  pub delta_refused : (n ≡ 0 → ⊥) → (f : ℕ → Written) → resumed n k a f ≡ resumed w.number w.next b (λ left. put_numbers (deltas (point_of w) (point_at px py ∷ [])) left f)
+  pub delta_refused : (n : Refusal) (a : List ℕ) → pushed (Err n) a ≡ push_number b i dx → (f : ℕ → Written) → resumed (Err n) a f ≡ resumed w.next b (λ left. put_numbers (deltas (point_of w) (point_at px py ∷ [])) left f)
   unfolding deltas
-  delta_refused h f =
-      not_before _ _ _ _ _ z (pair_refused b w.next dx (units (quantized dy)) n k a f e h ∙ ap (λ (u : ℤ). resumed 0 w.next b (λ left. put_numbers (u ∷ units (quantized dy) ∷ []) left f)) (sym (rounded px w.x)))
+  delta_refused n a e f =
+      not_before i _ _ _ z (pair_refused b i dx (units (quantized dy)) n a f e ∙ ap (λ (u : ℤ). resumed (Ok i) b (λ left. put_numbers (u ∷ units (quantized dy) ∷ []) left f)) (sym (rounded px w.x)))
 
-  pub delta-pushed : (m j : ℕ) (c : List ℕ) → n ≡ 0 → gave m j c ≡ push_number a k dy → (f : ℕ → Written) → resumed m j c f ≡ resumed w.number w.next b (λ left. put_numbers (deltas (point_of w) (point_at px py ∷ [])) left f)
+  pub delta-pushed : (k : ℕ) (a : List ℕ) (m : Result ℕ Refusal) (c : List ℕ) → pushed (Ok k) a ≡ push_number b i dx → pushed m c ≡ push_number a k dy → (f : ℕ → Written) → resumed m c f ≡ resumed w.next b (λ left. put_numbers (deltas (point_of w) (point_at px py ∷ [])) left f)
   unfolding deltas
-  delta-pushed m j c h d f =
-      not_before _ _ _ _ _ z (pair-pushed b w.next dx dy n k a m j c f e h d ∙ ap₂ (λ (u v : ℤ). resumed 0 w.next b (λ left. put_numbers (u ∷ v ∷ []) left f)) (sym (rounded px w.x)) (sym (rounded py w.y)))
+  delta-pushed k a m c e d f =
+      not_before i _ _ _ z (pair-pushed b i dx dy k a m c f e d ∙ ap₂ (λ (u v : ℤ). resumed (Ok i) b (λ left. put_numbers (u ∷ v ∷ []) left f)) (sym (rounded px w.x)) (sym (rounded py w.y)))
 
 pub delta_at : (w : Writer) (px py x y : Float) → x ≡ reaches w.x px → y ≡ reaches w.y py → point_at x y ≡ arrives (point_of w) (point_at px py ∷ [])
 unfolding arrives
@@ -136,18 +139,18 @@ goes_one {w} {r} {s} {b} {a} {z} {p} {ps} x y = record {
   puts = record {
     then = λ f.
         y.puts.then f
-        ∙ at_either r.number r.next a (point_of r) (arrives (point_of w) (p ∷ [])) (λ q l. put_numbers (deltas q ps) l f) x.at
+        ∙ at_either r.next a (point_of r) (arrives (point_of w) (p ∷ [])) (λ q l. put_numbers (deltas q ps) l f) x.at
         ∙ x.puts.then (λ l. put_numbers (deltas (arrives (point_of w) (p ∷ [])) ps) l f);
     same = y.puts.same ∙ x.puts.same;
   };
-  at = λ e. y.at e ∙ ap (λ (q : Point). arrives q ps) (x.at (was_fine y.puts e));
+  at = λ k e. let (j, d) = was_fine y.puts e in y.at k e ∙ ap (λ (q : Point). arrives q ps) (x.at j d);
   waits = y.waits ∙ x.waits;
   held = y.held ∙ x.held;
 }
 
 pub goes_none : (w : Writer) (b : List ℕ) → Goes [] w b w b
 unfolding deltas arrives put_numbers
-goes_none w b = record { puts = record { then = λ f. refl; same = refl }; at = λ e. refl; waits = refl; held = refl }
+goes_none w b = record { puts = record { then = λ f. refl; same = refl }; at = λ k e. refl; waits = refl; held = refl }
 
 -- ---- a command's items
 pub items_shape : (m : Bool) (ss : List Stem) (at : Point) (e : Command) (cs : List Cmd) → items m ss at (shape e ∷ cs) ≡ go (kind_of e) (deltas at (points_of e) ++ height_of e) ∷ items m ss (arrives at (points_of e)) cs
@@ -155,14 +158,14 @@ unfolding items
 items_shape true ss at e cs = refl
 items_shape false ss at e cs = refl
 
-pub draws : {g : (ℕ → Written) → ℕ → Written} {w r : Writer} {b a : List ℕ} (e : Command) → Puts g w b r a → (r.number ≡ 0 → point_of r ≡ arrives (point_of w) (points_of e)) →
+pub draws : {g : (ℕ → Written) → ℕ → Written} {w r : Writer} {b a : List ℕ} (e : Command) → Puts g w b r a → ((k : ℕ) → r.next ≡ Ok k → point_of r ≡ arrives (point_of w) (points_of e)) →
     ((is : List Item) (left : ℕ) → g (streamed is r.waits r.held) left ≡ streamed (go (kind_of e) (deltas (point_of w) (points_of e) ++ height_of e) ∷ is) w.waits w.held left) →
     (masked : Bool) (ss : List Stem) → Draws masked ss (shape e ∷ []) w b r a
 draws {g} {w} {r} {b} {a} e p q h masked ss = record {
   then = λ ds.
-      at_either r.number r.next a (point_of r) (arrives (point_of w) (points_of e)) (λ x. streamed (items masked ss x ds) r.waits r.held) q
+      at_either r.next a (point_of r) (arrives (point_of w) (points_of e)) (λ x. streamed (items masked ss x ds) r.waits r.held) q
       ∙ p.then (streamed (items masked ss (arrives (point_of w) (points_of e)) ds) r.waits r.held)
-      ∙ ap (resumed w.number w.next b) (fun_ext (h (items masked ss (arrives (point_of w) (points_of e)) ds)))
+      ∙ ap (resumed w.next b) (fun_ext (h (items masked ss (arrives (point_of w) (points_of e)) ds)))
       ∙ ap (resumed_items w b) (sym (items_shape masked ss (point_of w) e ds));
   same = p.same;
 }
@@ -171,9 +174,9 @@ draws {g} {w} {r} {b} {a} e p q h masked ss = record {
 pub nothing_drawn : {w r : Writer} {b a : List ℕ} → Goes [] w b r a → (masked : Bool) (ss : List Stem) (ds : List Cmd) → resumed_all masked ss r a ds ≡ resumed_all masked ss w b ds
 unfolding deltas arrives put_numbers
 nothing_drawn {w} {r} {b} {a} g masked ss ds =
-    at_either r.number r.next a (point_of r) (point_of w) (λ x. streamed (items masked ss x ds) r.waits r.held) g.at
+    at_either r.next a (point_of r) (point_of w) (λ x. streamed (items masked ss x ds) r.waits r.held) g.at
     ∙ g.puts.then (streamed (items masked ss (point_of w) ds) r.waits r.held)
-    ∙ ap₂ (λ (k n : ℕ). resumed w.number w.next b (streamed (items masked ss (point_of w) ds) k n)) g.waits g.held
+    ∙ ap₂ (λ (k n : ℕ). resumed w.next b (streamed (items masked ss (point_of w) ds) k n)) g.waits g.held
 
 -- ---- lines and curves
 joins : (j : Kind) (op count : ℕ) → code_of j ≡ op → (l : List ℤ) → length l ≡ count → (k n room : ℕ) (f : ℕ → ℕ → ℕ → Written) (more t : Bool) → leb (n + count) (most j) ≡ more → (eqb k op && more) ≡ t →
@@ -190,7 +193,7 @@ batch_draws : (e : Command) (j : Kind) (op count : ℕ) → height_of e ≡ [] �
     ((l : List ℤ) (is : List Item) (k n left : ℕ) → joined j l k n left (streamed is) ≡ streamed (go (kind_of e) l ∷ is) k n left) →
     {w r s : Writer} {b a z : List ℕ} → Batched op count (takes j w.held count) w b r a → Goes (points_of e) r a s z → (masked : Bool) (ss : List Stem) → Draws masked ss (shape e ∷ []) w b s z
 batch_draws e j op count flat c len st {w} {r} {s} {b} {a} {z} x y =
-    draws e (in_turn x.puts y.puts) (λ z. y.at z ∙ ap (λ (q : Point). arrives q (points_of e)) x.at)
+    draws e (in_turn x.puts y.puts) (λ k z. y.at k z ∙ ap (λ (q : Point). arrives q (points_of e)) x.at)
     (λ is left.
     ap (λ (q : Point). part is left q s.waits s.held) x.at
     ∙ ap₂ (λ (k n : ℕ). part is left (point_of w) k n) (y.waits ∙ x.waits) (y.held ∙ x.held)
@@ -213,11 +216,11 @@ unfolding deltas streamed
 curve_drawn p q t x y = batch_draws (curve p q t) curves 8 6 refl refl (λ at. refl) (λ l is k n left. refl) x y
 
 -- ---- moves and flexes: the waiting operator first
-pub puts_to : {g : (ℕ → Written) → ℕ → Written} {w r s : Writer} {b a : List ℕ} → Puts g w b r a → s.number ≡ r.number → s.next ≡ r.next → Puts g w b s a
-puts_to {a = a} p e d = record { then = λ f. ap₂ (λ (n k : ℕ). resumed n k a f) e d ∙ p.then f; same = p.same }
+pub puts_to : {g : (ℕ → Written) → ℕ → Written} {w r s : Writer} {b a : List ℕ} → Puts g w b r a → s.next ≡ r.next → Puts g w b s a
+puts_to {a = a} p d = record { then = λ f. ap (λ (n : Result ℕ Refusal). resumed n a f) d ∙ p.then f; same = p.same }
 
 closed-draws : {g : (ℕ → Written) → ℕ → Written} {w r s : Writer} {b a z : List ℕ} (e : Command) → Puts (λ f left. closed w.waits left f) w b r a → r.waits ≡ 0 → r.held ≡ 0 → Puts g r a s z →
-    (s.number ≡ 0 → point_of s ≡ arrives (point_of w) (points_of e)) → s.waits ≡ r.waits → s.held ≡ r.held →
+    ((k : ℕ) → s.next ≡ Ok k → point_of s ≡ arrives (point_of w) (points_of e)) → s.waits ≡ r.waits → s.held ≡ r.held →
     ((is : List Item) (k n left : ℕ) → closed k left (g (streamed is 0 0)) ≡ streamed (go (kind_of e) (deltas (point_of w) (points_of e) ++ height_of e) ∷ is) k n left) →
     (masked : Bool) (ss : List Stem) → Draws masked ss (shape e ∷ []) w b s z
 closed-draws {g} {w} {r} {s} e p k0 n0 q at ks ns h =
@@ -277,7 +280,7 @@ pub move_drawn : {w r s : Writer} {b a z : List ℕ} (px py dx dy : Float) (i : 
 unfolding arrives deltas streamed
 move_drawn {w} px py _ _ i e d m p k0 n0 q sx sy ks ns =
     closed-draws (move (point_at px py)) p k0 n0 q
-    (λ z. ap₂ point_at (sx ∙ ap (add binary64 w.x) e) (sy ∙ ap (add binary64 w.y) d)) ks ns
+    (λ k z. ap₂ point_at (sx ∙ ap (add binary64 w.x) e) (sy ∙ ap (add binary64 w.y) d)) ks ns
     (λ is k n left. ap (λ (j : Instr). closed k left (λ l. put_instr j l (streamed is 0 0))) (sym m ∙ ap₂ (λ (x y : Float). move_instr (units x) (units y)) e d))
 
 -- a number and two bytes
@@ -292,38 +295,26 @@ pub flex_drawn : {w r s t : Writer} {b a z y : List ℕ} (p1 p2 p3 p4 p5 p6 : Po
 unfolding deltas streamed put_numbers
 flex_drawn {w} {r} {s} {t} p1 p2 p3 p4 p5 p6 h fl ds op =
     closed-draws (flex p1 p2 p3 p4 p5 p6 h) fl.puts fl.waits fl.held (in_turn ds.puts op.0)
-    (λ z. ap₂ point_at op.1.x op.1.y ∙ ds.at (was_fine op.0 z) ∙ ap (λ (q : Point). arrives q (p1 ∷ p2 ∷ p3 ∷ p4 ∷ p5 ∷ p6 ∷ [])) fl.at)
+    (λ k z. ap₂ point_at op.1.x op.1.y ∙ (let (j, d) = was_fine op.0 z in ds.at j d) ∙ ap (λ (q : Point). arrives q (p1 ∷ p2 ∷ p3 ∷ p4 ∷ p5 ∷ p6 ∷ [])) fl.at)
     (op.1.waits ∙ ds.waits)
     (op.1.held ∙ ds.held)
     (λ is k n left.
     ap (λ (q : Point). closed k left (λ l. put_numbers (deltas q (p1 ∷ p2 ∷ p3 ∷ p4 ∷ p5 ∷ p6 ∷ [])) l (λ m. put_numbers (written h ∷ []) m (λ o. put o (12 ∷ 35 ∷ []) (streamed is 0 0))))) fl.at)
 
 -- ---- the end
-pub ended : {w r s : Writer} {b a z : List ℕ} → Flushed w b r a → Puts (λ f left. put left (14 ∷ []) f) r a s z → (masked : Bool) (ss : List Stem) → resumed s.number s.next z (λ left. wrote []) ≡ resumed_all masked ss w b []
+pub ended : {w r s : Writer} {b a z : List ℕ} → Flushed w b r a → Puts (λ f left. put left (14 ∷ []) f) r a s z → (masked : Bool) (ss : List Stem) → resumed s.next z (λ left. wrote []) ≡ resumed_all masked ss w b []
 unfolding items streamed
 ended p q true ss = (in_turn p.puts q).then (λ left. wrote [])
 ended p q false ss = (in_turn p.puts q).then (λ left. wrote [])
 
--- s is the writer after the last byte, t what is answered of it, and z the output, of which k bytes are kept
-module _ (room k : ℕ) (s t : Writer) (z o : List ℕ) (x : Written) (e : resumed s.number s.next z (λ left. wrote []) ≡ x) (l : length z ≡ room) (d : o ≡ zeros_from k z) (n : t.number ≡ s.number) (m : t.next ≡ k) where
-  none_kept : (s.number ≡ 0 → ⊥) → k ≡ 0 → Ends room x t o
-  unfolding resumed
-  none_kept h i =
-      subst (λ (y : Written). Ends room y t o) (sym (let g : resumed s.number s.next z (λ left. wrote []) ≡ refused s.number = rw (ne_eqb s.number 0 h) in g) ∙ e)
-      (pos_of_ne-zero h, (n, (m ∙ i, d ∙ ap (λ (j : ℕ). zeros_from j z) i ∙ ap (λ (j : ℕ). replicate j 0) (sub-zero (length z) ∙ l))))
+-- n is the place after the last byte, z the output, and o the output with zeros from there on
+pub finished_refused : (room : ℕ) (e : Refusal) (z : List ℕ) (x : Written) → resumed (Err e) z (λ left. wrote []) ≡ x → length z ≡ room → Ends room x (Err e) z
+unfolding resumed
+finished_refused room e z x h l = subst (λ (y : Written). Ends room y (Err e) z) h (positive e, (refl, l))
 
-  all_kept : s.number ≡ 0 → s.next ≤ length z → k ≡ s.next → Ends room x t o
-  unfolding resumed
-  all_kept h f i =
-      subst (λ (y : Written). Ends room y t o) (sym (let g : resumed s.number s.next z (λ left. wrote []) ≡ wrote (take s.next z) = rw (eq-eqb s.number 0 h, append-nil (take s.next z)) in g) ∙ e)
-      (n ∙ h, (m ∙ i ∙ sym w, d ∙ ap (λ (j : ℕ). zeros_from j z) i ∙ ap₂ (λ (i j : ℕ). take s.next z ++ replicate (i - j) 0) l (sym w)))
-    where
-      w : length (take s.next z) ≡ s.next
-      w = omega (arith, length-take s.next z)
-
-  pub finished : (s.number ≡ 0 → s.next ≤ length z) → k ≡ kept s.number s.next → Ends room x t o
-  finished f i = choose (eqb s.number 0) refl
-    where
-      choose : (b : Bool) → eqb s.number 0 ≡ b → Ends room x t o
-      choose true q = let h = eqb-true s.number 0 q in all_kept h (f h) (i ∙ ap (λ (b : Bool). cond b s.next 0) q)
-      choose false q = none_kept (eqb-false s.number 0 q) (i ∙ ap (λ (b : Bool). cond b s.next 0) q)
+pub finished-written : (room n : ℕ) (z o : List ℕ) (x : Written) → resumed (Ok n) z (λ left. wrote []) ≡ x → length z ≡ room → n ≤ length z → o ≡ zeros_from n z → length o ≡ room → Ends room x (Ok n) o
+unfolding resumed
+finished-written room n z o x h l f d m =
+    let w : length (take n z) ≡ n = omega (arith, length-take n z) in
+    subst (λ (y : Written). Ends room y (Ok n) o) (ap wrote (sym (append-nil (take n z))) ∙ h)
+    (ap (λ (k : ℕ). Ok k) (sym w), (d ∙ ap₂ (λ (i j : ℕ). take n z ++ replicate (i - j) 0) l (sym w), m))

@@ -17,16 +17,18 @@ use Rattle.type2.specs.Number.{quantized, units, in_range, number_bytes, Push, g
 use Rattle.type2.specs.Width.{push_width}
 use Rattle.type2.proofs.Fixed.{units-quantized}
 use Rattle.type2.specs.Bools.{is_le, not_le}
-use Rattle.type1_to_type2.specs.declared.Finished.{Finished}
+use Rattle.type1_to_type2.specs.FinishAnswer.{Finished, finished_of, Wrote, bytes_of}
 use Rattle.type1_to_type2.specs.Writing.{Written, refused, wrote, then_write, put, put_numbers}
 use Rattle.type1_to_type2.specs.Emission.{written}
 use Rattle.type2.specs.declared.Widths.{Widths}
+use Rattle.std.specs.Prelude.{Result, Ok, Err, is_ok}
+use Rattle.std.specs.Result.{result_unwrap_or}
+use mathlib.Core.Bool.{true≢false}
+use Rattle.refusal.specs.declared.Refusal.{Refusal}
+use Rattle.refusal.specs.declared.Refusal.TheVariants.{OutputShort}
+use Rattle.refusal.proofs.Numbers.{positive}
 use Rattle.type1_to_type2.specs.Finish.{width_for, first, finish}
 use Rattle.type1_to_type2.specs.FinishAnswer.{finished_answer, finished_output, Front}
-
--- a turn of a loop that stores: one more is as in s
-pub stored_one : {A : Type 0} (ys : List A) (d : A) (at : ℕ) (s : List A) (i : ℕ) (zs : List A) → at + i < length ys → i < length s → zs ≡ paste ys at s i → set zs (at + i) (get_or s i d) ≡ paste ys at s (i + 1)
-stored_one {A} ys d at s i zs h l e = ap (λ (z : List A). set z (at + i) (get_or s i d)) e ∙ paste-suc ys at s i d h l ∙ ap (paste ys at s) (sym (add-one i))
 
 -- ---- after the width
 
@@ -74,50 +76,66 @@ width-put out false v a = rw (units-quantized v a) (go (in_range (units v)))
 abbrev pub Finishes : Float → Widths → List ℕ → Push → Type 0
 Finishes width p out = WidthPut out (λ q. finish width q p (length out))
 
-pub after-width : (out : List ℕ) (width : Float) (p : Widths) (k at : ℕ) (o : List ℕ) → gave k at o ≡ push_width out width p → Finishes width p out (gave k at o)
+pub after-width : (out : List ℕ) (width : Float) (p : Widths) (r : Result ℕ Refusal) (o : List ℕ) → Number.pushed r o ≡ push_width out width p → Finishes width p out (Number.pushed r o)
 unfolding finish width_for push_width
-after-width out width p k at o e =
+after-width out width p r o e =
     let n = p.nominal_width_x in
     subst (Finishes width p out) (sym e) (width-put out (eq (quantized width) p.default_width_x) (sub binary64 (quantized width) n) (sub-fits binary64 (quantized width) n))
 
 -- ---- the answer and the output
+module _ (out : List ℕ) (width : Float) (p : Widths) (program : List ℕ) where
+  abbrev x : Written
+  x = finish width program p (length out)
 
-pub refused_so : (x : Written) (k room m : ℕ) (r : Finished) (o : List ℕ) → x ≡ refused k → m ≡ room → r ≡ finished_answer (refused k) → o ≡ finished_output m (refused k) → (r ≡ finished_answer x) × (o ≡ finished_output room x)
-refused_so x k room m r o ex em er eo = (er ∙ ap finished_answer (sym ex), eo ∙ ap (λ (n : ℕ). finished_output n (refused k)) em ∙ ap (finished_output room) (sym ex))
+  -- the width was refused
+  pub width_refused : (e : Refusal) (o : List ℕ) → Number.pushed (Err e) o ≡ push_width out width p → length o ≡ length out → Wrote (length out) x (Err e) o
+  width_refused e o h l =
+      let q = (after-width out width p (Err e) o h).1 (λ z. let k = positive e in let y : ⊥ = omega (arith, k, z) in y) program in
+      record { result = sym (ap finished_answer q); bytes = λ n k. absurd (no_ok k); same = l }
+    where
+      no_ok : {n : ℕ} → Err e ≡ Ok n → ⊥
+      no_ok k = true≢false (sym (ap is_ok k))
 
--- as many bytes as a front part has are that part
-take_front : (len : ℕ) (p : List ℕ) → take (length (take len p)) p ≡ take len p
-take_front zero p = refl
-take_front (suc k) [] = refl
-take_front (suc k) (x ∷ p) = ap (λ (l : List ℕ). x ∷ l) (take_front k p)
+  module _ (at : ℕ) (o : List ℕ) (h : Number.pushed (Ok at) o ≡ push_width out width p) where
+    abbrev w : AfterWidth out (λ q. finish width q p (length out)) at o
+    w = (after-width out width p (Ok at) o h).0 refl
 
-pub front_short : (len n : ℕ) (p : List ℕ) → n ≡ length (take len p) → n ≤ length p
-front_short len n p e = subst (λ (k : ℕ). k ≤ length p) (sym e) (go len p)
+    pub at_within : at ≤ length o
+    at_within = let l = w.same in let r = w.room in omega arith
+
+    pub no_room : length o - at < length program → Wrote (length out) x (Err OutputShort) o
+    no_room s =
+        let q = w.rest program ∙ ap (λ (c : Bool). cond c (wrote (take at o ++ program)) (refused 18)) (not_le (length program) (length out - at) (let l = w.same in let r = w.room in omega arith)) in
+        record { result = sym (ap finished_answer q); bytes = λ n k. absurd (true≢false (sym (ap is_ok k))); same = w.same }
+
+    pub charstring_written : (n : ℕ) (z y : List ℕ) → n ≡ at + length program → length program ≤ length o - at → take n z ≡ take at o ++ y → y ≡ program → length z ≡ length o → Wrote (length out) x (Ok n) z
+    charstring_written n z y en s ty ey l =
+        let q = w.rest program ∙ ap (λ (c : Bool). cond c (wrote (take at o ++ program)) (refused 18)) (is_le (length program) (length out - at) (let l = w.same in omega arith)) in
+        let t : take n z ≡ take at o ++ program = ty ∙ ap (λ (q : List ℕ). take at o ++ q) ey in
+        let count : length (take at o ++ program) ≡ n = length-append (take at o) program ∙ ap (λ (k : ℕ). k + length program) (length-take-le at o (let l = w.same in let r = w.room in omega arith)) ∙ sym en in
+        record {
+          result = ap (λ (k : ℕ). finished_of (Ok k)) (sym count) ∙ sym (ap finished_answer q);
+          bytes = λ k e. let same : n ≡ k = ok_same e in (let l = w.same in let a = at_within in omega arith, ap (λ (j : ℕ). take j z) (sym same) ∙ t ∙ sym (ap bytes_of q));
+          same = l ∙ w.same;
+        }
+      where
+        ok_same : {i j : ℕ} → (◌≡◌ {A = Result ℕ Refusal} (Ok i) (Ok j)) → i ≡ j
+        ok_same e = ap (λ (r : Result ℕ Refusal). (finished_of r).len) e
+
+-- zeros after it
+pub finished-output : (room : ℕ) (x : Written) (r : Result ℕ Refusal) (o out : List ℕ) (k : ℕ) → Wrote room x r o → k ≡ result_unwrap_or r 0 → out ≡ take k o ++ replicate (length o - k) 0 → out ≡ finished_output room x
+finished-output room x (Ok m) o out k w ek e = go x w
   where
-    go : (len : ℕ) (p : List ℕ) → length (take len p) ≤ length p
-    go zero p = omega arith
-    go (suc k) [] = omega arith
-    go (suc k) (x ∷ p) = let h : length (take k p) ≤ length p = go k p in omega arith
-
-module _ (out : List ℕ) (f : List ℕ → Written) (at : ℕ) (o : List ℕ) (w : AfterWidth out f at o) (len n : ℕ) (program : List ℕ) (en : n ≡ length (take len program)) where
-  pub no_room : length o - at < n → f (take len program) ≡ refused 18
-  no_room h =
-      w.rest (take len program)
-      ∙ ap (λ (c : Bool). cond c (wrote (take at o ++ take len program)) (refused 18)) (not_le (length (take len program)) (length out - at) (let s = w.same in omega arith))
-
-  pub charstring_written : (o1 o2 : List ℕ) → n ≤ length o - at → o1 ≡ paste o at program n → o2 ≡ take (at + n) o1 ++ replicate (length o1 - (at + n)) 0 → (◌≡◌ {A = Finished} (record { number = 0; len = at + n }) (finished_answer (f (take len program)))) × (o2 ≡ finished_output (length out) (f (take len program)))
-  charstring_written o1 o2 h e1 e2 =
-      let q = take len program in
-      let s : length o ≡ length out = w.same in
-      let r : at ≤ length out = w.room in
-      let short : n ≤ length program = front_short len n program en in
-      let is : f q ≡ wrote (take at o ++ q) = w.rest q ∙ ap (λ (c : Bool). cond c (wrote (take at o ++ q)) (refused 18)) (is_le (length q) (length out - at) (omega arith)) in
-      let count : length (take at o ++ q) ≡ at + n = length-append (take at o) q ∙ ap₂ ◌+◌ (length-take-le at o (omega arith)) (sym en) in
-      let front : take (at + n) o1 ≡ take at o ++ q = ap (take (at + n)) e1 ∙ take-paste o at program n (omega arith) short ∙ ap (λ (l : List ℕ). take at o ++ l) (ap (λ (k : ℕ). take k program) en ∙ take_front len program) in
-      let long : length o1 ≡ length out = ap length e1 ∙ length-paste o at program n (omega arith) short ∙ s in (
-        sym (ap finished_answer is ∙ ap (λ (k : ℕ). record { number = 0; len = k }) count),
-        e2 ∙ ap₂ (λ (l : List ℕ) (k : ℕ). l ++ replicate k 0) front (ap₂ ◌-◌ long (sym count)) ∙ ap (finished_output (length out)) (sym is),
-      )
+    go : (x : Written) → Wrote room x (Ok m) o → out ≡ finished_output room x
+    go (refused n) w = let z : k ≡ 0 = ek ∙ ap (λ (y : Finished). y.len) w.result in e ∙ ap (λ (j : ℕ). take j o ++ replicate (length o - j) 0) z ∙ ap (λ (j : ℕ). replicate j 0) (sub-zero (length o) ∙ w.same)
+    go (wrote b) w =
+        let c = w.bytes m refl in
+        e ∙ ap (λ (j : ℕ). take j o ++ replicate (length o - j) 0) ek ∙ ap₂ (λ (l : List ℕ) (j : ℕ). l ++ replicate j 0) c.1 (ap₂ ◌-◌ w.same (ap (λ (y : Finished). y.len) w.result))
+finished-output room x (Err m) o out k w ek e = go x w
+  where
+    go : (x : Written) → Wrote room x (Err m) o → out ≡ finished_output room x
+    go (refused n) w = e ∙ ap (λ (j : ℕ). take j o ++ replicate (length o - j) 0) ek ∙ ap (λ (j : ℕ). replicate j 0) (sub-zero (length o) ∙ w.same)
+    go (wrote b) w = absurd (let p = positive m in let z = ap (λ (y : Finished). y.number) w.result in let y : ⊥ = omega (arith, p, z) in y)
 
 -- ---- the finished program
 

@@ -52,26 +52,26 @@ unfolding mask_bytes packed
 bytes_cons l h = rw (count_more (length l) h, length-drop 8 l)
 
 pub mask_step : {r s : Writer} {a z : List ℕ} (l : List Bool) (i n v : ℕ) (x : (ℕ → Written) → Written) → length l ≡ n → i < n → v ≡ value (take 8 (drop i l ++ replicate 8 false)) → Puts (λ f left. put left (v ∷ []) f) r a s z →
-    ((f : ℕ → Written) → resumed r.number r.next a (λ left. put left (mask_bytes (drop i l)) f) ≡ x f) → (f : ℕ → Written) → resumed s.number s.next z (λ left. put left (mask_bytes (drop (i + 8) l)) f) ≡ x f
+    ((f : ℕ → Written) → resumed r.next a (λ left. put left (mask_bytes (drop i l)) f) ≡ x f) → (f : ℕ → Written) → resumed s.next z (λ left. put left (mask_bytes (drop (i + 8) l)) f) ≡ x f
 mask_step {r} {s} {a} {z} l i n v x e h ev p inv f =
     p.then (λ left. put left (mask_bytes (drop (i + 8) l)) f)
-    ∙ ap (resumed r.number r.next a) (fun_ext (λ left. put_cons left v (mask_bytes (drop (i + 8) l)) f ∙ ap (λ (m : List ℕ). put left m f) (sym whole)))
+    ∙ ap (resumed r.next a) (fun_ext (λ left. put_cons left v (mask_bytes (drop (i + 8) l)) f ∙ ap (λ (m : List ℕ). put left m f) (sym whole)))
     ∙ inv f
   where
     whole : mask_bytes (drop i l) ≡ v ∷ mask_bytes (drop (i + 8) l)
     whole = bytes_cons (drop i l) (let z : 1 ≤ length (drop i l) = omega (arith, length-drop i l) in z) ∙ ap₂ (λ (k : ℕ) (m : List Bool). k ∷ mask_bytes m) (sym ev) (drop-drop 8 i l)
 
 pub mask_end : {w r s t : Writer} {b a z o : List ℕ} (l : List Bool) (i : ℕ) → length l ≤ i → Flushed w b r a → Puts (λ f left. put left (19 ∷ []) f) r a s z → Still r s →
-    ((f : ℕ → Written) → resumed t.number t.next o (λ left. put left (mask_bytes (drop i l)) f) ≡ resumed s.number s.next z (λ left. put left (mask_bytes l) f)) → Still s t → length o ≡ length z → Masks l w b t o
+    ((f : ℕ → Written) → resumed t.next o (λ left. put left (mask_bytes (drop i l)) f) ≡ resumed s.next z (λ left. put left (mask_bytes l) f)) → Still s t → length o ≡ length z → Masks l w b t o
 unfolding streamed mask_bytes packed
 mask_end {w} {r} {s} {t} {b} {a} {z} {o} l i h p q e inv d m = record {
   then = λ is.
-      ap₂ (λ (k n : ℕ). resumed t.number t.next o (streamed is k n)) (d.waits ∙ e.waits ∙ p.waits) (d.held ∙ e.held ∙ p.held)
-      ∙ ap (resumed t.number t.next o) (fun_ext (λ left. sym (put_nil left (streamed is 0 0)) ∙ ap (λ (c : List Bool). put left (mask_bytes c) (streamed is 0 0)) (sym (drop_of_length-le l h))))
+      ap₂ (λ (k n : ℕ). resumed t.next o (streamed is k n)) (d.waits ∙ e.waits ∙ p.waits) (d.held ∙ e.held ∙ p.held)
+      ∙ ap (resumed t.next o) (fun_ext (λ left. sym (put_nil left (streamed is 0 0)) ∙ ap (λ (c : List Bool). put left (mask_bytes c) (streamed is 0 0)) (sym (drop_of_length-le l h))))
       ∙ inv (streamed is 0 0)
       ∙ q.then (λ left. put left (mask_bytes l) (streamed is 0 0))
       ∙ p.puts.then (λ left. put left (19 ∷ []) (λ k. put k (mask_bytes l) (streamed is 0 0)))
-      ∙ ap (λ (g : ℕ → Written). resumed w.number w.next b (λ left. closed w.waits left g)) (fun_ext (λ left. put_cons left 19 (mask_bytes l) (streamed is 0 0)));
+      ∙ ap (λ (g : ℕ → Written). resumed w.next b (λ left. closed w.waits left g)) (fun_ext (λ left. put_cons left 19 (mask_bytes l) (streamed is 0 0)));
   at = ap₂ point_at (d.x ∙ e.x) (d.y ∙ e.y) ∙ p.at;
   same = m ∙ q.same ∙ p.puts.same;
 }

@@ -13,7 +13,8 @@ use Rattle.folding.specs.declared.Fold.{Fold}
 use Rattle.outline.specs.declared.Stem.{Stem}
 use Rattle.type1.specs.declared.Reading.{Reading}
 use Rattle.type1.specs.declared.Interpreted.{Interpreted}
-use Rattle.outline.specs.Outline.{Command, Group, pick, zero_stem}
+use Rattle.outline.specs.Outline.{Command, Group, pick, plus_zero, zero_stem}
+use borrow.Author.Tests.{ne_eqb}
 use Rattle.outline.specs.Store.{command_in, drawn_in, groups_in}
 use Rattle.type1.specs.State.{State}
 use Rattle.type1.specs.Run as Run
@@ -25,7 +26,7 @@ use Rattle.type1_to_type2.specs.declared.Collected.{Collected}
 use Rattle.type1_to_type2.specs.declared.Plan.{Plan}
 use Rattle.type1_to_type2.specs.declared.Writer.{Writer}
 use Rattle.type1_to_type2.specs.declared.Type2Glyph.{Type2Glyph}
-use Rattle.folding.specs.Folding.{finite_matrix, fold_of, folded_width, folded_list, folded_groups, finite_list, finite_groups, refusal}
+use Rattle.folding.specs.Folding.{finite_matrix, fold_of, folded_width, folded_list, folded_groups, finite_list, finite_groups}
 use Rattle.type2.specs.Bools.{yes}
 use Rattle.type1_to_type2.specs.Stems.{Declared, declared, all_stems}
 use Rattle.type1_to_type2.specs.Emission.{Cmd, items, commands, program}
@@ -36,7 +37,12 @@ use Rattle.type1_to_type2.specs.Convert.{folds_finite, Glyph, glyph_of, Conversi
 use Rattle.type1_to_type2.specs.Collecting.{Collects, Counted, none_collected}
 use Rattle.type1_to_type2.specs.Streaming.{resumed_all}
 use Rattle.type1_to_type2.specs.Passes.{both, BothTables, Gathers, stems_to, cmds_from, Stored}
-use Rattle.type1_to_type2.specs.Entry.{group_count, none_of, tables, Planned, opens, Opens, left_state, from_run, settles, Answers, ConvertsFrom, first_number}
+use Rattle.type1_to_type2.specs.Entry.{group_count, none_of, tables, Declares, Planned, left_state, from_run, settles, told, Gives, Answers, ConvertsFrom, first_number}
+use Rattle.std.specs.Prelude.{Result, Ok, Err, OnOk, IsOk, IsErr}
+use Rattle.refusal.specs.declared.Refusal.{Refusal}
+use Rattle.refusal.specs.declared.Refusal.TheVariants.{NotFinite}
+use Rattle.refusal.specs.Refusal as Refusals
+use Rattle.refusal.proofs.Numbers.{positive}
 use Rattle.type1_to_type2.specs.Fine.{written-finite}
 use Rattle.type1_to_type2.specs.Nonzero.{folded_nonzero}
 use Rattle.type1_to_type2.proofs.Folds.{finite_all}
@@ -56,49 +62,70 @@ nothing_left false ss w out = refl
 pub few_none : (k : ℕ) (c : Collected) → c ≡ none_of k → Counted c
 few_none k c e = subst Counted (sym e) (record { across = omega arith; upright = omega arith })
 
--- by the number so far, whether the width and the stems are finite (f and s), and whether the points are: then what is written was not refused
-settled : (b f s points : Bool) (n p : ℕ) (x y : Written) (v : List ℕ → Glyph) → eqb n 0 ≡ b → p ≡ pick b (pick (f && s) 0 14) n → ((f && s) ≡ true → x ≡ y) → ((c : List ℕ) → y ≡ Writing.wrote c → points ≡ true)
-    → settles p points (writes v (pick (eqb p 0) x (Writing.refused p))) ≡ pick b (pick (f && (points && s)) (writes v y) (Convert.refused 14)) (Convert.refused n)
-unfolding refusal
-settled false f s points n p x y v e q h g = ap (λ (j : ℕ). settles j points (writes v (pick (eqb j 0) x (Writing.refused j)))) q ∙ ap (λ (z : Bool). settles n points (writes v (pick z x (Writing.refused n)))) e ∙ ap (λ (z : Bool). Convert.refused (cond z (cond points n 14) n)) e
-settled true true true points n p x y v e q h g = ap (λ (j : ℕ). settles j points (writes v (pick (eqb j 0) x (Writing.refused j)))) q ∙ ap (λ (z : Written). settles 0 points (writes v z)) (h refl) ∙ late points y g
+-- by whether the width, the points and the stems are finite: what is written was then not refused
+settled : (f s points : Bool) (x y : Written) (v : List ℕ → Glyph) → (f && s) ≡ true → x ≡ y → ((c : List ℕ) → y ≡ Writing.wrote c → points ≡ true)
+    → settles points (writes v x) ≡ pick (f && (points && s)) (writes v y) (Convert.refused 14)
+settled true true points x y v e h g = ap (λ (z : Written). settles points (writes v z)) h ∙ late points y g
   where
-    late : (points : Bool) (y : Written) → ((c : List ℕ) → y ≡ Writing.wrote c → points ≡ true) → settles 0 points (writes v y) ≡ pick (points && true) (writes v y) (Convert.refused 14)
+    late : (points : Bool) (y : Written) → ((c : List ℕ) → y ≡ Writing.wrote c → points ≡ true) → settles points (writes v y) ≡ pick (points && true) (writes v y) (Convert.refused 14)
     late true (Writing.refused j) g = refl
     late true (Writing.wrote c) g = refl
     late false (Writing.refused j) g = refl
     late false (Writing.wrote c) g = absurd (true≢false (sym (g c refl)))
-settled true true false true n p x y v e q h g = ap (λ (j : ℕ). settles j true (writes v (pick (eqb j 0) x (Writing.refused j)))) q
-settled true true false false n p x y v e q h g = ap (λ (j : ℕ). settles j false (writes v (pick (eqb j 0) x (Writing.refused j)))) q
-settled true false s points n p x y v e q h g = ap (λ (j : ℕ). settles j points (writes v (pick (eqb j 0) x (Writing.refused j)))) q
+settled true false points x y v e h g = absurd (true≢false (sym e))
+settled false s points x y v e h g = absurd (true≢false (sym e))
 
-module _ (number : ℕ) (m : Matrix) (fold : Fold) (made : fold ≡ fold_of m) (r : Interpreted) (c : List ℕ) (z : List Stem) (room : ℕ) where
+not_settled : (f s points : Bool) (x : Conversion) → (f && s) ≡ false → pick (f && (points && s)) x (Convert.refused 14) ≡ Convert.refused 14
+not_settled true true points x e = absurd (true≢false e)
+not_settled true false true x e = refl
+not_settled true false false x e = refl
+not_settled false s points x e = refl
+
+module _ (m : Matrix) (fold : Fold) (made : fold ≡ fold_of m) (r : Interpreted) (c : List ℕ) (z : List Stem) (room : ℕ) where
   abbrev gs : List Group
   gs = folded_groups fold (groups_in r.entries c z)
 
-  -- what `from_run` says, by what is folded by
+  -- what `folded` says, by what is folded by
   abbrev folds : Fold → Conversion
   folds by =
       let gs = folded_groups by (groups_in r.entries c z) in
       let ds = folded_list by (drawn_in r.entries c) in
       let w = folded_width m r.width in
-      pick (eqb number 0) (pick (finite w && (finite_list ds && finite_groups gs)) (writes (glyph_of w r.ran) (write (program (declared gs) (commands 0 gs ds)) room)) (Convert.refused 14)) (Convert.refused number)
+      pick (finite w && (finite_list ds && finite_groups gs)) (writes (glyph_of w r.ran) (write (program (declared gs) (commands 0 gs ds)) room)) (Convert.refused 14)
 
-  from_made : from_run number m room r c z ≡ folds (fold_of m)
-  unfolding from_run folded folds_finite instructions
+  from_made : folded m room (left_state r c z) ≡ folds (fold_of m)
+  unfolding folded folds_finite instructions
   from_made = refl
 
   -- what was collected of all groups, and the tables of the plan
   collected_all : (k : ℕ) (c₀ cc : Collected) (l : List Stem) (ta tu ta₁ tu₁ : List Float) → length ta ≡ 192 → length tu ≡ 192 → c₀ ≡ none_of k → Gathers l c₀ ta tu cc ta₁ tu₁ → Collects l cc ta₁ tu₁
   collected_all k c₀ cc l ta tu ta₁ tu₁ la lu e₀ G = G.0 [] (subst (λ (x : Collected). Collects [] x ta tu) (sym e₀) (collects_group none_collected k ta tu [] (collects_first ta tu la lu)))
 
-  pub run-tables : (k : ℕ) (c₀ cc : Collected) (l : List Stem) (ta tu ta₁ tu₁ : List Float) (p : Plan) → length ta ≡ 192 → length tu ≡ 192 → c₀ ≡ none_of k → Gathers l c₀ ta tu cc ta₁ tu₁ → Planned number cc m r.width p → BothTables p.across p.upright ta₁ tu₁
+  pub run-tables : (k : ℕ) (c₀ cc : Collected) (l : List Stem) (ta tu ta₁ tu₁ : List Float) (p : Plan) → length ta ≡ 192 → length tu ≡ 192 → c₀ ≡ none_of k → Gathers l c₀ ta tu cc ta₁ tu₁ → Planned cc m r.width p → BothTables p.across p.upright ta₁ tu₁
   run-tables k c₀ cc l ta tu ta₁ tu₁ p la lu e₀ G P = P.order l ta₁ tu₁ (collected_all k c₀ cc l ta tu ta₁ tu₁ la lu e₀ G)
 
-  pub run_answers : (k : ℕ) (c₀ cc : Collected) (ta tu ta₁ tu₁ : List Float) (p : Plan) (w v : Writer) (out₁ out₂ out₃ : List ℕ) (g : Type2Glyph) (z' : List Stem)
-      → length ta ≡ 192 → length tu ≡ 192 → k ≡ group_count r.entries c → c₀ ≡ none_of k → Gathers (stems_to fold c z r.entries) c₀ ta tu cc ta₁ tu₁ → Planned number cc m r.width p → Opens p ta₁ tu₁ room w out₁ → z' ≡ z
+  -- the stems that were collected are finite where all groups are
+  same_stems : (k : ℕ) (c₀ cc : Collected) (ta tu ta₁ tu₁ : List Float) → length ta ≡ 192 → length tu ≡ 192 → c₀ ≡ none_of k → Gathers (stems_to fold c z r.entries) c₀ ta tu cc ta₁ tu₁ → cc.finite ≡ finite_groups gs
+  same_stems k c₀ cc ta tu ta₁ tu₁ la lu e₀ G =
+      let C = collected_all k c₀ cc (stems_to fold c z r.entries) ta tu ta₁ tu₁ la lu e₀ G in
+      let C' : Collects (all_stems gs) cc ta₁ tu₁ = subst (λ (x : List Stem). Collects x cc ta₁ tu₁) (stems_are fold c z r.entries) C in
+      C'.fine ∙ sym (finite_all gs)
+
+  -- no plan: the width or a stem is not finite
+  pub run_refused : (k : ℕ) (c₀ cc : Collected) (ta tu ta₁ tu₁ : List Float) (e : Refusal) (out : List ℕ)
+      → length ta ≡ 192 → length tu ≡ 192 → c₀ ≡ none_of k → Gathers (stems_to fold c z r.entries) c₀ ta tu cc ta₁ tu₁ → e ≡ NotFinite → (finite (folded_width m r.width) && cc.finite) ≡ false → length out ≡ room
+      → Gives (folded m room (left_state r c z)) room (Err e) out
+  run_refused k c₀ cc ta tu ta₁ tu₁ e out la lu e₀ G ee not l =
+      let s = same_stems k c₀ cc ta tu ta₁ tu₁ la lu e₀ G in
+      let ds = folded_list fold (drawn_in r.entries c) in
+      let x : folded m room (left_state r c z) ≡ Convert.refused 14 =
+      from_made ∙ ap folds (sym made) ∙ not_settled (finite (folded_width m r.width)) (finite_groups gs) (finite_list ds) (writes (glyph_of (folded_width m r.width) r.ran) (write (program (declared gs) (commands 0 gs ds)) room)) (ap (λ (b : Bool). finite (folded_width m r.width) && b) (sym s) ∙ not) in
+      record { glyph = ap (λ (i : Refusal). told (Err i)) ee ∙ ap answer (sym x); bytes = tt; same = l }
+
+  pub run_answers : (k : ℕ) (c₀ cc : Collected) (ta tu ta₁ tu₁ : List Float) (p : Plan) (w v : Writer) (out₁ out₂ out₃ : List ℕ) (g : Result Type2Glyph Refusal) (z' : List Stem)
+      → length ta ≡ 192 → length tu ≡ 192 → k ≡ group_count r.entries c → c₀ ≡ none_of k → Gathers (stems_to fold c z r.entries) c₀ ta tu cc ta₁ tu₁ → Planned cc m r.width p → Declares p.masked p.across p.upright ta₁ tu₁ room w out₁ → z' ≡ z
       → resumed_all p.masked (both p.across p.upright ta₁ tu₁) v out₂ [] ≡ resumed_all p.masked (both p.across p.upright ta₁ tu₁) w out₁ (cmds_from fold c z' 0 r.entries) → length out₂ ≡ room
-      → Answers (settles p.number (finite_list (folded_list fold (drawn_in r.entries c))) (writes (glyph_of p.width r.ran) (resumed_all false [] v out₂ []))) (length out₂) g out₃ → Answers (from_run number m room r c z) room g out₃
+      → Gives (settles (finite_list (folded_list fold (drawn_in r.entries c))) (writes (glyph_of p.width r.ran) (resumed_all false [] v out₂ []))) (length out₂) g out₃ → Gives (folded m room (left_state r c z)) room g out₃
   run_answers k c₀ cc ta tu ta₁ tu₁ p w v out₁ out₂ out₃ g z' la lu K e₀ G P B ez e l A =
       let C = collected_all k c₀ cc (stems_to fold c z r.entries) ta tu ta₁ tu₁ la lu e₀ G in
       let C' : Collects (all_stems gs) cc ta₁ tu₁ = subst (λ (x : List Stem). Collects x cc ta₁ tu₁) (stems_are fold c z r.entries) C in
@@ -106,18 +133,36 @@ module _ (number : ℕ) (m : Matrix) (fold : Fold) (made : fold ≡ fold_of m) (
       let ds = folded_list fold (drawn_in r.entries c) in
       let same : (fw && cc.finite) ≡ (fw && finite_groups gs) = ap (λ (x : Bool). fw && x) (C'.fine ∙ sym (finite_all gs)) in
       let counted : cc.groups ≡ length gs = G.1.0 ∙ ap (λ (x : Collected). x.groups) e₀ ∙ K ∙ count_is fold c z r.entries in
-      let left = nothing_left p.masked (both p.across p.upright ta₁ tu₁) v out₂ ∙ e ∙ ap (λ (x : List Stem). resumed_all p.masked (both p.across p.upright ta₁ tu₁) w out₁ (cmds_from fold c x 0 r.entries)) ez ∙ B.more (cmds_from fold c z 0 r.entries) ∙ opens_is p ta₁ tu₁ room (cmds_from fold c z 0 r.entries) in
-      let x : settles p.number (finite_list ds) (writes (glyph_of p.width r.ran) (resumed_all false [] v out₂ [])) ≡ from_run number m room r c z =
-      ap₂ (λ (a : Float) (b : Written). settles p.number (finite_list ds) (writes (glyph_of a r.ran) b)) P.width_is left
-      ∙ settled (eqb number 0) fw (finite_groups gs) (finite_list ds) number p.number (write (program (tables p ta₁ tu₁) (cmds_from fold c z 0 r.entries)) room) (write (program (declared gs) (commands 0 gs ds)) room) (glyph_of (folded_width m r.width) r.ran) refl
-      (P.number_is ∙ ap (λ (b : Bool). pick (eqb number 0) (pick b 0 14) number) same)
-      (λ f. ap₂ (λ (d : Declared) (cs : List Cmd). write (program d cs) room) (sym (P.stems gs ta₁ tu₁ C' counted (and_right fw cc.finite (same ∙ f)))) (commands_are fold c z r.entries))
+      let left = nothing_left p.masked (both p.across p.upright ta₁ tu₁) v out₂ ∙ e ∙ ap (λ (x : List Stem). resumed_all p.masked (both p.across p.upright ta₁ tu₁) w out₁ (cmds_from fold c x 0 r.entries)) ez ∙ B (cmds_from fold c z 0 r.entries) in
+      let x : settles (finite_list ds) (writes (glyph_of p.width r.ran) (resumed_all false [] v out₂ [])) ≡ folded m room (left_state r c z) =
+      ap₂ (λ (a : Float) (b : Written). settles (finite_list ds) (writes (glyph_of a r.ran) b)) P.width_is left
+      ∙ settled fw (finite_groups gs) (finite_list ds) (write (program (tables p ta₁ tu₁) (cmds_from fold c z 0 r.entries)) room) (write (program (declared gs) (commands 0 gs ds)) room) (glyph_of (folded_width m r.width) r.ran)
+      (sym same ∙ P.fine)
+      (ap₂ (λ (d : Declared) (cs : List Cmd). write (program d cs) room) (sym (P.stems gs ta₁ tu₁ C' counted)) (commands_are fold c z r.entries))
       (λ b q. yes (finite_list ds) (written-finite (declared gs) gs ds room b q))
       ∙ ap folds made ∙ sym from_made in
-      record { glyph = A.glyph ∙ ap answer x; bytes = A.bytes ∙ ap₂ output l x }
+      record { glyph = A.glyph ∙ ap answer x; bytes = output_of g x l A.bytes; same = A.same ∙ l }
     where
-      opens_is : (p : Plan) (ta tu : List Float) (room : ℕ) (cs : List Cmd) → opens p ta tu room cs ≡ pick (eqb p.number 0) (write (program (tables p ta tu) cs) room) (Writing.refused p.number)
-      opens_is p ta tu room cs = unfold opens in refl
+      output_of : (g : Result Type2Glyph Refusal) {x y : Conversion} {n k : ℕ} → x ≡ y → n ≡ k → OnOk g (out₃ ≡ output n x) → OnOk g (out₃ ≡ output k y)
+      output_of (Ok g) e l h = h ∙ ap₂ output l e
+      output_of (Err g) e l h = tt
+
+-- what is told of a run that was not refused
+pub gives_answers : (x : Conversion) (room : ℕ) (g : Result Type2Glyph Refusal) (out out' : List ℕ) → Gives x room g out → (IsOk g → out' ≡ out) → (IsErr g → out' ≡ replicate room 0) → Answers x room (told g) out'
+gives_answers x room (Ok g) out out' G f h = record { glyph = G.glyph; bytes = f refl ∙ G.bytes }
+gives_answers (Convert.refused n) room (Err e) out out' G f h = record { glyph = G.glyph; bytes = h refl }
+gives_answers (Convert.converted g) room (Err e) out out' G f h = absurd (let n = ap (λ (y : Type2Glyph). y.number) G.glyph in let p = positive e in let y : ⊥ = omega (arith, n, p) in y)
+
+-- from a run that was not refused, and from one that was
+pub from_run_on : (n : ℕ) (m : Matrix) (room : ℕ) (r : Interpreted) (c : List ℕ) (z : List Stem) → n ≡ 0 → folded m room (left_state r c z) ≡ from_run n m room r c z
+unfolding from_run
+from_run_on n m room r c z h = sym (ap (λ (k : ℕ). pick (eqb k 0) (folded m room (left_state r c z)) (Convert.refused k)) h)
+
+pub from_run_refused : (n : ℕ) (m : Matrix) (room : ℕ) (r : Interpreted) (c : List ℕ) (z : List Stem) (out : List ℕ) → (n ≡ 0 → ⊥) → out ≡ replicate room 0 → Answers (from_run n m room r c z) room (record { number = n; len = 0; width = plus_zero; ran = 0 }) out
+unfolding from_run
+from_run_refused n m room r c z out h e =
+    let q : from_run n m room r c z ≡ Convert.refused n = ap (λ (b : Bool). pick b (folded m room (left_state r c z)) (Convert.refused n)) (ne_eqb n 0 h) in
+    record { glyph = ap answer (sym q); bytes = e ∙ ap (output room) (sym q) }
 
 -- ---- the entry
 

@@ -21,6 +21,8 @@ use Rattle.type1_to_type2.proofs.Packing.{write-program}
 use Rattle.type1_to_type2.proofs.TableLaws.{table_length, table_at}
 use Rattle.type1_to_type2.specs.declared.Writer.{Writer}
 use Rattle.type1_to_type2.specs.declared.StemWriter.{StemWriter}
+use Rattle.std.specs.Prelude.{Result, Ok}
+use Rattle.refusal.specs.declared.Refusal.{Refusal}
 use Rattle.type1_to_type2.specs.Emission.{Item, items, written, second_edge}
 use Rattle.type1_to_type2.specs.Writing.{Written, refused, wrote, then_write, put, put_numbers}
 use Rattle.type1_to_type2.specs.Table.{table_stems}
@@ -31,11 +33,11 @@ use Rattle.type1_to_type2.specs.Streaming.{resumed, resumed_items, point_of, str
 
 -- ---- an operator that takes no more
 pub next-operator : {v : Writer} {b a : List ℕ} (op : ℕ) (s : StemWriter) → s.left ≡ 0 → Puts (λ f left. put left (op ∷ []) f) s.w b v a → (x : Stem) (ss : List Stem) (f : ℕ → Written) →
-    resumed v.number v.next a (λ room. stems_written op (x ∷ ss) 23 plus_zero room f) ≡ resumed s.w.number s.w.next b (λ room. stems_written op (x ∷ ss) s.left s.from room f)
+    resumed v.next a (λ room. stems_written op (x ∷ ss) 23 plus_zero room f) ≡ resumed s.w.next b (λ room. stems_written op (x ∷ ss) s.left s.from room f)
 unfolding stems_written
 next-operator {b = b} op s e p x ss f =
     p.then (λ room. stems_written op (x ∷ ss) 23 plus_zero room f)
-    ∙ ap (λ (k : ℕ). resumed s.w.number s.w.next b (λ room. stems_written op (x ∷ ss) k s.from room f)) (sym e)
+    ∙ ap (λ (k : ℕ). resumed s.w.next b (λ room. stems_written op (x ∷ ss) k s.from room f)) (sym e)
 
 -- ---- a stem
 one_stem : (op : ℕ) (x : Stem) (ss : List Stem) (from : Float) (k room : ℕ) (f : ℕ → Written) → 1 ≤ k → written (sub binary64 x.pos from) ≡ units (sub binary64 x.pos from) → written x.width ≡ units x.width →
@@ -49,11 +51,11 @@ one_stem op x ss from (suc k) room f h c d =
 pub stem-written : {v u : Writer} {b a z o : List ℕ} {s r : StemWriter} (op : ℕ) (x : Stem) (d : Float) → Begins op s b r a → d ≡ second_edge x →
     Puts (λ f left. put_numbers (units (sub binary64 x.pos r.from) ∷ []) left f) r.w a v z → written (sub binary64 x.pos r.from) ≡ units (sub binary64 x.pos r.from) →
     Puts (λ f left. put_numbers (units x.width ∷ []) left f) v z u o → written x.width ≡ units x.width → (ss : List Stem) (f : ℕ → Written) →
-    resumed u.number u.next o (λ room. stems_written op ss (r.left - 1) d room f) ≡ resumed s.w.number s.w.next b (λ room. stems_written op (x ∷ ss) s.left s.from room f)
+    resumed u.next o (λ room. stems_written op ss (r.left - 1) d room f) ≡ resumed s.w.next b (λ room. stems_written op (x ∷ ss) s.left s.from room f)
 stem-written {v} {u} {b} {a} {z} {o} {s} {r} op x d bg e p wp q wq ss f =
-    ap (λ (y : Float). resumed u.number u.next o (λ room. stems_written op ss (r.left - 1) y room f)) e
+    ap (λ (y : Float). resumed u.next o (λ room. stems_written op ss (r.left - 1) y room f)) e
     ∙ (in_turn p q).then (λ room. stems_written op ss (r.left - 1) (second_edge x) room f)
-    ∙ ap (resumed r.w.number r.w.next a) (fun_ext (λ room. one_stem op x ss r.from r.left room f bg.some wp wq))
+    ∙ ap (resumed r.w.next a) (fun_ext (λ room. one_stem op x ss r.from r.left room f bg.some wp wq))
     ∙ bg.then x ss f
 
 pub one_less : (k : ℕ) → k ≤ 23 → k - 1 ≤ 23
@@ -61,11 +63,11 @@ one_less k h = omega arith
 
 -- ---- the table
 pub stem_again : {s r : StemWriter} {b a : List ℕ} (op n i : ℕ) (h : Bool) (t : List Float) (y : Stem) (x : (ℕ → Written) → Written) → i < n → y ≡ table_stem h i t → Stemmed op y s b r a →
-    ((f : ℕ → Written) → resumed s.w.number s.w.next b (λ room. stems_written op (drop i (table_stems h n t)) s.left s.from room f) ≡ x f) →
-    (f : ℕ → Written) → resumed r.w.number r.w.next a (λ room. stems_written op (drop (i + 1) (table_stems h n t)) r.left r.from room f) ≡ x f
+    ((f : ℕ → Written) → resumed s.w.next b (λ room. stems_written op (drop i (table_stems h n t)) s.left s.from room f) ≡ x f) →
+    (f : ℕ → Written) → resumed r.w.next a (λ room. stems_written op (drop (i + 1) (table_stems h n t)) r.left r.from room f) ≡ x f
 stem_again {s} {r} {b} {a} op n i h t y x l e p inv f =
     p.then (drop (i + 1) (table_stems h n t)) f
-    ∙ ap (λ (ss : List Stem). resumed s.w.number s.w.next b (λ room. stems_written op ss s.left s.from room f)) (sym whole)
+    ∙ ap (λ (ss : List Stem). resumed s.w.next b (λ room. stems_written op ss s.left s.from room f)) (sym whole)
     ∙ inv f
   where
     whole : drop i (table_stems h n t) ≡ y ∷ drop (i + 1) (table_stems h n t)
@@ -76,18 +78,18 @@ none_left : (op n i : ℕ) (t : List Float) (h : Bool) (k : ℕ) (from : Float) 
 unfolding stems_written
 none_left op n i t h k from room f l = ap (λ (ss : List Stem). stems_written op ss k from room f) (sym (drop_of_length-le (table_stems h n t) (let z : length (table_stems h n t) ≤ i = omega (arith, table_length h t n) in z)))
 
-pub stems_full : (s : StemWriter) (b : List ℕ) (op n i : ℕ) (h : Bool) (t : List Float) → n ≤ i → s.left ≡ 23 → (f : ℕ → Written) → resumed s.w.number s.w.next b f ≡ resumed s.w.number s.w.next b (λ room. stems_written op (drop i (table_stems h n t)) s.left s.from room f)
+pub stems_full : (s : StemWriter) (b : List ℕ) (op n i : ℕ) (h : Bool) (t : List Float) → n ≤ i → s.left ≡ 23 → (f : ℕ → Written) → resumed s.w.next b f ≡ resumed s.w.next b (λ room. stems_written op (drop i (table_stems h n t)) s.left s.from room f)
 stems_full s b op n i h t l e f =
-    ap (resumed s.w.number s.w.next b) (fun_ext (λ room. ap (λ (c : Bool). pick c (f room) (put room (op ∷ []) f)) (sym (eq-eqb s.left 23 e)) ∙ none_left op n i t h s.left s.from room f l))
+    ap (resumed s.w.next b) (fun_ext (λ room. ap (λ (c : Bool). pick c (f room) (put room (op ∷ []) f)) (sym (eq-eqb s.left 23 e)) ∙ none_left op n i t h s.left s.from room f l))
 
 pub stems_last : {r : Writer} {b a : List ℕ} (s : StemWriter) (op n i : ℕ) (h : Bool) (t : List Float) → n ≤ i → (s.left ≡ 23 → ⊥) → Puts (λ f left. put left (op ∷ []) f) s.w b r a →
-    (f : ℕ → Written) → resumed r.number r.next a f ≡ resumed s.w.number s.w.next b (λ room. stems_written op (drop i (table_stems h n t)) s.left s.from room f)
+    (f : ℕ → Written) → resumed r.next a f ≡ resumed s.w.next b (λ room. stems_written op (drop i (table_stems h n t)) s.left s.from room f)
 stems_last {b = b} s op n i h t l e p f =
     p.then f
-    ∙ ap (resumed s.w.number s.w.next b) (fun_ext (λ room. ap (λ (c : Bool). pick c (f room) (put room (op ∷ []) f)) (sym (ne_eqb s.left 23 e)) ∙ none_left op n i t h s.left s.from room f l))
+    ∙ ap (resumed s.w.next b) (fun_ext (λ room. ap (λ (c : Bool). pick c (f room) (put room (op ∷ []) f)) (sym (ne_eqb s.left 23 e)) ∙ none_left op n i t h s.left s.from room f l))
 
 -- ---- both tables, from the start
-from_start : (out : List ℕ) (f : ℕ → Written) → resumed 0 0 out f ≡ f (length out)
+from_start : (out : List ℕ) (f : ℕ → Written) → resumed (Ok 0) out f ≡ f (length out)
 unfolding resumed
 from_start out f = ap (λ (k : ℕ). then_write (f k) (λ c. wrote c)) (let z : length out - 0 ≡ length out = omega arith in z) ∙ all (f (length out))
   where
@@ -95,14 +97,14 @@ from_start out f = ap (λ (k : ℕ). then_write (f k) (λ c. wrote c)) (let z : 
     all (refused n) = refl
     all (wrote b) = refl
 
-pub front_written : {w a r : Writer} {b z o : List ℕ} (p q na nu : ℕ) (ta tu : List Float) (masked : Bool) → p ≡ cond masked 18 1 → q ≡ cond masked 23 3 → w.number ≡ 0 → w.next ≡ 0 → point_of w ≡ origin → w.waits ≡ 0 → w.held ≡ 0 →
+pub front_written : {w a r : Writer} {b z o : List ℕ} (p q na nu : ℕ) (ta tu : List Float) (masked : Bool) → p ≡ cond masked 18 1 → q ≡ cond masked 23 3 → w.next ≡ Ok 0 → point_of w ≡ origin → w.waits ≡ 0 → w.held ≡ 0 →
     Puts (λ f left. stems_written p (table_stems true na ta) 23 plus_zero left f) w b a z → Still w a → Puts (λ f left. stems_written q (table_stems false nu tu) 23 plus_zero left f) a z r o → Still a r →
     Declares masked na nu ta tu (length b) r o
-front_written {w} {a} {r} {b} {z} {o} p q na nu ta tu masked ep eq n0 k0 at0 w0 h0 x sx y sy cs =
+front_written {w} {a} {r} {b} {z} {o} p q na nu ta tu masked ep eq k0 at0 w0 h0 x sx y sy cs =
     ap (λ (e : Point). resumed_items r o (items masked (both na nu ta tu) e cs)) (ap₂ point_at (sy.x ∙ sx.x) (sy.y ∙ sx.y) ∙ at0)
-    ∙ ap₂ (λ (k n : ℕ). resumed r.number r.next o (streamed path k n)) (sy.waits ∙ sx.waits ∙ w0) (sy.held ∙ sx.held ∙ h0)
+    ∙ ap₂ (λ (k n : ℕ). resumed r.next o (streamed path k n)) (sy.waits ∙ sx.waits ∙ w0) (sy.held ∙ sx.held ∙ h0)
     ∙ (in_turn x y).then (streamed path 0 0)
-    ∙ ap₂ (λ (n k : ℕ). resumed n k b (whole p q)) n0 k0
+    ∙ ap (λ (n : Result ℕ Refusal). resumed n b (whole p q)) k0
     ∙ from_start b (whole p q)
     ∙ ap₂ (λ (i j : ℕ). whole i j (length b)) ep eq
     ∙ sym (write-program (declared_by masked na nu ta tu) cs (length b))

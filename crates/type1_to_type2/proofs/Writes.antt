@@ -17,20 +17,38 @@ use Rattle.type2.specs.Bools.{choose}
 use Rattle.type2.specs.Put as Put
 use Rattle.type1_to_type2.specs.Writing.{Written, refused, wrote, then_write, put, put_numbers}
 use Rattle.type1_to_type2.specs.Streaming.{rest, resumed}
+use Rattle.std.specs.Prelude.{Result, Ok, Err}
+use Rattle.outline.specs.Outline.{pick}
+use Rattle.refusal.specs.declared.Refusal.{Refusal}
+use Rattle.refusal.specs.declared.Refusal.TheVariants.{OutputShort}
+use Rattle.refusal.specs.Refusal.{number_of}
+use Rattle.refusal.proofs.Numbers.{positive}
 
 -- ---- a refusal stays
-pub refused_stays : (n k j : ℕ) (o p : List ℕ) (f g : ℕ → Written) → (n ≡ 0 → ⊥) → resumed n k o f ≡ resumed n j p g
+pub refused_stays : (e : Refusal) (o p : List ℕ) (f g : ℕ → Written) → resumed (Err e) o f ≡ resumed (Err e) p g
 unfolding resumed
-refused_stays n k j o p f g h = rw (ne_eqb n 0 h)
+refused_stays e o p f g = refl
+
+pub stays_refused : {r : Result ℕ Refusal} (e : Refusal) (o : List ℕ) (f g : ℕ → Written) → r ≡ Err e → resumed r o f ≡ resumed r o g
+stays_refused e o f g h = ap (λ (x : Result ℕ Refusal). resumed x o f) h ∙ refused_stays e o o f g ∙ ap (λ (x : Result ℕ Refusal). resumed x o g) (sym h)
 
 -- refused here
-pub now_refused : (n k at : ℕ) (o out : List ℕ) (f : ℕ → Written) → resumed (suc n) k o f ≡ resumed 0 at out (λ left. refused (suc n))
+pub now_refused : (e : Refusal) (n at : ℕ) (o out : List ℕ) (f : ℕ → Written) → number_of e ≡ n → resumed (Err e) o f ≡ resumed (Ok at) out (λ left. refused n)
 unfolding resumed
-now_refused n k at o out f = rw (ne_eqb (suc n) 0 (λ e. let z : ⊥ = omega arith in z))
+now_refused e n at o out f h = ap refused h
 
 -- not refused before
-pub not_before : (m k : ℕ) (o : List ℕ) (x : Written) (g : ℕ → Written) → m ≡ 0 → x ≡ resumed 0 k o g → x ≡ resumed m k o g
-not_before m k o x g e h = h ∙ ap (λ (n : ℕ). resumed n k o g) (sym e)
+pub not_before : {r : Result ℕ Refusal} (k : ℕ) (o : List ℕ) (x : Written) (g : ℕ → Written) → r ≡ Ok k → x ≡ resumed (Ok k) o g → x ≡ resumed r o g
+not_before k o x g e h = h ∙ ap (λ (n : Result ℕ Refusal). resumed n o g) (sym e)
+
+-- the same, of a push
+abbrev pushes_on : Push → (ℕ → Written) → Written
+pushes_on p f = pick (eqb p.number 0) (rest (take p.next p.holds) f (length p.holds)) (refused p.number)
+
+pushed_on : (r : Result ℕ Refusal) (o : List ℕ) (f : ℕ → Written) → resumed r o f ≡ pushes_on (Number.pushed r o) f
+unfolding resumed
+pushed_on (Ok n) o f = refl
+pushed_on (Err e) o f = rw (ne_eqb (number_of e) 0 (λ z. let h = positive e in let y : ⊥ = omega (arith, h, z) in y)) refl
 
 then_then : (x : Written) (p q : List ℕ) → then_write x (λ c. wrote ((p ++ q) ++ c)) ≡ then_write (then_write x (λ c. wrote (q ++ c))) (λ c. wrote (p ++ c))
 then_then (refused n) p q = refl
@@ -39,15 +57,15 @@ then_then (wrote c) p q = ap wrote (append_assoc p q c)
 -- ---- bytes at a place
 
 -- p and then l, which fit
-more : (p l out o : List ℕ) (k : ℕ) (f : ℕ → Written) → take k o ≡ p ++ l → length o ≡ length out → length p + length l ≤ length out → resumed 0 k o f ≡ rest p (λ left. put left l f) (length out)
-unfolding resumed put
+more : (p l out o : List ℕ) (k : ℕ) (f : ℕ → Written) → take k o ≡ p ++ l → length o ≡ length out → length p + length l ≤ length out → rest (take k o) f (length o) ≡ rest p (λ left. put left l f) (length out)
+unfolding put
 more p l out o k f e s h =
     let n : length out - length (p ++ l) ≡ length out - length p - length l = omega (arith, length-append p l) in
     rw (e, s, n, le-leb (length l) (length out - length p) (let z : length l ≤ length out - length p = omega arith in z)) (then_then (f (length out - length p - length l)) p l)
 
-pub stored : (out : List ℕ) (at b : ℕ) (bs : List ℕ) (f : ℕ → Written) → let p = Number.put out at (b ∷ bs) in resumed p.number p.next p.holds f ≡ resumed 0 at out (λ left. put left (b ∷ bs) f)
+pub stored : (out : List ℕ) (at b : ℕ) (bs : List ℕ) (f : ℕ → Written) → pushes_on (Number.put out at (b ∷ bs)) f ≡ resumed (Ok at) out (λ left. put left (b ∷ bs) f)
 unfolding Number.put resumed put
-stored out at b bs f = choose (leb (at + length l) (length out)) (λ (p : Push). resumed p.number p.next p.holds f ≡ resumed 0 at out (λ left. put left l f)) _ _ fits none
+stored out at b bs f = choose (leb (at + length l) (length out)) (λ (p : Push). pushes_on p f ≡ resumed (Ok at) out (λ left. put left l f)) _ _ fits none
   where
     l : List ℕ
     l = b ∷ bs
@@ -55,7 +73,7 @@ stored out at b bs f = choose (leb (at + length l) (length out)) (λ (p : Push).
     h : List ℕ
     h = take at out
 
-    fits : T (leb (at + length l) (length out)) → resumed 0 (at + length l) (h ++ l ++ drop (at + length l) out) f ≡ rest h (λ left. put left l f) (length out)
+    fits : T (leb (at + length l) (length out)) → rest (take (at + length l) (h ++ l ++ drop (at + length l) out)) f (length (h ++ l ++ drop (at + length l) out)) ≡ rest h (λ left. put left l f) (length out)
     fits t =
         let g : at + length l ≤ length out = leb→le (at + length l) (length out) t in
         let n : length h ≡ at = omega (arith, length-take at out) in
@@ -77,31 +95,31 @@ number_cons u P h =
     (λ _. choose (ltb (zp u / 65536) 108 && ltb (zm u / 65536) 108) P _ _ (λ _. h _ _) (λ _. choose (ltb 107 (zp u / 65536) && ltb (zp u / 65536) 1132) P _ _ (λ _. h _ _) (λ _. choose (ltb 107 (zm u / 65536) && ltb (zm u / 65536) 1132) P _ _ (λ _. h _ _) (λ _. h _ _))))
     (λ _. h _ _)
 
-pub pushed : (out : List ℕ) (at : ℕ) (v : Float) (n k : ℕ) (o : List ℕ) (f : ℕ → Written) → gave n k o ≡ push_number out at v → resumed n k o f ≡ resumed 0 at out (λ left. put_numbers (units v ∷ []) left f)
+pub pushed : (out : List ℕ) (at : ℕ) (v : Float) (r : Result ℕ Refusal) (o : List ℕ) (f : ℕ → Written) → Number.pushed r o ≡ push_number out at v → resumed r o f ≡ resumed (Ok at) out (λ left. put_numbers (units v ∷ []) left f)
 unfolding push_number put_numbers
-pushed out at v n k o f e = ap (λ (p : Push). resumed p.number p.next p.holds f) e ∙ go (in_range (units v))
+pushed out at v r o f e = pushed_on r o f ∙ ap (λ (p : Push). pushes_on p f) e ∙ go (in_range (units v))
   where
-    go : (b : Bool) → let p = cond b (Number.put out at (number_bytes (units v))) (gave 13 0 out) in resumed p.number p.next p.holds f ≡ resumed 0 at out (λ left. cond b (put left (number_bytes (units v)) f) (refused 13))
-    go true = number_cons (units v) (λ (l : List ℕ). let p = Number.put out at l in resumed p.number p.next p.holds f ≡ resumed 0 at out (λ left. put left l f)) (λ b bs. stored out at b bs f)
-    go false = now_refused 12 0 at out out f
+    go : (b : Bool) → pushes_on (cond b (Number.put out at (number_bytes (units v))) (gave 13 0 out)) f ≡ resumed (Ok at) out (λ left. cond b (put left (number_bytes (units v)) f) (refused 13))
+    go true = number_cons (units v) (λ (l : List ℕ). pushes_on (Number.put out at l) f ≡ resumed (Ok at) out (λ left. put left l f)) (λ b bs. stored out at b bs f)
+    go false = unfold resumed in refl
 
 -- two numbers: the first is refused, or neither is
-pub pair_refused : (out : List ℕ) (at : ℕ) (v : Float) (u : ℤ) (n k : ℕ) (o : List ℕ) (f : ℕ → Written) → gave n k o ≡ push_number out at v → (n ≡ 0 → ⊥) → resumed n k o f ≡ resumed 0 at out (λ left. put_numbers (units v ∷ u ∷ []) left f)
+pub pair_refused : (out : List ℕ) (at : ℕ) (v : Float) (u : ℤ) (e : Refusal) (o : List ℕ) (f : ℕ → Written) → Number.pushed (Err e) o ≡ push_number out at v → resumed (Err e) o f ≡ resumed (Ok at) out (λ left. put_numbers (units v ∷ u ∷ []) left f)
 unfolding put_numbers
-pair_refused out at v u n k o f e h = refused_stays n k k o o f (λ left. put_numbers (u ∷ []) left f) h ∙ pushed out at v n k o (λ left. put_numbers (u ∷ []) left f) e
+pair_refused out at v u e o f h = refused_stays e o o f (λ left. put_numbers (u ∷ []) left f) ∙ pushed out at v (Err e) o (λ left. put_numbers (u ∷ []) left f) h
 
-pub pair-pushed : (out : List ℕ) (at : ℕ) (v w : Float) (n k : ℕ) (o : List ℕ) (m j : ℕ) (q : List ℕ) (f : ℕ → Written) → gave n k o ≡ push_number out at v → n ≡ 0 → gave m j q ≡ push_number o k w → resumed m j q f ≡ resumed 0 at out (λ left. put_numbers (units v ∷ units w ∷ []) left f)
+pub pair-pushed : (out : List ℕ) (at : ℕ) (v w : Float) (k : ℕ) (o : List ℕ) (r : Result ℕ Refusal) (q : List ℕ) (f : ℕ → Written) → Number.pushed (Ok k) o ≡ push_number out at v → Number.pushed r q ≡ push_number o k w → resumed r q f ≡ resumed (Ok at) out (λ left. put_numbers (units v ∷ units w ∷ []) left f)
 unfolding put_numbers
-pair-pushed out at v w n k o m j q f e h d = not_before n k o _ _ h (pushed o k w m j q f d) ∙ pushed out at v n k o (λ left. put_numbers (units w ∷ []) left f) e
+pair-pushed out at v w k o r q f e d = pushed o k w r q f d ∙ pushed out at v (Ok k) o (λ left. put_numbers (units w ∷ []) left f) e
 
 -- one byte
-pub byte_stored : (m : ℕ) (out : List ℕ) (at b : ℕ) (f : ℕ → Written) → m ≡ 0 → at < length out → resumed m (at + 1) (set out at b) f ≡ resumed m at out (λ left. put left (b ∷ []) f)
-byte_stored m out at b f e h =
-    rw e (ap (λ (p : Push). resumed p.number p.next p.holds f) (Put.stored out at b [] (let z : at + 1 ≤ length out = omega arith in z)) ∙ stored out at b [] f)
+pub byte_stored : (out : List ℕ) (at b : ℕ) (f : ℕ → Written) → at < length out → resumed (Ok (at + 1)) (set out at b) f ≡ resumed (Ok at) out (λ left. put left (b ∷ []) f)
+byte_stored out at b f h =
+    pushed_on (Ok (at + 1)) (set out at b) f ∙ ap (λ (p : Push). pushes_on p f) (Put.stored out at b [] (let z : at + 1 ≤ length out = omega arith in z)) ∙ stored out at b [] f
 
-pub byte_refused : (out : List ℕ) (at k b : ℕ) (f : ℕ → Written) → length out ≤ at → resumed 18 k out f ≡ resumed 0 at out (λ left. put left (b ∷ []) f)
+pub byte_refused : (out : List ℕ) (at b : ℕ) (f : ℕ → Written) → length out ≤ at → resumed (Err OutputShort) out f ≡ resumed (Ok at) out (λ left. put left (b ∷ []) f)
 unfolding resumed put
-byte_refused out at k b f h = rw (lt-leb 1 (length out - length (take at out)) (let z : length out - length (take at out) < 1 = omega (arith, length-take at out) in z))
+byte_refused out at b f h = rw (lt-leb 1 (length out - length (take at out)) (let z : length out - length (take at out) < 1 = omega (arith, length-take at out) in z))
 
 -- ---- no bytes, and bytes one by one
 pub put_nil : (left : ℕ) (f : ℕ → Written) → put left [] f ≡ f left

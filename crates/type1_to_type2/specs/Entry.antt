@@ -1,5 +1,7 @@
 -- Definitions: what the entry and its parts answer and leave. Document 01, "Numbers the board logs", "What each entry is held to", a.
-use Rattle.std.specs.Prelude.{ℕ, zero, suc, ◌+◌, ◌≤◌, ◌≡◌, Bool, true, false, ◌&&◌, List, [], eqb, length, replicate, Float}
+use Rattle.std.specs.Prelude.{ℕ, zero, suc, ◌+◌, ◌≤◌, ◌≡◌, Bool, true, false, ◌&&◌, List, [], eqb, length, replicate, Float, cond, Result, Ok, Err, OnOk}
+use Rattle.refusal.specs.declared.Refusal.{Refusal}
+use Rattle.refusal.specs.Refusal.{number_of}
 use Rattle.std.specs.Float.Ieee.Scale.{finite}
 use Rattle.geometry.specs.declared.Matrix.{Matrix}
 use Rattle.outline.specs.declared.Stem.{Stem}
@@ -13,10 +15,10 @@ use Rattle.type1_to_type2.specs.declared.Collected.{Collected}
 use Rattle.type1_to_type2.specs.declared.Plan.{Plan}
 use Rattle.type1_to_type2.specs.declared.Writer.{Writer}
 use Rattle.type1_to_type2.specs.declared.Type2Glyph.{Type2Glyph}
-use Rattle.folding.specs.Folding.{finite_matrix, folded_width, refusal}
+use Rattle.folding.specs.Folding.{finite_matrix, folded_width}
 use Rattle.type1_to_type2.specs.Stems.{Declared, declared, all_stems}
 use Rattle.type1_to_type2.specs.Emission.{Cmd, program}
-use Rattle.type1_to_type2.specs.Writing.{Written, refused, write}
+use Rattle.type1_to_type2.specs.Writing.{write}
 use Rattle.type1_to_type2.specs.Convert as Convert
 use Rattle.type1_to_type2.specs.Convert.{Conversion, Rooms, folded, convert, answer, output}
 use Rattle.type1_to_type2.specs.Table.{table_stems}
@@ -44,20 +46,13 @@ tables p ta tu = declared_by p.masked p.across p.upright ta tu
 abbrev pub Declares : Bool → ℕ → ℕ → List Float → List Float → ℕ → Writer → List ℕ → Type 0
 Declares masked na nu ta tu room w out = (cs : List Cmd) → resumed_all masked (both na nu ta tu) w out cs ≡ write (program (declared_by masked na nu ta tu) cs) room
 
--- what is to be written: the number, 14 where the folded width or a folded stem is not finite, and the stems that are declared
-pub record Planned (number : ℕ) (c : Collected) (m : Matrix) (width : Float) (p : Plan) : Type 0 where
-  pub number_is : p.number ≡ pick (eqb number 0) (pick (finite (folded_width m width) && c.finite) 0 14) number
+-- what is to be written: the folded width, the stems that are declared, and that these are finite
+pub record Planned (c : Collected) (m : Matrix) (width : Float) (p : Plan) : Type 0 where
+  pub fine : (finite (folded_width m width) && c.finite) ≡ true
   pub width_is : p.width ≡ folded_width m width
   pub few : p.across + p.upright ≤ 96
-  pub stems : (gs : List Group) (ta tu : List Float) → Collects (all_stems gs) c ta tu → c.groups ≡ length gs → c.finite ≡ true → declared gs ≡ tables p ta tu
+  pub stems : (gs : List Group) (ta tu : List Float) → Collects (all_stems gs) c ta tu → c.groups ≡ length gs → declared gs ≡ tables p ta tu
   pub order : (l : List Stem) (ta tu : List Float) → Collects l c ta tu → BothTables p.across p.upright ta tu
-
--- what is written of commands cs, into so much room
-unfoldable pub opens : Plan → List Float → List Float → ℕ → List Cmd → Written
-opens p ta tu room cs = pick (eqb p.number 0) (write (program (tables p ta tu) cs) room) (refused p.number)
-
-pub record Opens (p : Plan) (ta tu : List Float) (room : ℕ) (w : Writer) (out : List ℕ) : Type 0 where
-  pub more : (cs : List Cmd) → resumed_all p.masked (both p.across p.upright ta tu) w out cs ≡ opens p ta tu room cs
 
 -- the run's state, as far as the stores and the answer tell it
 abbrev pub left_state : Interpreted → List ℕ → List Stem → State
@@ -71,10 +66,21 @@ first_number m n = pick (finite_matrix m) n 1
 unfoldable pub from_run : ℕ → Matrix → ℕ → Interpreted → List ℕ → List Stem → Conversion
 from_run number m room r c z = pick (eqb number 0) (folded m room (left_state r c z)) (Convert.refused number)
 
--- a conversion, with the number before writing and whether the folded points are finite
-abbrev pub settles : ℕ → Bool → Conversion → Conversion
-settles before points (Convert.refused n) = Convert.refused (refusal before n points)
-settles before points (Convert.converted g) = Convert.converted g
+-- a conversion, with whether the folded points are finite
+abbrev pub settles : Bool → Conversion → Conversion
+settles points (Convert.refused n) = Convert.refused (cond points n 14)
+settles points (Convert.converted g) = Convert.converted g
+
+-- an answer in words
+abbrev pub told : Result Type2Glyph Refusal → Type2Glyph
+told (Ok g) = g
+told (Err e) = answer (Convert.refused (number_of e))
+
+-- a result that is a conversion's, and on success the output too
+pub record Gives (x : Conversion) (room : ℕ) (r : Result Type2Glyph Refusal) (out : List ℕ) : Type 0 where
+  pub glyph : told r ≡ answer x
+  pub bytes : OnOk r (out ≡ output room x)
+  pub same : length out ≡ room
 
 -- an answer and an output that are a conversion's
 pub record Answers (x : Conversion) (room : ℕ) (g : Type2Glyph) (out : List ℕ) : Type 0 where

@@ -1,5 +1,5 @@
 -- Definitions: what the functions that hold the stem store leave. Document 01, "Forms of the Rust that need another": "the caller lends the stem store as a slice of stem records".
-use Rattle.std.specs.Prelude.{ℕ, zero, suc, ◌+◌, ◌*◌, ◌≤◌, ◌<◌, ◌≡◌, true, false, List, [], ◌++◌, length, take, drop, Float}
+use Rattle.std.specs.Prelude.{ℕ, zero, suc, ◌+◌, ◌*◌, ◌≤◌, ◌<◌, ◌≡◌, Bool, true, false, List, [], ◌++◌, length, take, drop, Float}
 use Rattle.folding.specs.declared.Fold.{Fold}
 use Rattle.outline.specs.declared.Stem.{Stem}
 use Rattle.outline.specs.Store.{entry_words, word, command_in}
@@ -39,6 +39,10 @@ Listed l na nu ta tu k t = take k t ≡ places_from 0 (mask_of l (both na nu ta 
 -- the places of folded stems g were put among those of the stems before them
 abbrev pub ListsMore : List Stem → ℕ → ℕ → List Float → List Float → ℕ → List ℕ → ℕ → List ℕ → Type 0
 ListsMore g na nu ta tu k t k' t' = (length t' ≡ length t) × ((k' ≤ 96) × ((l : List Stem) → Listed l na nu ta tu k t → Listed (l ++ g) na nu ta tu k' t'))
+
+-- where masks are needed the first k' of t' are the places of the folded stems g alone
+abbrev pub PlacesOf : Bool → List Stem → ℕ → ℕ → List Float → List Float → List ℕ → ℕ → List ℕ → Type 0
+PlacesOf masked g na nu ta tu t k' t' = (length t' ≡ length t) × ((k' ≤ 96) × (masked ≡ true → Listed g na nu ta tu k' t'))
 
 -- the folded stems of the group that starts at entry e, none where no group does
 unfoldable pub group_at : Fold → List ℕ → List Stem → ℕ → List Stem

@@ -1,5 +1,7 @@
 -- Definitions: a program written as its parts come, an operator once no more operands share it; and what the code has yet to write. Document 01, "Path", "Stems and masks", "Numbers the board logs": "writing in byte order".
-use Rattle.std.specs.Prelude.{◌≡◌, ℕ, zero, suc, ◌+◌, ◌-◌, ◌%◌, ◌≤◌, ◌<◌, Bool, true, ◌&&◌, List, [], ◌∷◌, ◌++◌, length, take, replicate, eqb, leb, ℤ, Float}
+use Rattle.std.specs.Prelude.{◌≡◌, ℕ, zero, suc, ◌+◌, ◌-◌, ◌%◌, ◌≤◌, ◌<◌, Bool, true, ◌&&◌, List, [], ◌∷◌, ◌++◌, length, take, replicate, eqb, leb, ℤ, Float, Result, Ok, Err}
+use Rattle.refusal.specs.declared.Refusal.{Refusal}
+use Rattle.refusal.specs.Refusal.{number_of, number_in}
 use Rattle.geometry.specs.declared.Point.{Point}
 use Rattle.folding.specs.declared.Fold.{Fold}
 use Rattle.outline.specs.declared.Stem.{Stem}
@@ -19,9 +21,10 @@ use Rattle.type1_to_type2.specs.Writing.{Written, refused, wrote, then_write, pu
 abbrev pub rest : List ℕ → (ℕ → Written) → ℕ → Written
 rest p f room = then_write (f (room - length p)) (λ c. wrote (p ++ c))
 
--- refused with a number, or 0 and the place of the next byte
-unfoldable pub resumed : ℕ → ℕ → List ℕ → (ℕ → Written) → Written
-resumed number next out f = pick (eqb number 0) (rest (take next out) f (length out)) (refused number)
+-- refused, or the place of the next byte
+unfoldable pub resumed : Result ℕ Refusal → List ℕ → (ℕ → Written) → Written
+resumed (Ok next) out f = rest (take next out) f (length out)
+resumed (Err r) out f = refused (number_of r)
 
 abbrev pub put_instr : Instr → ℕ → (ℕ → Written) → Written
 put_instr i room f = put_numbers i.operands room (λ left. put left i.code f)
@@ -56,7 +59,7 @@ abbrev pub point_of : Writer → Point
 point_of w = record { x = w.x; y = w.y }
 
 abbrev pub resumed_items : Writer → List ℕ → List Item → Written
-resumed_items w out is = resumed w.number w.next out (streamed is w.waits w.held)
+resumed_items w out is = resumed w.next out (streamed is w.waits w.held)
 
 -- the commands cs, with the stems ss declared
 abbrev pub resumed_all : Bool → List Stem → Writer → List ℕ → List Cmd → Written
@@ -86,7 +89,7 @@ point_count kind = pick (eqb kind 3) 3 (pick (eqb kind 2) 1 (pick (eqb kind 4) 6
 -- ---- what a function has written: g of what follows
 
 pub record Puts (g : (ℕ → Written) → ℕ → Written) (w : Writer) (before : List ℕ) (r : Writer) (after : List ℕ) : Type 0 where
-  pub then : (f : ℕ → Written) → resumed r.number r.next after f ≡ resumed w.number w.next before (g f)
+  pub then : (f : ℕ → Written) → resumed r.next after f ≡ resumed w.next before (g f)
   pub same : length after ≡ length before
 
 -- the point and the waiting operator are as they were
@@ -116,7 +119,7 @@ pub record Batched (op count : ℕ) (more : Bool) (w : Writer) (before : List �
 -- the deltas to the points ps are written; the point counts no more once a number is refused
 pub record Goes (ps : List Point) (w : Writer) (before : List ℕ) (r : Writer) (after : List ℕ) : Type 0 where
   pub puts : Puts (λ f left. put_numbers (deltas (point_of w) ps) left f) w before r after
-  pub at : r.number ≡ 0 → point_of r ≡ arrives (point_of w) ps
+  pub at : (n : ℕ) → r.next ≡ Ok n → point_of r ≡ arrives (point_of w) ps
   pub waits : r.waits ≡ w.waits
   pub held : r.held ≡ w.held
 
@@ -146,7 +149,7 @@ pub record Masks (bits : List Bool) (w : Writer) (before : List ℕ) (r : Writer
 -- before a stem of op
 pub record Begins (op : ℕ) (s : StemWriter) (before : List ℕ) (r : StemWriter) (after : List ℕ) : Type 0 where
   pub then : (x : Stem) (ss : List Stem) (f : ℕ → Written) →
-      resumed r.w.number r.w.next after (λ room. stems_written op (x ∷ ss) r.left r.from room f) ≡ resumed s.w.number s.w.next before (λ room. stems_written op (x ∷ ss) s.left s.from room f)
+      resumed r.w.next after (λ room. stems_written op (x ∷ ss) r.left r.from room f) ≡ resumed s.w.next before (λ room. stems_written op (x ∷ ss) s.left s.from room f)
   pub still : Still s.w r.w
   pub some : 1 ≤ r.left
   pub few : s.left ≤ 23 → r.left ≤ 23
@@ -155,15 +158,15 @@ pub record Begins (op : ℕ) (s : StemWriter) (before : List ℕ) (r : StemWrite
 -- a stem x of op
 pub record Stemmed (op : ℕ) (x : Stem) (s : StemWriter) (before : List ℕ) (r : StemWriter) (after : List ℕ) : Type 0 where
   pub then : (ss : List Stem) (f : ℕ → Written) →
-      resumed r.w.number r.w.next after (λ room. stems_written op ss r.left r.from room f) ≡ resumed s.w.number s.w.next before (λ room. stems_written op (x ∷ ss) s.left s.from room f)
+      resumed r.w.next after (λ room. stems_written op ss r.left r.from room f) ≡ resumed s.w.next before (λ room. stems_written op (x ∷ ss) s.left s.from room f)
   pub still : Still s.w r.w
   pub few : r.left ≤ 23
   pub same : length after ≡ length before
 
--- what a written program leaves: the answer's number and length, and the output's every byte, of so many
-abbrev pub Ends : ℕ → Written → Writer → List ℕ → Type 0
-Ends room (refused k) r out = (0 < k) × ((r.number ≡ k) × ((r.next ≡ 0) × (out ≡ replicate room 0)))
-Ends room (wrote b) r out = (r.number ≡ 0) × ((r.next ≡ length b) × (out ≡ b ++ replicate (room - length b) 0))
+-- what a written program leaves: its length, and the output's every byte, of so many; or a refusal
+abbrev pub Ends : ℕ → Written → Result ℕ Refusal → List ℕ → Type 0
+Ends room (refused k) r out = (0 < k) × ((number_in r ≡ k) × (length out ≡ room))
+Ends room (wrote b) r out = (r ≡ Ok (length b)) × ((out ≡ b ++ replicate (room - length b) 0) × (length out ≡ room))
 
 -- entry e is written, where n stems are declared; g are the stems of the group that it starts, if it starts one, and p their places where masks are needed
 abbrev pub Writes : Bool → Fold → List ℕ → ℕ → ℕ → List ℕ → Writer → List ℕ → Writer → List ℕ → Type 0

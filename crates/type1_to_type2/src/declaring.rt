@@ -60,11 +60,9 @@ fn write_stems(
         from: 0.0,
         left: 23,
     };
-    let mut i = 0;
-    while i < n {
+    for i in 0..n {
         let x = table_stem(horizontal, i, table);
         s = write_stem(op, x, s, out);
-        i += 1;
     }
     let v = s.w;
     if s.left == 23 {
@@ -87,8 +85,7 @@ pub(crate) fn write_front(
     ensures out_len_unchanged { length out.new ≡ length out.old }
 {
     let w = Writer {
-        number: 0,
-        next: 0,
+        next: Ok(0),
         x: 0.0,
         y: 0.0,
         waits: 0,

@@ -22,23 +22,19 @@ fn read_point(commands: &[u64], e: usize, i: usize, fold: Fold) -> geometry::Poi
 {
     let x = f64::from_bits(commands[ENTRY * e + i]);
     let y = f64::from_bits(commands[ENTRY * e + (i + 1)]);
-    folding::fold_point(fold, x, y)
+    fold.fold_point(x, y)
 }
 
 // How many points an entry has by its kind: none where it is no line, curve or flex.
 fn points_of(kind: u64) -> usize
     ensures { (result ≡ point_count kind) × (result ≤ 6) }
 {
-    if kind == CURVE {
-        return 3;
+    match kind {
+        LINE => 1,
+        CURVE => 3,
+        FLEX => 6,
+        _ => 0,
     }
-    if kind == LINE {
-        return 1;
-    }
-    if kind == FLEX {
-        return 6;
-    }
-    0
 }
 
 // Before an entry's points: a line or a curve shares an operator that takes one more; before a flex the
@@ -46,16 +42,12 @@ fn points_of(kind: u64) -> usize
 fn begin_entry(kind: u64, w: Writer, out: &mut [u8]) -> Writer
     ensures { EntryBegins kind w out.old result out.new }
 {
-    if kind == CURVE {
-        return batch(T2_RRCURVETO, 6, type2::takes_curve(w.held), w, out);
+    match kind {
+        LINE => batch(T2_RLINETO, 2, type2::takes_line(w.held), w, out),
+        CURVE => batch(T2_RRCURVETO, 6, type2::takes_curve(w.held), w, out),
+        FLEX => flush(w, out),
+        _ => w,
     }
-    if kind == LINE {
-        return batch(T2_RLINETO, 2, type2::takes_line(w.held), w, out);
-    }
-    if kind == FLEX {
-        return flush(w, out);
-    }
-    w
 }
 
 // The deltas to the first n points of entry e. One call of `put_delta` for lines, curves and flexes, so that
@@ -73,11 +65,9 @@ fn draw_points(
     ensures { Goes (folded_points fold (points_in commands.now e 1 n)) w out.old result out.new }
 {
     let mut r = w;
-    let mut j = 0;
-    while j < n {
+    for j in 0..n {
         let p = read_point(commands, e, 2 * j + 1, fold);
         r = put_delta(p.x, p.y, r, out);
-        j += 1;
     }
     r
 }
@@ -113,17 +103,22 @@ pub(crate) fn write_entry(
     ensures { Writes masked fold commands.now e n (take k places.now) w out.old result out.new }
 {
     let kind = commands[ENTRY * e];
-    if kind == MOVE {
-        let p = read_point(commands, e, 1, fold);
-        return move_to(p.x, p.y, w, out);
-    }
-    if kind == GROUP {
-        if masked {
-            return write_mask(n, k, places, w, out);
+    match kind {
+        MOVE => {
+            let p = read_point(commands, e, 1, fold);
+            move_to(p.x, p.y, w, out)
         }
-        return w;
+        GROUP => {
+            if masked {
+                write_mask(n, k, places, w, out)
+            } else {
+                w
+            }
+        }
+        _ => {
+            let a = begin_entry(kind, w, out);
+            let b = draw_points(commands, e, points_of(kind), fold, a, out);
+            end_entry(commands, e, kind, b, out)
+        }
     }
-    let a = begin_entry(kind, w, out);
-    let b = draw_points(commands, e, points_of(kind), fold, a, out);
-    end_entry(commands, e, kind, b, out)
 }

@@ -1,18 +1,17 @@
 // From what a run has left to the answer: the plan, the program's start and end, and the tables lent.
-ghost use Rattle.std.specs.Prelude.{◌≡◌, false, ◌&&◌, [], ℕ, ◌+◌, ◌*◌, ◌≤◌, ◌<◌, eqb, length, replicate};
+ghost use Rattle.std.specs.Prelude.{◌≡◌, false, ◌&&◌, [], ℕ, ◌+◌, ◌*◌, ◌≤◌, ◌<◌, length, replicate, MatchResult};
 ghost use Rattle.std.specs.Float.Ieee.Scale.{finite};
-ghost use Rattle.outline.specs.Outline.{pick};
 ghost use Rattle.outline.specs.Store.{entry_words, command_in, drawn_in};
 ghost use Rattle.type1.specs.Memory.{Good};
 ghost use Rattle.type1.specs.Sound.{All, OfCommand};
-ghost use Rattle.folding.specs.Folding.{folded_list, finite_list};
-ghost use Rattle.type1_to_type2.specs.Convert.{glyph_of, writes};
+ghost use Rattle.folding.specs.Folding.{folded_list, folded_width, finite_list};
+ghost use Rattle.type1_to_type2.specs.Convert.{glyph_of, writes, folded};
 ghost use Rattle.type1_to_type2.specs.Collecting.{Counted};
 ghost use Rattle.type1_to_type2.specs.Streaming.{resumed_all};
 ghost use Rattle.type1_to_type2.specs.Passes.{Stored};
-ghost use Rattle.type1_to_type2.specs.Entry.{Lengths, Planned, Opens, first_number, from_run, settles, Answers};
+ghost use Rattle.type1_to_type2.specs.Entry.{Lengths, Planned, left_state, settles, Gives, first_number, from_run, Answers};
 
-use crate::checking::{and, count_groups, finite_points};
+use crate::checking::{count_groups, finite_points};
 use crate::declaring::write_front;
 use crate::passes::{collect_all, write_all};
 use crate::tables::{dropped, none_collected};
@@ -21,57 +20,28 @@ use crate::{Collected, Plan, Type2Glyph, Writer};
 use folding::Fold;
 use geometry::Matrix;
 use outline::Stem;
+use refusal::Refusal;
 use type1::Interpreted;
 
-// 14 where the folded width or a folded stem is not finite, unless there is a number already.
-fn plan_number(number: u64, width: f64, stems: bool) -> u64
-    ensures { result ≡ pick (eqb number 0) (pick (finite width && stems) 0 14) number }
-{
-    if number != 0 {
-        return number;
-    }
-    if and(binary64::is_finite(width), stems) {
-        0
-    } else {
-        14
-    }
-}
-
-// What is to be written, from the number so far and the stems.
-fn make_plan(number: u64, c: Collected, m: Matrix, r: Interpreted) -> Plan
+// What is to be written, from the stems; 14 where the folded width or a folded stem is not finite.
+fn make_plan(c: Collected, m: Matrix, r: Interpreted) -> Result<Plan, Refusal>
     requires { Counted c }
-    ensures { Planned number c m r.width result }
+    ensures { MatchResult result (Planned c m r.width) (λ e. (e ≡ Refusal.NotFinite) × ((finite (folded_width m r.width) && c.finite) ≡ false)) }
 {
     let width = folding::fold_width(m, r.width);
+    if !binary64::is_finite(width) || !c.finite {
+        return Err(Refusal::NotFinite);
+    }
     let d = dropped(c);
-    Plan {
-        number: plan_number(number, width, c.finite),
+    Ok(Plan {
         masked: hints::need_masks(d.groups, d.across, d.upright),
         across: d.across,
         upright: d.upright,
-        width: width,
-    }
+        width,
+    })
 }
 
-// The stems are written, unless there is a number already.
-fn begin_program(p: Plan, across: &[f64; 192], upright: &[f64; 192], out: &mut [u8]) -> Writer
-    requires { p.across + p.upright ≤ 96 }
-    ensures { Opens p across.now upright.now (length out.old) result out.new }
-{
-    if p.number != 0 {
-        return Writer {
-            number: p.number,
-            next: 0,
-            x: 0.0,
-            y: 0.0,
-            waits: 0,
-            held: 0,
-        };
-    }
-    write_front(p.masked, p.across, p.upright, across, upright, out)
-}
-
-// The program's end, and the answer. A folded point that is not finite has been refused by the writer at the latest,
+// The program's end, and the glyph. A folded point that is not finite has been refused by the writer at the latest,
 // so that the points are tested only where it refused; folding's number then comes first.
 fn end_program(
     p: Plan,
@@ -80,40 +50,31 @@ fn end_program(
     commands: &[u64],
     fold: Fold,
     out: &mut [u8],
-) -> Type2Glyph
+) -> Result<Type2Glyph, Refusal>
     requires { (entry_words * r.entries ≤ length commands.now) × ((e : ℕ) → e < r.entries → All (OfCommand Good) (command_in commands.now e)) }
-    ensures { Answers (settles p.number (finite_list (folded_list fold (drawn_in r.entries commands.now)))
+    ensures { Gives (settles (finite_list (folded_list fold (drawn_in r.entries commands.now)))
         (writes (glyph_of p.width r.ran) (resumed_all false [] w out.old []))) (length out.old) result out.new }
 {
-    let v = finish_program(w, out);
-    if v.number != 0 {
-        let finite = finite_points(commands, r.entries, fold);
-        return Type2Glyph {
-            number: folding::refusal(p.number, v.number, finite),
-            len: 0,
-            width: 0.0,
-            ran: 0,
-        };
+    match finish_program(w, out) {
+        Ok(len) => Ok(Type2Glyph {
+            number: 0,
+            len,
+            width: p.width,
+            ran: r.ran,
+        }),
+        Err(refused) => {
+            if finite_points(commands, r.entries, fold) {
+                Err(refused)
+            } else {
+                Err(Refusal::NotFinite)
+            }
+        }
     }
-    Type2Glyph {
-        number: 0,
-        len: v.next,
-        width: p.width,
-        ran: r.ran,
-    }
-}
-
-// 1 where an entry of the matrix is not finite, else the run's number.
-pub(crate) fn first_number(m: Matrix, number: u64) -> u64
-    ensures { result ≡ first_number m number }
-{
-    if folding::finite_matrix(m) { number } else { 1 }
 }
 
 // Folding and writing, from what a run has left.
 fn convert_run(
     r: Interpreted,
-    number: u64,
     m: Matrix,
     stems: &mut [Stem],
     commands: &mut [u64],
@@ -121,10 +82,10 @@ fn convert_run(
     upright: &mut [f64; 192],
     places: &mut [u8; 96],
     out: &mut [u8],
-) -> Type2Glyph
+) -> Result<Type2Glyph, Refusal>
     requires { Stored r.entries commands.old stems.old × Lengths across.old upright.old places.old }
     ensures { (stems.new ≡ stems.old) × ((commands.new ≡ commands.old) ×
-        Answers (from_run number m (length out.old) r commands.old stems.old) (length out.old) result out.new) }
+        Gives (folded m (length out.old) (left_state r commands.old stems.old)) (length out.old) result out.new) }
 {
     let fold = Fold::new(m);
     let k = count_groups(commands, r.entries);
@@ -137,8 +98,8 @@ fn convert_run(
         across,
         upright,
     );
-    let p = make_plan(number, c, m, r);
-    let w = begin_program(p, across, upright, out);
+    let p = make_plan(c, m, r)?;
+    let w = write_front(p.masked, p.across, p.upright, across, upright, out);
     let v = write_all(
         stems, commands, r.entries, fold, p.masked, p.across, p.upright, across, upright, places,
         w, out,
@@ -150,6 +111,40 @@ fn convert_run(
 // run's arrays.
 pub(crate) fn convert_stored(
     r: Interpreted,
+    m: Matrix,
+    stems: &mut [Stem],
+    commands: &mut [u64],
+    out: &mut [u8],
+) -> Result<Type2Glyph, Refusal>
+    requires { Stored r.entries commands.old stems.old }
+    ensures { (stems.new ≡ stems.old) × ((commands.new ≡ commands.old) ×
+        Gives (folded m (length out.old) (left_state r commands.old stems.old)) (length out.old) result out.new) }
+{
+    let mut across = [0.0; 192];
+    let mut upright = [0.0; 192];
+    let mut places = [0; 96];
+    convert_run(
+        r,
+        m,
+        stems,
+        commands,
+        &mut across,
+        &mut upright,
+        &mut places,
+        out,
+    )
+}
+
+// 1 where an entry of the matrix is not finite, else the run's number.
+pub(crate) fn first_number(m: Matrix, number: u64) -> u64
+    ensures { result ≡ first_number m number }
+{
+    if folding::finite_matrix(m) { number } else { 1 }
+}
+
+// The same as an answer, where there is no number yet.
+pub(crate) fn answered(
+    r: Interpreted,
     number: u64,
     m: Matrix,
     stems: &mut [Stem],
@@ -160,20 +155,27 @@ pub(crate) fn convert_stored(
     ensures { (stems.new ≡ stems.old) × ((commands.new ≡ commands.old) ×
         Answers (from_run number m (length out.old) r commands.old stems.old) (length out.old) result out.new) }
 {
-    let mut across = [0.0; 192];
-    let mut upright = [0.0; 192];
-    let mut places = [0; 96];
-    convert_run(
-        r,
-        number,
-        m,
-        stems,
-        commands,
-        &mut across,
-        &mut upright,
-        &mut places,
-        out,
-    )
+    if number != 0 {
+        stores::zero_from(out, 0);
+        return Type2Glyph {
+            number,
+            len: 0,
+            width: 0.0,
+            ran: 0,
+        };
+    }
+    match convert_stored(r, m, stems, commands, out) {
+        Ok(g) => g,
+        Err(e) => {
+            stores::zero_from(out, 0);
+            Type2Glyph {
+                number: e.number() as u64,
+                len: 0,
+                width: 0.0,
+                ran: 0,
+            }
+        }
+    }
 }
 
 // Every word becomes zero.

@@ -1,41 +1,35 @@
-// What finishing copies and refuses (document 01, "Finishing").
-ghost use Rattle.std.specs.Prelude.{◌≡◌, ◌+◌, ◌≤◌, length, take};
-ghost use Rattle.std.proofs.Math.Seq.{paste};
-ghost use Rattle.type1_to_type2.specs.Emission.{program};
-ghost use Rattle.type1_to_type2.specs.Writing.{refused};
-ghost use Rattle.type1_to_type2.specs.FinishAnswer.{finished_answer, finished_output};
+// What finishing writes (document 01, "Finishing").
+ghost use Rattle.std.specs.Prelude.{◌≡◌, length};
+ghost use Rattle.type1_to_type2.specs.Finish.{finish};
+ghost use Rattle.type1_to_type2.specs.FinishAnswer.{Wrote};
 
-use crate::Finished;
+use refusal::Refusal;
+use type2::Widths;
 
-// How many bytes the first `len` of `program` are.
-pub(crate) fn program_len(program: &[u8], len: usize) -> usize
-    ensures { result ≡ length (take len program.now) }
+// Bytes copied one by one: the archive has no `memmove` to call.
+fn copy(from: &[u8], to: &mut [u8])
+    requires { length to.old ≡ length from.now }
+    ensures { to.new ≡ from.now }
 {
-    if len < program.len() {
-        len
-    } else {
-        program.len()
+    for (i, &b) in from.iter().enumerate() {
+        to[i] = b;
     }
 }
 
-// The first n bytes of `program` into `out` from `at` on.
-pub(crate) fn put_program(out: &mut [u8], at: usize, program: &[u8], n: usize)
-    requires n_in_bounds { n ≤ length program.now }
-    requires n_in_bounds_2 { at + n ≤ length out.old }
-    ensures { out.new ≡ paste out.old at program.now n }
+// The width, where one is put, and then the program; how many bytes they are.
+pub(crate) fn put_charstring(
+    width: f64,
+    program: &[u8],
+    widths: Widths,
+    out: &mut [u8],
+) -> Result<usize, Refusal>
+    ensures { Wrote (length out.old) (finish width program.now widths (length out.old)) result out.new }
 {
-    let mut i = 0;
-    while i < n {
-        out[at + i] = program[i];
-        i += 1;
+    let at = type2::push_width(out, width, widths)?;
+    if out.len() - at < program.len() {
+        return Err(Refusal::OutputShort);
     }
-}
-
-// A refusal: the output is all zeros.
-pub(crate) fn refuse_finishing(out: &mut [u8], number: u64) -> Finished
-    ensures value { result ≡ finished_answer (refused number) }
-    ensures out_after { out.new ≡ finished_output (length out.old) (refused number) }
-{
-    stores::zero_from(out, 0);
-    Finished { number, len: 0 }
+    let end = at + program.len();
+    copy(program, &mut out[at..end]);
+    Ok(end)
 }

@@ -1,5 +1,5 @@
 // A program written into the output: numbers, operators, deltas, masks (document 01, "Path", "Stems and masks").
-ghost use Rattle.std.specs.Prelude.{◌≡◌, Bool, true, List, [], ◌∷◌, ◌+◌, ◌≤◌, ◌<◌, length, set, take};
+ghost use Rattle.std.specs.Prelude.{◌≡◌, Bool, true, List, [], ◌∷◌, ◌+◌, ◌≤◌, ◌<◌, length, take, IfOk};
 ghost use Rattle.outline.specs.Outline.{move};
 ghost use Rattle.outline.specs.declared.Stem.{Stem};
 ghost use Rattle.type1.specs.Run.{point_at};
@@ -11,6 +11,7 @@ ghost use Rattle.type1_to_type2.specs.Streaming.{Puts, Still, Flushed, Batched, 
 
 use crate::Writer;
 use crate::masks::mask_byte;
+use refusal::Refusal;
 
 // Type 2 operators; flex is 12 35
 pub(crate) const T2_HSTEM: u8 = 1;
@@ -45,59 +46,46 @@ pub(crate) fn put_number(v: f64, w: Writer, out: &mut [u8]) -> Writer
     ensures still { Still w result }
     ensures v_value { written v ≡ units v }
 {
-    if w.number != 0 {
-        return w;
+    let Ok(at) = w.next else { return w };
+    Writer {
+        next: type2::push_number(out, at, v),
+        ..w
     }
-    let at = w.next;
-    let p = type2::push_number(out, at, v);
-    let mut r = w;
-    r.number = p.number as u64;
-    r.next = p.next;
-    r
-}
-
-// A byte over what lay there.
-fn write_byte(b: u8, at: usize, out: &mut [u8])
-    requires { at < length out.old }
-    ensures { out.new ≡ set out.old at b }
-{
-    out[at] = b;
 }
 
 // An operator, or a byte of a mask.
 pub(crate) fn put_byte(b: u8, w: Writer, out: &mut [u8]) -> Writer
     ensures puts { Puts (λ f left. put left (b ∷ []) f) w out.old result out.new }
     ensures still { Still w result }
-    ensures next_in_bounds { result.number ≡ 0 → result.next ≤ length out.new }
+    ensures next_in_bounds { IfOk result.next (λ next. next ≤ length out.new) }
 {
-    if w.number != 0 {
-        return w;
-    }
-    let at = w.next;
-    let mut r = w;
+    let Ok(at) = w.next else { return w };
     if out.len() <= at {
-        r.number = 18;
-        return r;
+        return Writer {
+            next: Err(Refusal::OutputShort),
+            ..w
+        };
     }
-    write_byte(b, at, out);
-    r.next = at + 1;
-    r
+    out[at] = b;
+    Writer {
+        next: Ok(at + 1),
+        ..w
+    }
 }
 
 // The waiting operator, if there is one.
 pub(crate) fn flush(w: Writer, out: &mut [u8]) -> Writer
     ensures { Flushed w out.old result out.new }
 {
-    let k = w.waits;
-    if k == 0 {
-        let mut r = w;
-        r.held = 0;
-        return r;
+    if w.waits == 0 {
+        return Writer { held: 0, ..w };
     }
-    let mut r = put_byte((k % 256) as u8, w, out);
-    r.waits = 0;
-    r.held = 0;
-    r
+    let r = put_byte((w.waits % 256) as u8, w, out);
+    Writer {
+        waits: 0,
+        held: 0,
+        ..r
+    }
 }
 
 // Before `count` operands of `op`: an operator that waits is written, unless it is `op` and takes them.
@@ -105,42 +93,39 @@ pub(crate) fn batch(op: u64, count: usize, takes: bool, w: Writer, out: &mut [u8
     requires { takes ≡ true → w.held + count < 256 }
     ensures { Batched op count takes w out.old result out.new }
 {
-    let held = w.held;
-    if w.waits == op {
-        if takes {
-            let mut r = w;
-            r.held = held + count;
-            return r;
-        }
+    if w.waits == op && takes {
+        return Writer {
+            held: w.held + count,
+            ..w
+        };
     }
-    let mut r = flush(w, out);
-    r.waits = op;
-    r.held = count;
-    r
+    let r = flush(w, out);
+    Writer {
+        waits: op,
+        held: count,
+        ..r
+    }
 }
 
 // The deltas to a point, from the point the renderer will have reached, which moves by them.
 pub(crate) fn put_delta(px: f64, py: f64, w: Writer, out: &mut [u8]) -> Writer
     ensures { Goes (point_at px py ∷ []) w out.old result out.new }
 {
-    if w.number != 0 {
-        return w;
-    }
-    let mut r = w;
-    let at = w.next;
+    let Ok(at) = w.next else { return w };
     let a = type2::push_step(out, at, w.x, px);
-    r.x = a.reached;
-    r.number = a.number;
-    r.next = a.next;
-    if a.number != 0 {
-        return r;
-    }
-    let next = a.next;
+    let Ok(next) = a.pushed else {
+        return Writer {
+            next: a.pushed,
+            ..w
+        };
+    };
     let b = type2::push_step(out, next, w.y, py);
-    r.y = b.reached;
-    r.number = b.number;
-    r.next = b.next;
-    r
+    Writer {
+        next: b.pushed,
+        x: a.reached,
+        y: b.reached,
+        ..w
+    }
 }
 
 // A delta of 0 has an operator of its own.
@@ -149,9 +134,12 @@ pub(crate) fn move_to(px: f64, py: f64, w: Writer, out: &mut [u8]) -> Writer
 {
     let dx = type2::quantize(px - w.x);
     let dy = type2::quantize(py - w.y);
-    let mut a = flush(w, out);
-    a.x = w.x + dx;
-    a.y = w.y + dy;
+    let f = flush(w, out);
+    let a = Writer {
+        x: w.x + dx,
+        y: w.y + dy,
+        ..f
+    };
     if dy == 0.0 {
         let b = put_number(dx, a, out);
         return put_byte(T2_HMOVETO, b, out);
@@ -185,14 +173,14 @@ pub(crate) fn write_mask(n: usize, k: usize, places: &[u8; 96], w: Writer, out: 
     r
 }
 
-// The end of a program, and zeros after it; on a refusal zeros only.
-pub(crate) fn finish_program(w: Writer, out: &mut [u8]) -> Writer
+// The end of a program, and zeros after it; the program's length.
+pub(crate) fn finish_program(w: Writer, out: &mut [u8]) -> Result<usize, Refusal>
     ensures { (masked : Bool) (ss : List Stem) → Ends (length out.old) (resumed_all masked ss w out.old []) result out.new }
 {
-    let a = flush(w, out);
-    let mut r = put_byte(T2_ENDCHAR, a, out);
-    let next = stores::kept_bytes(r.number, r.next);
-    r.next = next;
-    stores::zero_from(out, next);
-    r
+    let f = flush(w, out);
+    let end = put_byte(T2_ENDCHAR, f, out).next;
+    if let Ok(len) = end {
+        stores::zero_from(out, len);
+    }
+    end
 }

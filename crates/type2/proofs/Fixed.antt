@@ -1,5 +1,5 @@
 -- Laws: a double in whole units of 1/65536. Rounding first changes nothing, a rounded double is its units exactly, and what lies out of range.
-use Rattle.std.specs.Prelude.{◌≡◌, ℕ, zero, suc, ◌+◌, ◌-◌, ◌*◌, ◌^◌, ◌≤◌, ◌<◌, Bool, true, false, ◌&&◌, cond, ℤ, pos, negsuc, neg_ℤ, T, ltb, Float}
+use Rattle.std.specs.Prelude.{◌≡◌, ℕ, zero, suc, ◌+◌, ◌*◌, ◌^◌, ◌≤◌, ◌<◌, Bool, true, false, ◌&&◌, cond, ℤ, pos, negsuc, neg_ℤ, T, ltb, Float}
 use Rattle.std.proofs.Math.Path.{refl}
 use Rattle.std.proofs.Common.{sym, ap, ap₂, ◌∙◌, subst, lt_of_not-le, mul-le-mul_right, suc-mul, arith, ltb→lt, lt→ltb, lit<, pow_pos}
 use Rattle.std.specs.Float.{nan, inf, fin, Format, binary64}

@@ -1,7 +1,7 @@
 -- Laws: `quantized` is the nearest multiple of 1/65536, within half of that, and leaves such a multiple as it is; one rounding gives it.
 use Rattle.std.specs.Prelude.{◌≡◌, refl, Bool, true, false, cond, pos, negsuc, T, Float}
 use Rattle.std.proofs.Common.{sym, ap, ap₂, ◌∙◌, subst, le_of_eq, lt_of_lt_of_le, lt_of_le_of_lt, zero-mul, add-mul, mul_assoc, mul_right_comm, mul_comm, lt_of_mul-lt-mul_right, le_of_mul-le-mul_right, le-mul_of_pos_right, mul-le-mul_right, div-le_self, ltb→lt, lit<, lit≤, pow-add, pow_pos}
-use Prim.Native.Nat.{ℕ, zero, suc, ◌+◌, ◌-◌, ◌*◌, ◌^◌, ◌≤◌, ◌<◌}
+use Prim.Native.Nat.{ℕ, zero, suc, ◌+◌, ◌*◌, ◌^◌, ◌≤◌, ◌<◌}
 use Rattle.std.proofs.Math.Nat.{le_trans}
 use native.Mathlib.Omega.{arith}
 use Rattle.std.specs.Float.{nan, inf, fin, Format, binary64}

@@ -1,6 +1,6 @@
 -- Definitions: Type 2 numbers. How a double is rounded, how the bytes of a number read back, which bytes a number gets, and what a push into the output does.
 -- A number is counted in whole units of 1/65536, as a ℤ.
-use Rattle.std.specs.Prelude.{◌≡◌, ℕ, suc, ◌+◌, ◌-◌, ◌*◌, ◌/◌, ◌%◌, ◌^◌, Bool, false, ◌&&◌, cond, List, [], ◌∷◌, ◌++◌, length, take, drop, T, leb, ltb, eqb, ℤ, pos, negsuc, neg_ℤ, Float}
+use Rattle.std.specs.Prelude.{◌≡◌, ℕ, suc, ◌+◌, ◌-◌, ◌*◌, ◌/◌, ◌%◌, ◌^◌, Bool, false, ◌&&◌, cond, List, [], ◌∷◌, ◌++◌, length, take, drop, T, leb, ltb, eqb, ℤ, pos, negsuc, neg_ℤ, Float, Result, Ok, Err}
 use Rattle.std.proofs.Math.IntN.{sub_ℕ}
 use Rattle.std.specs.Float.{nan, inf, fin, Format, binary64}
 use Rattle.std.specs.Float.Ieee.{sub, mul, div, lt, fits}
@@ -8,6 +8,8 @@ use Rattle.std.specs.Float.Ieee.Scale.{finite}
 use Rattle.binary64.specs.Value.{sign, mag, pl, mi}
 use Rattle.binary64.specs.Scaling.{two}
 use Rattle.binary64.specs.Rounding.{round_away, abs}
+use Rattle.refusal.specs.declared.Refusal.{Refusal}
+use Rattle.refusal.specs.Refusal.{number_of}
 
 -- ---- Document 01, "Numbers (T2)": "Rounding is half away from zero. A value strictly closer than 1e-9 to a whole number becomes that number, any other the nearest 1/65536."
 
@@ -131,6 +133,11 @@ pub record Push : Type 0 where
 
 abbrev pub gave : ℕ → ℕ → List ℕ → Push
 gave k n l = record { number = k; next = n; holds = l }
+
+-- what a push gives that has this result: the place after the bytes, or a refusal
+abbrev pub pushed : Result ℕ Refusal → List ℕ → Push
+pushed (Ok n) l = gave 0 n l
+pushed (Err r) l = gave (number_of r) 0 l
 
 -- bytes in at a place, and nothing else changed; where they do not fit, nothing at all
 unfoldable pub put : List ℕ → ℕ → List ℕ → Push

@@ -1,17 +1,12 @@
 -- `bank::is_valid` meets its contract. Assumes nothing.
-use Prim.Native.Nat.{ℕ, zero, suc, ◌+◌, ◌-◌, ◌*◌, ◌<◌, ◌≤◌}
-use native.Mathlib.Numerals.{add-one}
-use native.Mathlib.Omega.{arith}
-use borrow.Author.Tests.{le-leb, leb-true, eq-eqb, not-true, not-false}
-use mathlib.Core.Path.{◌≡◌, refl, sym, ◌∙◌, ap, subst}
-use mathlib.Core.Bool.{Bool, true, false}
-use mathlib.Core.List.{List}
-use lib.Dec.{T, eqb, leb}
-use lib.ListN.{length}
+use Rattle.std.proofs.Common.{arith, ◌≡◌, ℕ, zero, suc, ◌+◌, ◌-◌, ◌*◌, ◌<◌, ◌≤◌, Bool, true, false, nat_eq, List, length, refl, sym, ◌∙◌, ap, add-one, le-leb, eq-eqb, true≢false}
+use lib.Dec.{leb}
 use Rattle.bank.specs.Bank.{be32, count, table_end, offset, rises, rises_from, Valid, valid}
 use Rattle.bank.specs.Laws.{both, not_valid, offset-suc}
+use Rattle.std.proofs.lemmas.Bool.{leb-true}
 use Rattle.bank.proofs.is_valid.Invariants.{Checked}
 use Rattle.bank.proofs.is_valid.Goals as goal
+use Rattle.bank.proofs.is_valid.Goals.{then-bank-table-via-then-bank-table, then-bank-table-via-else-bank-table+then-u32_at-ne0}
 
 turn :
     (bank : List ℕ) (n before i next : ℕ) → i < n → Checked bank n before i → next ≡ be32 bank (6 + 4 * i) → before ≤ next
@@ -22,7 +17,7 @@ turn bank n before i next h inv e up =
 
 ended :
     (bank : List ℕ) (n before i : ℕ) → n ≡ count bank → 6 + 4 * n ≤ length bank → offset bank 0 ≡ 0 → n ≤ i
-    → Checked bank n before i → eqb before (length bank - (6 + 4 * n)) ≡ valid bank
+    → Checked bank n before i → nat_eq before (length bank - (6 + 4 * n)) ≡ valid bank
 unfolding valid
 ended bank n before i is table first all inv =
     let p : i ≡ count bank = omega arith in
@@ -30,9 +25,6 @@ ended bank n before i is table first all inv =
     let r : rises bank (count bank) ≡ true = rw p at inv.2 in
     let l : before ≡ offset bank (count bank) = rw p at inv.1 in
     rw (le-leb (table_end bank) (length bank) (omega arith), eq-eqb _ _ first, r, l, q)
-
-false-true : ◌≡◌ {A = Bool} false true → ⊥
-false-true e = subst T (sym e) tt
 
 -- ---- k offsets after offset i, the first of them at a place
 module _ (bank : List ℕ) (n : ℕ) where
@@ -46,6 +38,12 @@ module _ (bank : List ℕ) (n : ℕ) where
       let z : i + 1 + k ≡ i + suc k = omega arith in
       rw z at all
 
+  -- the last of them was read
+  turned : (k before i at j next place : ℕ) (b : Bool) → i + k ≤ n → Checked bank n before i → at ≡ 6 + 4 * i → b ≡ rises_from bank before at k → b ≡ true → j ≡ i + k → next ≡ be32 bank place → place ≡ 2 + 4 * j → Checked bank n next j
+  turned k before i at j next place b h inv e eb t ej en ep =
+      let all = turns k before i at h inv e (sym eb ∙ t) in
+      (omega arith, en ∙ ap (be32 bank) ep, rw ej all.2)
+
   -- in a valid bank they rise
   all-rise : Valid bank → n ≡ count bank → (k before i at : ℕ) → i + k ≤ n → before ≡ offset bank i → at ≡ 6 + 4 * i → rises_from bank before at k ≡ true
   unfolding rises_from
@@ -56,12 +54,9 @@ module _ (bank : List ℕ) (n : ℕ) where
       let rest = all-rise v en k (be32 bank at) (i + 1) (at + 4) (omega arith) (sym o ∙ ap (offset bank) (sym (add-one i))) (omega arith) in
       rw (le-leb before (be32 bank at) up) rest
 
-turn-16 :
-    (bank : List ℕ) (n before i next : ℕ) (b : Bool) → 16 ≤ n - i → Checked bank n before i → b ≡ rises_from bank before (6 + 4 * i) 16 → b ≡ true → next ≡ be32 bank (66 + 4 * i)
-    → Checked bank n next (i + 16)
-turn-16 bank n before i next b h inv eb t e =
-    let all = turns bank n 16 before i (6 + 4 * i) (omega arith) inv refl (sym eb ∙ t) in
-    (all.0, e ∙ ap (be32 bank) (omega arith), all.2)
+  -- so a bank in which they do not is not valid
+  refuted : n ≡ count bank → (k before i at : ℕ) (b : Bool) → i + k ≤ n → Checked bank n before i → at ≡ 6 + 4 * i → b ≡ rises_from bank before at k → b ≡ false → false ≡ valid bank
+  refuted en k before i at b h inv e eb f = sym (not_valid bank (λ v. true≢false (sym (all-rise v en k before i at h inv.1 e) ∙ sym eb ∙ f)))
 
 pub returns-then-bank-lt6 : goal.returns-then-bank-lt6
 returns-then-bank-lt6 c =
@@ -69,41 +64,27 @@ returns-then-bank-lt6 c =
 
 pub returns-then-bank-table : goal.returns-then-bank-table
 returns-then-bank-table c =
-    sym (not_valid _ (λ v. omega (arith, v.table, c.if-bank-table.true, c.u16_at-count.ensures.0)))
+    elim c.then-bank-table.branch [
+      | then-bank-table-via-then-bank-table w ↦ sym (not_valid _ (λ v. omega (arith, v.table, w.if-bank-table.true, c.u16_at-count.ensures.0)))
+      | then-bank-table-via-else-bank-table+then-u32_at-ne0 w ↦ sym (not_valid _ (λ v. w.if-u32_at-ne0.true (w.u32_at.ensures.0 ∙ v.first)))
+    ]
 
-pub returns-then-u32_at-ne0 : goal.returns-then-u32_at-ne0
-returns-then-u32_at-ne0 c =
-    sym (not_valid _ (λ v. c.if-u32_at-ne0.true (c.u32_at.ensures.0 ∙ v.first)))
+pub returns-then-not-rise : goal.returns-then-not-rise
+returns-then-not-rise c =
+    refuted _ _ c.u16_at-count.ensures.0 16 _ _ _ _ (omega arith) c.loop-block.invariant (omega arith) c.rise.ensures c.if-not-rise.true
 
-pub loop-i-init : goal.loop-i-init
-loop-i-init c =
-    (omega arith, sym c.if-u32_at-ne0.false ∙ c.u32_at.ensures.0, refl)
+pub loop-block-preserved : goal.loop-block-preserved
+loop-block-preserved c =
+    turned _ _ 16 _ _ _ _ _ _ _ (omega arith) c.loop-block.invariant (omega arith) c.rise.ensures c.if-not-rise.false (omega arith) c.u32_at-before.ensures.0 (omega arith)
 
-pub overflow_sub-count : goal.overflow_sub-count
-overflow_sub-count c =
-    omega (arith, c.loop-i.invariant.0)
-
-pub returns-then-not-sixteen_rise : goal.returns-then-not-sixteen_rise
-returns-then-not-sixteen_rise c =
-    sym (not_valid _ (λ v. false-true (sym c.if-not-sixteen_rise.true ∙ c.sixteen_rise.ensures ∙ all-rise _ _ v c.u16_at-count.ensures.0 16 _ _ _ (omega (arith, c.loop-i-test.true)) c.loop-i.invariant.1 refl)))
+pub returns-then-not-rise-2 : goal.returns-then-not-rise-2
+returns-then-not-rise-2 c =
+    refuted _ _ c.u16_at-count.ensures.0 1 _ _ _ _ (omega arith) c.loop-i.invariant refl c.rise-in-loop-i.ensures c.if-not-rise-2.true
 
 pub loop-i-preserved : goal.loop-i-preserved
 loop-i-preserved c =
-    turn-16 _ _ _ _ _ _ c.loop-i-test.true c.loop-i.invariant c.sixteen_rise.ensures c.if-not-sixteen_rise.false c.u32_at-before.ensures.0
-
-pub loop-i-2-init : goal.loop-i-2-init
-loop-i-2-init c =
-    c.loop-i.invariant
-
-pub returns-then-offset-before : goal.returns-then-offset-before
-returns-then-offset-before c =
-    let e = offset-suc c.args.bank.now c.loop-i-2.i in
-    sym (not_valid _ (λ v. omega (arith, v.rising c.loop-i-2.i (omega (arith, c.loop-i-2-test.true, c.u16_at-count.ensures.0)), e, c.if-offset-before.true, c.u32_at-offset.ensures.0, c.loop-i-2.invariant.1)))
-
-pub loop-i-2-preserved : goal.loop-i-2-preserved
-loop-i-2-preserved c =
-    turn _ _ _ _ _ c.loop-i-2-test.true c.loop-i-2.invariant c.u32_at-offset.ensures.0 c.if-offset-before.false
+    turned _ _ 1 _ _ _ _ _ _ _ (omega arith) c.loop-i.invariant refl c.rise-in-loop-i.ensures c.if-not-rise-2.false refl c.u32_at-before-in-loop-i.ensures.0 (omega arith)
 
 pub returns : goal.returns
 returns c =
-    ended _ _ _ _ c.u16_at-count.ensures.0 c.if-bank-table.false (sym c.u32_at.ensures.0 ∙ c.if-u32_at-ne0.false) c.loop-i-2-test.false c.loop-i-2.invariant
+    ended _ _ _ _ c.u16_at-count.ensures.0 c.if-bank-table.false (sym c.u32_at.ensures.0 ∙ c.if-u32_at-ne0.false) (omega arith) c.loop-i.invariant

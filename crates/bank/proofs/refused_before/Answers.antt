@@ -1,10 +1,6 @@
 -- `bank::refused_before` meets its contract. Assumes nothing.
-use Prim.Native.Nat.{ℕ, ◌<◌, ◌≤◌}
-use mathlib.Core.Path.{◌≡◌, sym, ◌∙◌}
-use mathlib.Core.Bool.{true, false}
-use mathlib.Core.List.{List}
-use borrow.Author.Tests.{le-leb, lt-leb, not-true, not-false}
-use borrow.Author.Rules.{rules}
+use Rattle.std.proofs.Common.{ℕ, ◌<◌, ◌≤◌, ◌≡◌, sym, ◌∙◌, true, false, List, le-leb}
+use Rattle.std.proofs.lemmas.Bool.{lt-leb}
 use Rattle.charstring.specs.Cipher.{max_charstring_bytes}
 use Rattle.bank.specs.Bank.{valid}
 use Rattle.bank.specs.Call.{refused_before}

@@ -1,6 +1,6 @@
 -- `binary64::abs` meets its contract, arm by arm. Assumes nothing.
 use Rattle.std.proofs.Common.{T, sym, subst}
-use lib.Ieee.{binary64, fits, of_bits}
+use lib.Ieee.{of_bits}
 use Rattle.binary64.specs.Abs.{abs-zero, abs-below, abs-above}
 use Rattle.binary64.proofs.abs.Goals as goal
 

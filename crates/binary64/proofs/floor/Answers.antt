@@ -1,6 +1,6 @@
 -- `binary64::floor` meets its contract: each arm is a law of `specs/Floor.antt`.
-use Rattle.std.proofs.Common.{T, sym, subst, rules}
-use lib.Ieee.{binary64, fits, of_bits}
+use Rattle.std.proofs.Common.{T, sym, subst}
+use lib.Ieee.{of_bits}
 use Rattle.binary64.specs.Floor.{floor_taken, floor_left}
 use Rattle.binary64.proofs.floor.Goals as goal
 

@@ -1,6 +1,6 @@
 -- `binary64::round` meets its contract: a zero comes back, and a negative value is rounded by its size. Assumes nothing.
-use Rattle.std.proofs.Common.{T, sym, ap, ◌∙◌, subst, rules}
-use lib.Ieee.{binary64, fits, of_bits, neg}
+use Rattle.std.proofs.Common.{T, sym, ap, ◌∙◌, subst}
+use lib.Ieee.{binary64, of_bits, neg}
 use Rattle.binary64.specs.Round.{at_zero, negative, not_negative, away_neg}
 use Rattle.binary64.proofs.round.Goals as goal
 

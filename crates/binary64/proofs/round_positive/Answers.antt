@@ -1,6 +1,6 @@
 -- `binary64::round_positive` meets its contract: each arm is a law of `specs/Round.antt`, with the constants by their bit patterns. Assumes nothing.
 use Rattle.std.proofs.Common.{T, sym, subst}
-use lib.Ieee.{binary64, fits, of_bits}
+use lib.Ieee.{of_bits}
 use Rattle.binary64.specs.Round.{tie_down, tie_up, large}
 use Rattle.binary64.proofs.round_positive.Goals as goal
 

@@ -2,9 +2,8 @@ use Prim.Native.Nat.{ℕ}
 use mathlib.Core.List.{[], ◌∷◌}
 use mathlib.Core.Path.{◌≡◌, ap, ap₂, ◌∙◌}
 use Rattle.board.specs.Answers.{boxed_words}
-use Rattle.boxes.specs.declared.Answer.{Answer}
 use Rattle.boxes.specs.declared.Bounds.{Bounds}
-use Rattle.boxes.specs.Answers.{answer, number_of, box_words, verdict_word}
+use Rattle.boxes.specs.Answers.{Answer, answer, number_of, box_words, verdict_word}
 use Rattle.board.proofs.cribstork_box.Goals as goal
 
 -- the two words of an answer

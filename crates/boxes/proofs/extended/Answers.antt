@@ -1,16 +1,19 @@
 -- `boxes::extended` meets its contract.
+use Rattle.std.proofs.Common.{◌<◌, ◌/◌, length, ◌∙◌, arith}
+use Rattle.renderer.proofs.PathLaws.{pair_is}
 use Rattle.boxes.proofs.ExtentLaws.{grows_first, grown_done, grows_more}
-use native.Mathlib.Omega.{arith}
 use Rattle.boxes.proofs.extended.Goals as goal
 
-pub loop-i-init : goal.loop-i-init
-loop-i-init c =
-    grows_first c.requires.0 c.requires.3
+pub loop-dx-init : goal.loop-dx-init
+loop-dx-init c =
+    grows_first _ _ _ c.requires
 
-pub loop-i-preserved : goal.loop-i-preserved
-loop-i-preserved c =
-    grows_more c.requires.2 c.requires.1 c.loop-i.invariant (omega arith) c.wide.ensures.0 c.wide-in-loop-i.ensures.0 _ c.grown-e.ensures
+pub loop-dx-preserved : goal.loop-dx-preserved
+loop-dx-preserved c =
+    let h : c.loop-dx.dx-index < length c.args.deltas.now / 2 = omega (arith, c.as_chunks.ensures.front_len) in
+    let a = pair_is c.args.deltas.now c.loop-dx.dx-index c.as_chunks.ensures.front h in
+    rw c.grown.ensures (grows_more c.loop-dx.invariant h (c.from.ensures ∙ a.0) (c.from-in-loop-dx.ensures ∙ a.1))
 
 pub returns : goal.returns
 returns c =
-    grown_done c.requires.2 c.requires.1 c.loop-i.invariant (omega arith)
+    grown_done c.loop-dx.invariant (let l = c.as_chunks.ensures.front_len in omega arith)

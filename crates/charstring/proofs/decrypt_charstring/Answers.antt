@@ -1,49 +1,62 @@
--- `charstring::decrypt_charstring` meets its contract. Assumes nothing.
-use Rattle.std.proofs.Common.{◌≡◌, ℕ, ◌-◌, ◌<◌, ◌≤◌, List, ◌++◌, length, take, replicate, sym, ap, ◌∙◌, arith, rules, le-leb}
+-- `charstring::decrypt_charstring` meets its contract.
+use Rattle.std.proofs.Common.{◌≡◌, ℕ, ◌-◌, ◌<◌, ◌≤◌, cond, List, ◌++◌, length, take, drop, replicate, sym, ap, ◌∙◌, arith, le-leb, Ok, Err, rules}
+use Rattle.std.proofs.lemmas.List.{take_rest, length-drop}
+use Rattle.std.proofs.Math.Seq.{take-append_seam}
 use borrow.Author.Tests.{lt-leb}
 use native.Mathlib.Nat.{sub-zero}
+use Rattle.refusal.specs.declared.Refusal.TheVariants.{OutputShort}
 use Rattle.charstring.specs.declared.Cursor.{Cursor}
-use Rattle.charstring.specs.Cipher.{plain}
+use Rattle.charstring.specs.Cipher.{decrypt, plain}
 use Rattle.charstring.specs.Cursor.{start, rest}
-use Rattle.charstring.specs.Charstring.{decrypted, written, Copied}
+use Rattle.charstring.specs.Charstring.{decrypted, written}
 use Rattle.charstring.specs.Laws.{rest-length, rest-start, start-within}
 use Rattle.charstring.proofs.decrypt_charstring.Goals as goal
 
-left : (len_iv : ℕ) (code : List ℕ) (k : Cursor) → k ≡ start len_iv code → length code - k.at ≡ length (plain len_iv code)
-left len_iv code k e = sym (rest-length k code) ∙ ap length (ap (λ x. rest x code) e ∙ rest-start len_iv code)
+-- the bytes that a new cursor has before it
+module _ (len_iv : ℕ) (code : List ℕ) (k : Cursor) (e : k ≡ start len_iv code) where
+  abbrev bytes : List ℕ
+  bytes = take (length code - k.at) (drop k.at code)
 
-short :
-    (len_iv room : ℕ) (code : List ℕ) {out : List ℕ} → room < length (plain len_iv code) → out ≡ replicate room 0
-    → (record { number = 18; length = 0 } ≡ decrypted len_iv code room) × (out ≡ written len_iv code room)
-unfolding decrypted written
-short len_iv room code h e = (rw (lt-leb _ _ h), rw (lt-leb _ _ h) e)
+  all : cond k.encrypted (decrypt k.key bytes) bytes ≡ plain len_iv code
+  unfolding rest
+  all = rw (take_rest code k.at) (ap (λ x. rest x code) e ∙ rest-start len_iv code)
 
-whole :
-    (len_iv n : ℕ) (code d copied : List ℕ) {k : Cursor} {out : List ℕ} → length (plain len_iv code) ≤ length d
-    → Copied (rest k code) d copied n → k ≡ start len_iv code → length copied ≡ length d
-    → out ≡ take n copied ++ replicate (length copied - n) 0
-    → (record { number = 0; length = n } ≡ decrypted len_iv code (length d)) × (out ≡ written len_iv code (length d))
-unfolding decrypted written
-whole len_iv n code d copied {k} {out} h is e same o =
-    let p : rest k code ≡ plain len_iv code = ap (λ x. rest x code) e ∙ rest-start len_iv code in
-    let count : n ≡ length (plain len_iv code) = is.all ∙ ap length p in
-    (rw (le-leb _ _ h, count), rw (le-leb _ _ h, o, same, is.front, p, count))
+  left : length bytes ≡ length (plain len_iv code)
+  left = rw (take_rest code k.at, length-drop k.at code) (sym (rest-length k code) ∙ ap length (ap (λ x. rest x code) e ∙ rest-start len_iv code))
 
-pub overflow_sub-length : goal.overflow_sub-length
-overflow_sub-length c =
-    rw c.new-cursor.ensures (start-within _ _)
+  module _ (d out : List ℕ) where
+    short-number : length d < length bytes → Err OutputShort ≡ decrypted len_iv code (length d)
+    unfolding decrypted
+    short-number h = rw (lt-leb _ _ (rw left at h))
 
-pub returns-then-out-length : goal.returns-then-out-length
-returns-then-out-length c =
-    let n = c.args.out.now in
-    let h = left c.args.len_iv c.args.«data».now c.new-cursor.result c.new-cursor.ensures in
-    short _ _ _ (omega (arith, h, c.if-out-length.true)) (c.zero_from.ensures ∙ ap (λ m. replicate m 0) (sub-zero (length n)))
+    short-out : length d < length bytes → out ≡ replicate (length d) 0 → out ≡ written len_iv code (length d)
+    unfolding written
+    short-out h o = rw (lt-leb _ _ (rw left at h)) o
 
-pub copy_rest-end-requires : goal.copy_rest-end-requires
-copy_rest-end-requires c =
-    omega (arith, rest-length c.new-cursor.result c.args.«data».now, c.if-out-length.false)
+    number : length bytes ≤ length d → Ok (length bytes) ≡ decrypted len_iv code (length d)
+    unfolding decrypted
+    number h = rw (left, le-leb _ _ (rw left at h))
 
-pub returns : goal.returns
-returns c =
-    let h = left c.args.len_iv c.args.«data».now c.new-cursor.result c.new-cursor.ensures in
-    whole _ _ _ _ _ (omega (arith, h, c.if-out-length.false)) c.copy_rest-end.ensures c.new-cursor.ensures c.copy_rest-end.auto.out c.zero_from-2.ensures
+    whole :
+        (copied : List ℕ) → length bytes ≤ length d → copied ≡ cond k.encrypted (decrypt k.key bytes) bytes ++ drop (length bytes) d
+        → length copied ≡ length d → out ≡ take (length bytes) copied ++ replicate (length copied - length bytes) 0 → out ≡ written len_iv code (length d)
+    unfolding written
+    whole copied h is same o = rw (le-leb _ _ (rw left at h), o, same, is, all, left, take-append_seam)
+
+pub slice_bounds-bytes-count : goal.slice_bounds-bytes-count
+slice_bounds-bytes-count c = rw c.new-cursor.ensures (start-within _ _)
+
+pub slice_bounds-bytes-start : goal.slice_bounds-bytes-start
+slice_bounds-bytes-start c = let h : c.new-cursor.result.at ≤ length c.args.«data».now = rw c.new-cursor.ensures (start-within _ _) in search rules
+
+pub returns-then-out-bytes-clause-value : goal.returns-then-out-bytes-clause-value
+returns-then-out-bytes-clause-value c = short-number c.args.len_iv c.args.«data».now c.new-cursor.result c.new-cursor.ensures c.args.out.now c.zero_from.new.bytes c.if-out-bytes.true
+
+pub returns-then-out-bytes-clause-out_after : goal.returns-then-out-bytes-clause-out_after
+returns-then-out-bytes-clause-out_after c = short-out c.args.len_iv c.args.«data».now c.new-cursor.result c.new-cursor.ensures c.args.out.now c.zero_from.new.bytes c.if-out-bytes.true (c.zero_from.ensures ∙ ap (λ (m : ℕ). replicate {A = ℕ} m 0) (sub-zero (length c.args.out.now)))
+
+pub returns-clause-value : goal.returns-clause-value
+returns-clause-value c = number c.args.len_iv c.args.«data».now c.new-cursor.result c.new-cursor.ensures c.args.out.now c.args.out.now (omega arith)
+
+pub returns-clause-out_after : goal.returns-clause-out_after
+returns-clause-out_after c = whole c.args.len_iv c.args.«data».now c.new-cursor.result c.new-cursor.ensures c.args.out.now c.zero_from-2.new.bytes c.copy_rest.new.out c.if-out-bytes.false c.copy_rest.ensures c.copy_rest.auto.out c.zero_from-2.ensures

@@ -1,5 +1,4 @@
 -- `charstring::key_part` meets its contract. Assumes nothing.
-use Rattle.std.proofs.Common.{rules}
 use Rattle.charstring.specs.Laws.{part_wraps}
 use Rattle.charstring.proofs.key_part.Goals as goal
 

@@ -1,5 +1,4 @@
 -- `charstring::next_key` meets its contract. Assumes nothing.
-use Rattle.std.proofs.Common.{rules}
 use Rattle.charstring.specs.Laws.{step_parts}
 use Rattle.charstring.proofs.next_key.Goals as goal
 

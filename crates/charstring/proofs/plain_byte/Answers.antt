@@ -1,5 +1,5 @@
 -- `charstring::plain_byte` meets its contract. Assumes nothing.
-use Rattle.std.proofs.Common.{refl, rules}
+use Rattle.std.proofs.Common.{refl}
 use Rattle.charstring.specs.Cipher.{plain_byte}
 use Rattle.charstring.proofs.plain_byte.Goals as goal
 

@@ -1,5 +1,5 @@
 -- `charstring::wrapping_mul_u16` meets its contract. Assumes nothing.
-use Rattle.std.proofs.Common.{◌≤◌, mul-le-mul, arith, rules}
+use Rattle.std.proofs.Common.{◌≤◌, mul-le-mul, arith}
 use Rattle.charstring.proofs.wrapping_mul_u16.Goals as goal
 
 pub overflow_mul-wide : goal.overflow_mul-wide

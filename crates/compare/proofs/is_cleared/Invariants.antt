@@ -1,13 +1,10 @@
 -- `compare::is_cleared` meets its contract: below i the doubles are n zeros, then rest.
 use mathlib.Core.Path.{◌≡◌}
-use Prim.Native.Nat.{ℕ, ◌-◌, ◌≤◌, ◌<◌}
-use lib.ListN.{length, get_or, replicate}
+use Prim.Native.Nat.{ℕ, ◌<◌}
+use lib.ListN.{get_or, replicate}
 use lib.Ieee.{nan}
 use Rattle.binary64.specs.Round.{plus_zero}
 use Rattle.compare.proofs.is_cleared.Given as goal
 
 abbrev pub invariant-loop-i : goal.invariant-loop-i
-invariant-loop-i l = (l.i ≤ length l.xs) × ((k : ℕ) → k < l.i → get_or l.xs k nan ≡ get_or (replicate l.n plus_zero) k l.rest)
-
-abbrev pub decreases-loop-i : goal.decreases-loop-i
-decreases-loop-i l = length l.xs - l.i
+invariant-loop-i l = (k : ℕ) → k < l.i → get_or l.xs k nan ≡ get_or (replicate l.n plus_zero) k l.rest

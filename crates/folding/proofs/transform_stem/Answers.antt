@@ -1,7 +1,6 @@
 -- `folding::transform_stem` meets its contract.
 use Rattle.folding.proofs.Folds.{stem_21, stem_20, stem_other}
 use lib.Ieee.{of_bits, neg}
-use borrow.Author.Rules.{rules}
 use Rattle.folding.proofs.transform_stem.Goals as goal
 
 pub returns-then-s : goal.returns-then-s

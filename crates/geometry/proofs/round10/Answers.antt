@@ -2,7 +2,6 @@
 use mathlib.Core.Path.{ap}
 use lib.Ieee.{Float, binary64, div, of_bits}
 use Rattle.geometry.specs.Transform.{ten_billion, rounded10}
-use borrow.Author.Rules.{rules}
 use Rattle.geometry.proofs.round10.Goals as goal
 
 pub returns : goal.returns

@@ -9,6 +9,7 @@ use Rattle.hints.specs.Laws.{group_number_lem}
 use native.Mathlib.Omega.{arith}
 use mathlib.Core.Path.{◌≡◌, sym, ◌∙◌}
 use Rattle.hints.proofs.new_group.Goals as goal
+use Rattle.hints.proofs.new_group.Goals.{then-groups-ge-MOST-via-then-groups-ge-MOST, then-groups-ge-MOST-via-else-groups-ge-MOST+then-records-used, then-groups-ge-MOST-via-else-groups-ge-MOST+else-records-used+then-records-used-2}
 
 module _ (groups records used n words entries : ℕ) where
   abbrev entry : Bool
@@ -42,15 +43,11 @@ module _ (groups records used n words entries : ℕ) where
 
 pub returns-then-groups-ge-MOST : goal.returns-then-groups-ge-MOST
 returns-then-groups-ge-MOST c =
-    many-groups _ _ _ _ _ _ c.if-groups-ge-MOST.true
-
-pub returns-then-records-used : goal.returns-then-records-used
-returns-then-records-used c =
-    used-up _ _ _ _ _ _ c.if-records-used.true
-
-pub returns-then-records-used-2 : goal.returns-then-records-used-2
-returns-then-records-used-2 c =
-    no-records _ _ _ _ _ _ c.if-records-used.false c.if-records-used-2.true
+    elim c.then-groups-ge-MOST.branch [
+      | then-groups-ge-MOST-via-then-groups-ge-MOST w ↦ many-groups _ _ _ _ _ _ w.if-groups-ge-MOST.true
+      | then-groups-ge-MOST-via-else-groups-ge-MOST+then-records-used w ↦ used-up _ _ _ _ _ _ w.if-records-used.true
+      | then-groups-ge-MOST-via-else-groups-ge-MOST+else-records-used+then-records-used-2 w ↦ no-records _ _ _ _ _ _ w.if-records-used.false w.if-records-used-2.true
+    ]
 
 pub returns-then-words-entries : goal.returns-then-words-entries
 returns-then-words-entries c =

@@ -2,7 +2,6 @@
 use mathlib.Core.Path.{refl, sym, subst}
 use lib.Dec.{T}
 use lib.Ieee.{binary64, fits, of_bits, neg, ne}
-use borrow.Author.Rules.{rules}
 use borrow.Author.Tests.{not-true}
 use Rattle.type2.specs.Whole.{came_back, came_near}
 use Rattle.type2.proofs.nearest.Goals as goal

@@ -1,7 +1,6 @@
 -- `type2::push_step` meets its contract.
 use mathlib.Core.Path.{ap}
 use lib.Ieee.{Float, binary64, add}
-use borrow.Author.Rules.{rules}
 use Rattle.type2.proofs.push_step.Goals as goal
 
 pub returns : goal.returns

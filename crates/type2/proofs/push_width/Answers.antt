@@ -4,7 +4,6 @@ use mathlib.Core.Bool.{Bool, true, false, cond}
 use mathlib.Core.List.{List}
 use Prim.Native.Nat.{ℕ}
 use lib.Ieee.{Float, binary64, sub, eq}
-use borrow.Author.Rules.{rules}
 use Rattle.type2.specs.declared.Widths.{Widths}
 use Rattle.type2.specs.Number.{quantized, gave, push_number}
 use Rattle.type2.specs.Width.{push_width}

@@ -1,6 +1,5 @@
 -- `type2::quantize` meets its contract: each arm is an arm of the definition.
 use lib.Ieee.{of_bits}
-use borrow.Author.Rules.{rules}
 use Rattle.type2.proofs.QuantizeLaws.{quantized-first, quantized-second}
 use Rattle.type2.proofs.quantize.Goals as goal
 

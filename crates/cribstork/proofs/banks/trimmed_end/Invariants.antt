@@ -1,8 +1,6 @@
--- `cribstork::banks::trimmed_end` is safe and ends.
+-- `cribstork::banks::trimmed_end` ends.
+use Rattle.std.proofs.Common.{length}
 use Rattle.cribstork.proofs.banks.trimmed_end.Given as goal
 
-abbrev pub invariant-loop-e : goal.invariant-loop-e
-invariant-loop-e l = Unit {0}
-
-abbrev pub decreases-loop-e : goal.decreases-loop-e
-decreases-loop-e l = l.e
+abbrev pub decreases-loop-v : goal.decreases-loop-v
+decreases-loop-v l = length l.v

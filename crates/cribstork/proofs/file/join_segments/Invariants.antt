@@ -1,9 +1,9 @@
 -- `cribstork::file::join_segments` is safe and ends.
-use Rattle.std.proofs.Common.{◌≡◌, length}
+use Rattle.std.proofs.Common.{◌-◌, length}
 use Rattle.cribstork.proofs.file.join_segments.Given as goal
 
-abbrev pub invariant-loop-turns : goal.invariant-loop-turns
-invariant-loop-turns l = (length l.text ≡ length l.initial.text)
+abbrev pub invariant-loop-at : goal.invariant-loop-at
+invariant-loop-at l = Unit {0}
 
-abbrev pub decreases-loop-turns : goal.decreases-loop-turns
-decreases-loop-turns l = l.turns
+abbrev pub decreases-loop-at : goal.decreases-loop-at
+decreases-loop-at l = length l.v - l.at

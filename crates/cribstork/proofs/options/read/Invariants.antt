@@ -1,8 +1,6 @@
--- `cribstork::options::read` is safe and ends.
+-- `cribstork::options::read` ends.
+use Rattle.std.proofs.Common.{length}
 use Rattle.cribstork.proofs.options.read.Given as goal
 
-abbrev pub invariant-loop-turns : goal.invariant-loop-turns
-invariant-loop-turns l = Unit {0}
-
-abbrev pub decreases-loop-turns : goal.decreases-loop-turns
-decreases-loop-turns l = l.turns
+abbrev pub decreases-loop-left : goal.decreases-loop-left
+decreases-loop-left l = length l.left

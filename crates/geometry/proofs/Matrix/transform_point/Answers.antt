@@ -2,7 +2,6 @@
 use mathlib.Core.Path.{ap₂}
 use lib.Ieee.{Float}
 use Rattle.geometry.specs.Transform.{point}
-use borrow.Author.Rules.{rules}
 use Rattle.geometry.proofs.Matrix.transform_point.Goals as goal
 
 pub returns : goal.returns

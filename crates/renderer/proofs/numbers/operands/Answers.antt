@@ -1,37 +1,32 @@
 -- `renderer::numbers::operands` meets its contract.
-use mathlib.Core.Path.{sym, ◌∙◌}
-use native.Mathlib.Omega.{arith}
+use Rattle.std.proofs.Common.{sym, ◌∙◌}
 use Rattle.renderer.proofs.OperatorLaws.{going_first, at_end, at_operator, cut-number, full_number, more_number}
 use Rattle.renderer.proofs.numbers.operands.Goals as goal
 
-pub loop-at-init : goal.loop-at-init
-loop-at-init c =
-    going_first _ _ _ c.requires
+pub loop-b-init : goal.loop-b-init
+loop-b-init c =
+    going_first _ _ _ c.told-ops
 
 pub returns-then-not-starts_number : goal.returns-then-not-starts_number
 returns-then-not-starts_number c =
-    at_operator c.loop-at.invariant _ (omega arith) c.wide-b.ensures.0 (sym c.starts_number.ensures ∙ c.if-not-starts_number.true)
+    let h = c.in-Some.ensures.lookup in
+    at_operator c.loop-b.invariant _ h.3.0 (h.3.1 0) (sym c.starts_number.ensures ∙ c.if-not-starts_number.true)
 
-pub number-r-requires : goal.number-r-requires
-number-r-requires c =
-    (omega arith, c.wide-b.ensures.1, sym c.starts_number.ensures ∙ c.if-not-starts_number.false)
+pub returns-in_err-number : goal.returns-in_err-number
+returns-in_err-number c =
+    let h = c.in-Some.ensures.lookup in
+    rw c.from_residual.ensures (cut-number c.loop-b.invariant _ h.3.0 (h.3.1 0) (sym c.starts_number.ensures ∙ c.if-not-starts_number.false) c.in_err-number.ensures)
 
-pub returns-then-r-eq0 : goal.returns-then-r-eq0
-returns-then-r-eq0 c =
-    cut-number c.loop-at.invariant _ (omega arith) c.wide-b.ensures.0 (sym c.starts_number.ensures ∙ c.if-not-starts_number.false) _ _ c.number-r.ensures c.if-r-eq0.true _ _ _ c.no_operator.ensures.0 c.no_operator.ensures.1 c.no_operator.ensures.2
+pub returns-then-count-ge-MOST : goal.returns-then-count-ge-MOST
+returns-then-count-ge-MOST c =
+    let h = c.in-Some.ensures.lookup in
+    full_number c.loop-b.invariant _ h.3.0 (h.3.1 0) (sym c.starts_number.ensures ∙ c.if-not-starts_number.false) c.if-count-ge-MOST.true
 
-pub returns-then-n-ge-MOST : goal.returns-then-n-ge-MOST
-returns-then-n-ge-MOST c =
-    full_number c.loop-at.invariant _ (omega arith) c.wide-b.ensures.0 (sym c.starts_number.ensures ∙ c.if-not-starts_number.false) c.if-n-ge-MOST.true _ _ _ c.no_operator-then-n-ge-MOST.ensures.0 c.no_operator-then-n-ge-MOST.ensures.1 c.no_operator-then-n-ge-MOST.ensures.2
-
-pub loop-at-smaller : goal.loop-at-smaller
-loop-at-smaller c =
-    (let h = c.number-r.ensures.onward c.if-r-eq0.false in omega arith)
-
-pub loop-at-preserved : goal.loop-at-preserved
-loop-at-preserved c =
-    more_number c.loop-at.invariant _ (omega arith) c.wide-b.ensures.0 (sym c.starts_number.ensures ∙ c.if-not-starts_number.false) _ _ c.number-r.ensures c.if-r-eq0.false c.if-n-ge-MOST.false
+pub loop-b-preserved : goal.loop-b-preserved
+loop-b-preserved c =
+    let h = c.in-Some.ensures.lookup in
+    more_number c.loop-b.invariant _ h.3.0 (h.3.1 0) (sym c.starts_number.ensures ∙ c.if-not-starts_number.false) _ c.in_ok-number.ensures c.if-count-ge-MOST.false
 
 pub returns : goal.returns
 returns c =
-    at_end c.loop-at.invariant _ _ _ c.no_operator-2.ensures.0 c.no_operator-2.ensures.1 c.no_operator-2.ensures.2 (omega arith)
+    at_end c.loop-b.invariant c.in_default.ensures.lookup.3

@@ -1,56 +1,51 @@
 -- `renderer::operators::find` meets its contract.
-use native.Mathlib.Omega.{arith}
-use Rattle.renderer.proofs.FoundLaws.{unknown, unsettled, many_stems, some_stems, plainly, a_flex, one_more, a_level_move, an_upright_move, cut-mask, a_mask, taken}
+use Rattle.renderer.proofs.FoundLaws.{unknown, unsettled, stems_found, a_move, some_lines, some_curves, the_end, a_flex, a_level_move, an_upright_move, cut-mask, a_mask}
 use Rattle.renderer.proofs.operators.find.Goals as goal
 
-pub returns-then-code-eq0 : goal.returns-then-code-eq0
-returns-then-code-eq0 c =
-    unknown _ c.requires.0 c.operands-r.ensures c.named-code.ensures _ c.fault.ensures c.if-code-eq0.true
+pub returns-in_err-opcode : goal.returns-in_err-opcode
+returns-in_err-opcode c =
+    rw c.from_residual-in_err-opcode.ensures (unknown c.args.from c.requires c.operands.array_long c.in_ok-byte.ensures c.in_err-opcode.ensures)
 
-pub returns-then-first-gt1 : goal.returns-then-first-gt1
-returns-then-first-gt1 c =
-    unsettled _ c.requires.0 c.operands-r.ensures c.named-code.ensures c.first_operand-first.ensures c.if-code-eq0.false _ c.fault-then-first-gt1.ensures c.if-first-gt1.true
+pub returns-in_err-first : goal.returns-in_err-first
+returns-in_err-first c =
+    rw c.from_residual-in_err-first.ensures (unsettled c.args.from c.requires c.operands.array_long c.in_ok-byte.ensures c.in_ok-opcode.ensures c.in_err-first.ensures)
 
-pub overflow_sub-all : goal.overflow_sub-all
-overflow_sub-all c =
-    (taken _ c.requires.0 c.operands-r.ensures c.named-code.ensures c.first_operand-first.ensures c.if-code-eq0.false c.if-first-gt1.false).order
+pub returns-in-Stem : goal.returns-in-Stem
+returns-in-Stem c =
+    rw c.then_some.ensures (stems_found c.args.from c.requires c.operands.array_long c.in_ok-byte.ensures c.in_ok-opcode.ensures c.in_ok-first.ensures c.in-Stem.is)
 
-pub returns-then-all-gt-MOST_STEMS : goal.returns-then-all-gt-MOST_STEMS
-returns-then-all-gt-MOST_STEMS c =
-    many_stems _ c.requires.0 c.operands-r.ensures c.named-code.ensures c.first_operand-first.ensures c.if-code-eq0.false c.if-first-gt1.false _ c.fault-then-all-gt-MOST_STEMS.ensures c.if-code-eq-HSTEM.true c.if-all-gt-MOST_STEMS.true
+pub returns-in_err-at-in-HintMask : goal.returns-in_err-at-in-HintMask
+returns-in_err-at-in-HintMask c =
+    rw c.from_residual-in_err-at-in-HintMask.ensures (cut-mask c.args.from c.requires c.operands.array_long c.in_ok-byte.ensures c.in_ok-opcode.ensures c.in_ok-first.ensures c.in-HintMask.is c.in_err-at-in-HintMask.ensures)
 
-pub returns-then-code-eq-HSTEM : goal.returns-then-code-eq-HSTEM
-returns-then-code-eq-HSTEM c =
-    some_stems _ c.requires.0 c.operands-r.ensures c.named-code.ensures c.first_operand-first.ensures c.if-code-eq0.false c.if-first-gt1.false c.if-code-eq-HSTEM.true c.if-all-gt-MOST_STEMS.false
+pub returns-in_ok-at-in-HintMask : goal.returns-in_ok-at-in-HintMask
+returns-in_ok-at-in-HintMask c =
+    a_mask c.args.from c.requires c.operands.array_long c.in_ok-byte.ensures c.in_ok-opcode.ensures c.in_ok-first.ensures c.in-HintMask.is _ c.in_ok-at-in-HintMask.ensures
 
-pub returns-then-next-eq0 : goal.returns-then-next-eq0
-returns-then-next-eq0 c =
-    cut-mask _ c.requires.0 c.operands-r.ensures c.named-code.ensures c.first_operand-first.ensures c.if-code-eq0.false c.if-first-gt1.false _ c.fault-then-next-eq0.ensures c.if-code-eq-HINTMASK.true _ c.after_mask-next.ensures c.if-next-eq0.true
+pub returns-in-RMoveTo : goal.returns-in-RMoveTo
+returns-in-RMoveTo c =
+    a_move c.args.from c.requires c.operands.array_long c.in_ok-byte.ensures c.in_ok-opcode.ensures c.in_ok-first.ensures c.in-RMoveTo.is
 
-pub returns-then-code-eq-HINTMASK : goal.returns-then-code-eq-HINTMASK
-returns-then-code-eq-HINTMASK c =
-    a_mask _ c.requires.0 c.operands-r.ensures c.named-code.ensures c.first_operand-first.ensures c.if-code-eq0.false c.if-first-gt1.false c.if-code-eq-HINTMASK.true _ c.after_mask-next.ensures c.if-next-eq0.false
+pub returns-in-HMoveTo : goal.returns-in-HMoveTo
+returns-in-HMoveTo c =
+    a_level_move c.args.from c.requires c.operands.array_long c.in_ok-byte.ensures c.in_ok-opcode.ensures c.in_ok-first.ensures c.in-HMoveTo.is
 
-pub bounds-ops-count : goal.bounds-ops-count
-bounds-ops-count c =
-    (let e = one_more _ c.requires.0 c.operands-r.ensures c.named-code.ensures c.first_operand-first.ensures c.if-code-eq0.false c.if-first-gt1.false (rw c.if-code-eq-HMOVETO.true) (rw c.if-code-eq-HMOVETO.true) in omega arith)
+pub returns-in-VMoveTo : goal.returns-in-VMoveTo
+returns-in-VMoveTo c =
+    an_upright_move c.args.from c.requires c.operands.array_long c.in_ok-byte.ensures c.in_ok-opcode.ensures c.in_ok-first.ensures c.in-VMoveTo.is
 
-pub returns-then-code-eq-HMOVETO : goal.returns-then-code-eq-HMOVETO
-returns-then-code-eq-HMOVETO c =
-    a_level_move _ c.requires.0 c.operands-r.ensures c.named-code.ensures c.first_operand-first.ensures c.if-code-eq0.false c.if-first-gt1.false c.if-code-eq-HMOVETO.true
+pub returns-in-RLineTo : goal.returns-in-RLineTo
+returns-in-RLineTo c =
+    some_lines c.args.from c.requires c.operands.array_long c.in_ok-byte.ensures c.in_ok-opcode.ensures c.in_ok-first.ensures c.in-RLineTo.is
 
-pub bounds-ops-count-then-code-eq-VMOVETO : goal.bounds-ops-count-then-code-eq-VMOVETO
-bounds-ops-count-then-code-eq-VMOVETO c =
-    (let e = one_more _ c.requires.0 c.operands-r.ensures c.named-code.ensures c.first_operand-first.ensures c.if-code-eq0.false c.if-first-gt1.false (rw c.if-code-eq-VMOVETO.true) (rw c.if-code-eq-VMOVETO.true) in omega arith)
+pub returns-in-RRCurveTo : goal.returns-in-RRCurveTo
+returns-in-RRCurveTo c =
+    some_curves c.args.from c.requires c.operands.array_long c.in_ok-byte.ensures c.in_ok-opcode.ensures c.in_ok-first.ensures c.in-RRCurveTo.is
 
-pub returns-then-code-eq-VMOVETO : goal.returns-then-code-eq-VMOVETO
-returns-then-code-eq-VMOVETO c =
-    an_upright_move _ c.requires.0 c.operands-r.ensures c.named-code.ensures c.first_operand-first.ensures c.if-code-eq0.false c.if-first-gt1.false c.if-code-eq-VMOVETO.true
+pub returns-in-EscapeFlex : goal.returns-in-EscapeFlex
+returns-in-EscapeFlex c =
+    a_flex c.args.from c.requires c.operands.array_long c.in_ok-byte.ensures c.in_ok-opcode.ensures c.in_ok-first.ensures c.in-EscapeFlex.is
 
-pub returns-then-code-eq-ESCAPE : goal.returns-then-code-eq-ESCAPE
-returns-then-code-eq-ESCAPE c =
-    a_flex _ c.requires.0 c.operands-r.ensures c.named-code.ensures c.first_operand-first.ensures c.if-code-eq0.false c.if-first-gt1.false c.if-code-eq-ESCAPE.true
-
-pub returns : goal.returns
-returns c =
-    plainly _ c.requires.0 c.operands-r.ensures c.named-code.ensures c.first_operand-first.ensures c.if-code-eq0.false c.if-first-gt1.false c.if-code-eq-HSTEM.false c.if-code-eq-HINTMASK.false c.if-code-eq-HMOVETO.false c.if-code-eq-VMOVETO.false c.if-code-eq-ESCAPE.false
+pub returns-in-EndChar : goal.returns-in-EndChar
+returns-in-EndChar c =
+    the_end c.args.from c.requires c.operands.array_long c.in_ok-byte.ensures c.in_ok-opcode.ensures c.in_ok-first.ensures c.in-EndChar.is

@@ -1,10 +1,9 @@
 -- `type1::bytes::token` meets its contract.
 use native.Mathlib.Omega.{arith}
 use mathlib.Core.Path.{refl, ◌∙◌}
-use borrow.Author.Tests.{not-true, not-false}
 use borrow.Author.Rules.{rules}
 use Rattle.type1.proofs.ByteLaws.{begins, quick_is, at_operator, listed, closed, at_refused, pushed, at_end}
-use Rattle.operand_stack.specs.Laws.{refused_by, room_left}
+use Rattle.operand_stack.specs.Laws.{number_first, number_refused, refused_by, room_left}
 use Rattle.type1.proofs.bytes.token.Goals as goal
 
 pub loop-i-init : goal.loop-i-init
@@ -23,31 +22,31 @@ pub returns-then-not-is_quick : goal.returns-then-not-is_quick
 returns-then-not-is_quick c =
     at_operator _ _ _ _ _ _ _ _ _ _ _ _ _ _ _ _ _ c.loop-i.invariant _ _ _ (search rules) refl c.byte_of-v.ensures c.next_key-k.ensures _ _ _ refl c.place.ensures c.operator_at.ensures
 
-pub draw-d-requires : goal.draw-d-requires
-draw-d-requires c =
+pub draw-requires : goal.draw-requires
+draw-requires c =
     (c.loop-i.invariant.few, c.loop-i.invariant.space)
 
-pub operator_at-requires-then-not-d : goal.operator_at-requires-then-not-d
-operator_at-requires-then-not-d c =
+pub operator_at-requires-in_default : goal.operator_at-requires-in_default
+operator_at-requires-in_default c =
     (c.if-v-lt32.true, omega arith)
 
-pub shape_of-cmds-then-not-d : goal.shape_of-cmds-then-not-d
-shape_of-cmds-then-not-d c =
-    c.draw-d.ensures.same ∙ c.loop-i.invariant.whole
+pub shape_of-cmds-in_default : goal.shape_of-cmds-in_default
+shape_of-cmds-in_default c =
+    c.in_default.ensures.same ∙ c.loop-i.invariant.whole
 
-pub returns-then-not-d : goal.returns-then-not-d
-returns-then-not-d c =
-    at_operator _ _ _ _ _ _ _ _ _ _ _ _ _ _ _ _ _ c.loop-i.invariant _ _ _ (search rules) refl c.byte_of-v.ensures c.next_key-k.ensures _ _ _ (c.draw-d.ensures.none (not-true _ c.if-not-d.true)) c.place-then-not-d.ensures c.operator_at-then-not-d.ensures
+pub returns-in_default : goal.returns-in_default
+returns-in_default c =
+    at_operator _ _ _ _ _ _ _ _ _ _ _ _ _ _ _ _ _ c.loop-i.invariant _ _ _ (search rules) refl c.byte_of-v.ensures c.next_key-k.ensures _ _ _ c.in_default.ensures.none c.place-in_default.ensures c.operator_at-in_default.ensures
 
 pub overflow_add-entries : goal.overflow_add-entries
 overflow_add-entries c =
-    omega (arith, c.draw-d.ensures.space (not-false _ c.if-not-d.false))
+    omega (arith, c.in-Some.ensures.space)
 
 pub loop-i-preserved-else-v-eq-CLOSEPATH_BYTE : goal.loop-i-preserved-else-v-eq-CLOSEPATH_BYTE
 loop-i-preserved-else-v-eq-CLOSEPATH_BYTE c =
     listed _ _ _ _ _ _ _ _ _ _ _ _ _ _ _ _ _ c.loop-i.invariant _ _ _ (search rules) refl c.byte_of-v.ensures
     c.next_key-k.ensures _ _ (quick_is c.args.st.changed _ _ c.is_quick.ensures c.if-not-is_quick.false).0 (quick_is c.args.st.changed _ _ c.is_quick.ensures c.if-not-is_quick.false).1
-    c.if-v-lt32.true c.draw-d.ensures (not-false _ c.if-not-d.false)
+    c.if-v-lt32.true c.in-Some.ensures
 
 pub number_at-w-requires : goal.number_at-w-requires
 number_at-w-requires c =
@@ -59,11 +58,11 @@ shape_of-cmds-then-f-ne0 c =
 
 pub returns-then-f-ne0 : goal.returns-then-f-ne0
 returns-then-f-ne0 c =
-    at_refused _ _ _ _ _ _ _ _ _ _ _ _ _ _ _ _ _ c.loop-i.invariant _ _ _ (search rules) refl c.byte_of-v.ensures c.next_key-k-else-v-lt32.ensures _ c.number_at-w.ensures _ _ _ (refused_by _ _ _ _ _ c.first-f.ensures c.number_if-cut.ensures c.refusal-over.ensures) c.if-f-ne0.true c.place-then-f-ne0.ensures c.found.ensures
+    at_refused _ _ _ _ _ _ _ _ _ _ _ _ _ _ _ _ _ c.loop-i.invariant _ _ _ (search rules) refl c.byte_of-v.ensures c.next_key-k-else-v-lt32.ensures _ c.number_at-w.ensures _ _ _ (refused_by _ _ _ _ _ (c.flow_of-f.ensures ∙ number_first _ _ _ c.first.ensures) (number_refused _ _ _ c.refuse_if-cut.ensures.refused c.refuse_if-cut.ensures.free) c.room-over.ensures) c.if-f-ne0.true c.place-then-f-ne0.ensures c.found.ensures
 
 pub bounds-ops-n : goal.bounds-ops-n
 bounds-ops-n c =
-    room_left c.args.reading.strict _ 5 _ c.number_at-w.result.cut (λ z. let y : ⊥ = omega (arith, z) in y) (refused_by _ _ _ _ _ c.first-f.ensures c.number_if-cut.ensures c.refusal-over.ensures) c.if-f-ne0.false
+    room_left c.args.reading.strict _ 5 _ c.number_at-w.result.cut (λ z. let y : ⊥ = omega (arith, z) in y) (refused_by _ _ _ _ _ (c.flow_of-f.ensures ∙ number_first _ _ _ c.first.ensures) (number_refused _ _ _ c.refuse_if-cut.ensures.refused c.refuse_if-cut.ensures.free) c.room-over.ensures) c.if-f-ne0.false
 
 pub overflow_add-n : goal.overflow_add-n
 overflow_add-n c =
@@ -75,7 +74,7 @@ loop-i-smaller c =
 
 pub loop-i-preserved : goal.loop-i-preserved
 loop-i-preserved c =
-    pushed _ _ _ _ _ _ _ _ _ _ _ _ _ _ _ _ _ c.loop-i.invariant _ _ _ (search rules) refl c.byte_of-v.ensures c.next_key-k-else-v-lt32.ensures _ c.number_at-w.ensures _ (refused_by _ _ _ _ _ c.first-f.ensures c.number_if-cut.ensures c.refusal-over.ensures) c.if-f-ne0.false (omega arith)
+    pushed _ _ _ _ _ _ _ _ _ _ _ _ _ _ _ _ _ c.loop-i.invariant _ _ _ (search rules) refl c.byte_of-v.ensures c.next_key-k-else-v-lt32.ensures _ c.number_at-w.ensures _ (refused_by _ _ _ _ _ (c.flow_of-f.ensures ∙ number_first _ _ _ c.first.ensures) (number_refused _ _ _ c.refuse_if-cut.ensures.refused c.refuse_if-cut.ensures.free) c.room-over.ensures) c.if-f-ne0.false (omega arith)
 
 pub returns : goal.returns
 returns c =

@@ -1,11 +1,15 @@
+use mathlib.Core.Path.{refl, ap, ◌∙◌}
+use Rattle.refusal.specs.Refusal.{number_of}
+use Rattle.type1.specs.Small.{ran_of}
 use Rattle.type1.proofs.Store.{plain_same, plain_more}
 use Rattle.type1.proofs.Drawing.{entered_so, entered_not}
 use Rattle.type1.proofs.entries.enter_curve.Goals as goal
 
-pub returns-then-store_curve : goal.returns-then-store_curve
-returns-then-store_curve c =
-    record { meets = λ m s room H. entered_so _ _ _ _ _ _ c.store_curve.ensures c.if-store_curve.true c.made.ensures m s room H; plain = plain_more _ _ _ c.made.ensures }
+pub returns-in-Ok : goal.returns-in-Ok
+returns-in-Ok c =
+    record { meets = λ m s room H. entered_so _ _ _ _ _ _ c.in-Ok.ensures.stores refl c.made.ensures m s room H; plain = plain_more _ _ _ c.made.ensures }
 
-pub returns : goal.returns
-returns c =
-    record { meets = λ m s room H. entered_not _ _ _ _ _ _ c.store_curve.ensures c.if-store_curve.false c.made-2.ensures m s room H; plain = plain_same _ _ 17 c.made-2.ensures }
+pub returns-in-Err : goal.returns-in-Err
+returns-in-Err c =
+    let e = c.made-in-Err.ensures ∙ ap (ran_of c.args.st) (c.number.ensures ∙ ap number_of c.in-Err.ensures.refused) in
+    record { meets = λ m s room H. entered_not _ _ _ _ _ _ c.in-Err.ensures.stores refl e m s room H; plain = plain_same _ _ 17 e }

@@ -1,26 +1,24 @@
 use native.Mathlib.Omega.{arith}
-use mathlib.Core.Path.{sym, subst}
-use lib.Dec.{T}
+use mathlib.Core.Path.{refl}
+use lib.Ieee.Fits.{and_l, and_r}
+use lib.Ieee.Scale.{finite}
 use lib.ListN.{length-set}
-use Rattle.type1.proofs.Store.{no_nan}
 use Rattle.type1.proofs.Drawing.{stores-none, stores-point}
 use Rattle.type1.proofs.entries.store_point.Goals as goal
 
 pub returns-then-cmds-at-lt-ENTRY : goal.returns-then-cmds-at-lt-ENTRY
 returns-then-cmds-at-lt-ENTRY c =
-    stores-none _ _ _ c.if-cmds-at-lt-ENTRY.true
+    record { stores = stores-none _ _ _ c.if-cmds-at-lt-ENTRY.true; refused = refl }
 
-pub float_to_bits-cmds : goal.float_to_bits-cmds
-float_to_bits-cmds c =
-    no_nan _ c.requires.t.0
+pub bits-requires : goal.bits-requires
+bits-requires c = and_l (finite c.args.p.x) (finite c.args.p.y) c.requires.t
 
 pub bounds-cmds-at-2 : goal.bounds-cmds-at-2
 bounds-cmds-at-2 c =
     simp length-set (omega arith)
 
-pub float_to_bits-cmds-2 : goal.float_to_bits-cmds-2
-float_to_bits-cmds-2 c =
-    no_nan _ c.requires.t.1
+pub bits-requires-2 : goal.bits-requires-2
+bits-requires-2 c = and_r (finite c.args.p.x) (finite c.args.p.y) c.requires.t
 
 pub bounds-cmds-at-3 : goal.bounds-cmds-at-3
 bounds-cmds-at-3 c =
@@ -28,4 +26,4 @@ bounds-cmds-at-3 c =
 
 pub returns : goal.returns
 returns c =
-    stores-point _ _ c.requires.k_in_bounds c.if-cmds-at-lt-ENTRY.false _ _ _ (subst T (sym c.well_formed.1.0.1) tt) (subst T (sym c.well_formed.1.1.0.1) tt) c.requires.kind_nonzero.0 c.requires.kind_nonzero.1
+    record { stores = rw (c.bits.ensures.0, c.bits-2.ensures.0) (stores-point _ _ c.requires.k_in_bounds c.if-cmds-at-lt-ENTRY.false _ c.args.p.x c.args.p.y c.bits.ensures.1 c.bits-2.ensures.1 c.requires.kind_nonzero.0 c.requires.kind_nonzero.1); refused = tt }

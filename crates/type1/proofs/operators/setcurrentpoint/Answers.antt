@@ -1,5 +1,6 @@
 use native.Mathlib.Omega.{arith}
 use Rattle.type1.proofs.Groups.{space_same}
+use Rattle.type1.proofs.PathLaws.{both_fine}
 use Rattle.type1.proofs.OperandLaws.{does_setcurrentpoint, short_setcurrentpoint, clear_bounds, clear_space}
 use Rattle.type1.proofs.operators.setcurrentpoint.Goals as goal
 
@@ -9,7 +10,7 @@ returns-then-n-lt2 c =
 
 pub set_point-requires : goal.set_point-requires
 set_point-requires c =
-    record { bounds = (clear_bounds _ _ _ _ c.cleared.ensures c.requires.bounds c.requires.stems_le_room).0; stems_le_room = (clear_bounds _ _ _ _ c.cleared.ensures c.requires.bounds c.requires.stems_le_room).1; t = (c.requires.by_index _ (omega arith), c.requires.by_index _ (omega arith)) }
+    record { bounds = (clear_bounds _ _ _ _ c.cleared.ensures c.requires.bounds c.requires.stems_le_room).0; stems_le_room = (clear_bounds _ _ _ _ c.cleared.ensures c.requires.bounds c.requires.stems_le_room).1; t = both_fine _ _ (c.requires.by_index _ (omega arith), c.requires.by_index _ (omega arith)) }
 
 pub returns : goal.returns
 returns c =

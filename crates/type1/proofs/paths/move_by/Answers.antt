@@ -1,8 +1,7 @@
-use lib.Ieee.{binary64, add}
 use lib.Dec.{lit<}
 use mathlib.Core.Path.{sym, ap, ◌∙◌}
 use Rattle.type1.proofs.Groups.{space_same}
-use Rattle.type1.proofs.PathLaws.{moves_infinite, moves_flexing, moves_listed, moved-bounds, finite-both, space_moved, space_opened}
+use Rattle.type1.proofs.PathLaws.{moves_infinite, moves_flexing, moves_listed, moved-bounds, true_of, space_moved, space_opened}
 use Rattle.type1.proofs.paths.move_by.Goals as goal
 
 pub returns-then-not-finite_point : goal.returns-then-not-finite_point
@@ -15,7 +14,7 @@ returns-then-st c =
 
 pub list_point-requires : goal.list_point-requires
 list_point-requires c =
-    record { bounds = (moved-bounds _ _ _ _ _ _ c.at_point-2.ensures c.requires.bounds c.requires.stems_le_room).0; stems_le_room = (moved-bounds _ _ _ _ _ _ c.at_point-2.ensures c.requires.bounds c.requires.stems_le_room).1; kind_nonzero = (lit< tt, lit< tt); t = finite-both (add binary64 c.args.st.x c.args.dx) (add binary64 c.args.st.y c.args.dy) _ c.finite_point.ensures c.if-not-finite_point.false }
+    record { bounds = (moved-bounds _ _ _ _ _ _ c.at_point-2.ensures c.requires.bounds c.requires.stems_le_room).0; stems_le_room = (moved-bounds _ _ _ _ _ _ c.at_point-2.ensures c.requires.bounds c.requires.stems_le_room).1; kind_nonzero = (lit< tt, lit< tt); t = true_of _ _ c.finite_point.ensures c.if-not-finite_point.false }
 
 pub returns : goal.returns
 returns c =

@@ -1,10 +1,10 @@
 use lib.Dec.{lit<}
-use Rattle.type1.proofs.PathLaws.{opens-first, opened_path, opened_grown}
+use Rattle.type1.proofs.PathLaws.{opens-first, opened_path, opened_grown, both_fine}
 use Rattle.type1.proofs.paths.open_subpath.Goals as goal
 
 pub list_point-requires : goal.list_point-requires
 list_point-requires c =
-    record { bounds = c.requires.bounds; stems_le_room = c.requires.stems_le_room; kind_nonzero = (lit< tt, lit< tt); t = c.requires.t }
+    record { bounds = c.requires.bounds; stems_le_room = c.requires.stems_le_room; kind_nonzero = (lit< tt, lit< tt); t = both_fine _ _ c.requires.t }
 
 pub returns : goal.returns
 returns c =

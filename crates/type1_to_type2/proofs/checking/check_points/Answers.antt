@@ -1,131 +1,91 @@
-use native.Mathlib.Omega.{arith}
-use Rattle.folding.proofs.Folds.{six_1, six_2, six_3, six_4, six_5, six_6}
-use Rattle.type1_to_type2.proofs.Coordinates.{three_1, three_2, three_3, good_move, good_line, good_curve, good_flex, fine, fine_move, fine_line, fine_curve, fine_flex, fine-none}
-use mathlib.Core.Path.{sym, ◌∙◌}
+use borrow.Author.Rules.{rules}
+use mathlib.Core.Path.{◌≡◌, refl, sym, ap, ◌∙◌}
+use mathlib.Core.Bool.{Bool, true, false, ◌&&◌}
+use Rattle.type1_to_type2.proofs.Coordinates.{and_then, and_else, three_left, six_left, good_move, good_line, good_curve, good_flex, fine, fine_move, fine_line, fine_curve, fine_flex, fine-none}
 use Rattle.type1_to_type2.proofs.checking.check_points.Goals as goal
+use Rattle.type1_to_type2.proofs.checking.check_points.Goals.{then-check_point, else-check_point, then-check_point-3, else-check_point-3, then-check_point-4, else-check_point-4, then-check_point-5, else-check_point-5, then-check_point-6, else-check_point-6}
 
-pub check_point-requires : goal.check_point-requires
-check_point-requires c =
-    record { at_in_bounds = omega arith; good = good_move c.args.commands.now c.args.e c.requires.all c.if-kind-eq-MOVE.true }
+pub check_point-requires-in-3-clause-good : goal.check_point-requires-in-3-clause-good
+check_point-requires-in-3-clause-good c =
+    (good_curve c.args.commands.now c.args.e c.requires.all c.in-3.is).0
 
-pub returns-then-kind-eq-MOVE : goal.returns-then-kind-eq-MOVE
-returns-then-kind-eq-MOVE c =
-    c.check_point.ensures ∙ fine_move c.args.commands.now c.args.e c.args.fold c.if-kind-eq-MOVE.true
+pub check_point-requires-then-check_point-clause-good : goal.check_point-requires-then-check_point-clause-good
+check_point-requires-then-check_point-clause-good c =
+    (good_curve c.args.commands.now c.args.e c.requires.all c.in-3.is).1.0
 
-pub check_point-requires-then-kind-eq-LINE : goal.check_point-requires-then-kind-eq-LINE
-check_point-requires-then-kind-eq-LINE c =
-    record { at_in_bounds = omega arith; good = good_line c.args.commands.now c.args.e c.requires.all c.if-kind-eq-LINE.true }
+pub check_point-requires-then-check_point-2-clause-good : goal.check_point-requires-then-check_point-2-clause-good
+check_point-requires-then-check_point-2-clause-good c =
+    (good_curve c.args.commands.now c.args.e c.requires.all c.in-3.is).1.1
 
-pub returns-then-kind-eq-LINE : goal.returns-then-kind-eq-LINE
-returns-then-kind-eq-LINE c =
-    c.check_point-then-kind-eq-LINE.ensures ∙ fine_line c.args.commands.now c.args.e c.args.fold c.if-kind-eq-LINE.true
+pub check_point-requires-in-4-clause-good : goal.check_point-requires-in-4-clause-good
+check_point-requires-in-4-clause-good c =
+    (good_flex c.args.commands.now c.args.e c.requires.all c.in-4.is).0
 
-pub check_point-requires-then-kind-eq-CURVE : goal.check_point-requires-then-kind-eq-CURVE
-check_point-requires-then-kind-eq-CURVE c =
-    record { at_in_bounds = omega arith; good = (good_curve c.args.commands.now c.args.e c.requires.all c.if-kind-eq-CURVE.true).0 }
+pub check_point-requires-then-check_point-3-clause-good : goal.check_point-requires-then-check_point-3-clause-good
+check_point-requires-then-check_point-3-clause-good c =
+    (good_flex c.args.commands.now c.args.e c.requires.all c.in-4.is).1.0
 
-pub returns-then-not-check_point : goal.returns-then-not-check_point
-returns-then-not-check_point c =
+pub check_point-requires-then-check_point-4-clause-good : goal.check_point-requires-then-check_point-4-clause-good
+check_point-requires-then-check_point-4-clause-good c =
+    (good_flex c.args.commands.now c.args.e c.requires.all c.in-4.is).1.1.0
+
+pub check_point-requires-then-check_point-5-clause-good : goal.check_point-requires-then-check_point-5-clause-good
+check_point-requires-then-check_point-5-clause-good c =
+    (good_flex c.args.commands.now c.args.e c.requires.all c.in-4.is).1.1.1.0
+
+pub check_point-requires-then-check_point-6-clause-good : goal.check_point-requires-then-check_point-6-clause-good
+check_point-requires-then-check_point-6-clause-good c =
+    (good_flex c.args.commands.now c.args.e c.requires.all c.in-4.is).1.1.1.1.0
+
+pub check_point-requires-then-check_point-7-clause-good : goal.check_point-requires-then-check_point-7-clause-good
+check_point-requires-then-check_point-7-clause-good c =
+    (good_flex c.args.commands.now c.args.e c.requires.all c.in-4.is).1.1.1.1.1.0
+
+pub returns-then-check_point-2 : goal.returns-then-check_point-2
+returns-then-check_point-2 c =
     let p = fine c.args.commands.now c.args.e c.args.fold in
-    three_1 (p 1) (p 3) (p 5) (sym c.check_point-then-kind-eq-CURVE.ensures ∙ c.if-not-check_point.true)
-    ∙ fine_curve c.args.commands.now c.args.e c.args.fold c.if-kind-eq-CURVE.true
+    let v : c.if-check_point.value ≡ (c.check_point-in-3.result && p 3) = elim c.if-check_point.branch [ then-check_point w ↦ and_then w.if-check_point.true w.value-is w.check_point-then-check_point.ensures | else-check_point w ↦ and_else _ w.if-check_point.false (w.value-is ∙ w.if-check_point.false) ] in
+    let all : c.if-check_point.value ≡ (p 1 && p 3) = v ∙ ap (λ (b : Bool). b && p 3) c.check_point-in-3.ensures in
+    and_then c.if-check_point-2.true refl c.check_point-then-check_point-2.ensures ∙ ap (λ (b : Bool). b && p 5) all ∙ three_left (p 1) (p 3) (p 5) ∙ fine_curve c.args.commands.now c.args.e c.args.fold c.in-3.is
 
-pub check_point-requires-then-kind-eq-CURVE-2 : goal.check_point-requires-then-kind-eq-CURVE-2
-check_point-requires-then-kind-eq-CURVE-2 c =
-    record { at_in_bounds = omega arith; good = (good_curve c.args.commands.now c.args.e c.requires.all c.if-kind-eq-CURVE.true).1.0 }
-
-pub returns-then-not-check_point-2 : goal.returns-then-not-check_point-2
-returns-then-not-check_point-2 c =
+pub returns-else-check_point-2 : goal.returns-else-check_point-2
+returns-else-check_point-2 c =
     let p = fine c.args.commands.now c.args.e c.args.fold in
-    three_2 (p 1) (p 3) (p 5) (sym c.check_point-then-kind-eq-CURVE.ensures ∙ c.if-not-check_point.false)
-    (sym c.check_point-then-kind-eq-CURVE-2.ensures ∙ c.if-not-check_point-2.true)
-    ∙ fine_curve c.args.commands.now c.args.e c.args.fold c.if-kind-eq-CURVE.true
+    let v : c.if-check_point.value ≡ (c.check_point-in-3.result && p 3) = elim c.if-check_point.branch [ then-check_point w ↦ and_then w.if-check_point.true w.value-is w.check_point-then-check_point.ensures | else-check_point w ↦ and_else _ w.if-check_point.false (w.value-is ∙ w.if-check_point.false) ] in
+    let all : c.if-check_point.value ≡ (p 1 && p 3) = v ∙ ap (λ (b : Bool). b && p 3) c.check_point-in-3.ensures in
+    and_else _ c.if-check_point-2.false c.if-check_point-2.false ∙ ap (λ (b : Bool). b && p 5) all ∙ three_left (p 1) (p 3) (p 5) ∙ fine_curve c.args.commands.now c.args.e c.args.fold c.in-3.is
 
-pub check_point-requires-then-kind-eq-CURVE-3 : goal.check_point-requires-then-kind-eq-CURVE-3
-check_point-requires-then-kind-eq-CURVE-3 c =
-    record { at_in_bounds = omega arith; good = (good_curve c.args.commands.now c.args.e c.requires.all c.if-kind-eq-CURVE.true).1.1 }
-
-pub returns-then-kind-eq-CURVE : goal.returns-then-kind-eq-CURVE
-returns-then-kind-eq-CURVE c =
+pub returns-then-check_point-7 : goal.returns-then-check_point-7
+returns-then-check_point-7 c =
     let p = fine c.args.commands.now c.args.e c.args.fold in
-    three_3 (p 1) (p 3) (p 5) _ (sym c.check_point-then-kind-eq-CURVE.ensures ∙ c.if-not-check_point.false)
-    (sym c.check_point-then-kind-eq-CURVE-2.ensures ∙ c.if-not-check_point-2.false) c.check_point-then-kind-eq-CURVE-3.ensures
-    ∙ fine_curve c.args.commands.now c.args.e c.args.fold c.if-kind-eq-CURVE.true
+    let v3 : c.if-check_point-3.value ≡ (c.check_point-in-4.result && p 3) = elim c.if-check_point-3.branch [ then-check_point-3 w ↦ and_then w.if-check_point-3.true w.value-is w.check_point-then-check_point-3.ensures | else-check_point-3 w ↦ and_else _ w.if-check_point-3.false (w.value-is ∙ w.if-check_point-3.false) ] in
+    let v4 : c.if-check_point-4.value ≡ (c.if-check_point-3.value && p 5) = elim c.if-check_point-4.branch [ then-check_point-4 w ↦ and_then w.if-check_point-4.true w.value-is w.check_point-then-check_point-4.ensures | else-check_point-4 w ↦ and_else _ w.if-check_point-4.false (w.value-is ∙ w.if-check_point-4.false) ] in
+    let v5 : c.if-check_point-5.value ≡ (c.if-check_point-4.value && p 7) = elim c.if-check_point-5.branch [ then-check_point-5 w ↦ and_then w.if-check_point-5.true w.value-is w.check_point-then-check_point-5.ensures | else-check_point-5 w ↦ and_else _ w.if-check_point-5.false (w.value-is ∙ w.if-check_point-5.false) ] in
+    let v6 : c.if-check_point-6.value ≡ (c.if-check_point-5.value && p 9) = elim c.if-check_point-6.branch [ then-check_point-6 w ↦ and_then w.if-check_point-6.true w.value-is w.check_point-then-check_point-6.ensures | else-check_point-6 w ↦ and_else _ w.if-check_point-6.false (w.value-is ∙ w.if-check_point-6.false) ] in
+    let all : c.if-check_point-6.value ≡ ((((p 1 && p 3) && p 5) && p 7) && p 9) = v6 ∙ ap (λ (b : Bool). b && p 9) (v5 ∙ ap (λ (b : Bool). b && p 7) (v4 ∙ ap (λ (b : Bool). b && p 5) (v3 ∙ ap (λ (b : Bool). b && p 3) c.check_point-in-4.ensures))) in
+    and_then c.if-check_point-7.true refl c.check_point-then-check_point-7.ensures ∙ ap (λ (b : Bool). b && p 11) all ∙ six_left (p 1) (p 3) (p 5) (p 7) (p 9) (p 11) ∙ fine_flex c.args.commands.now c.args.e c.args.fold c.in-4.is
 
-pub check_point-requires-then-kind-eq-FLEX : goal.check_point-requires-then-kind-eq-FLEX
-check_point-requires-then-kind-eq-FLEX c =
-    record { at_in_bounds = omega arith; good = (good_flex c.args.commands.now c.args.e c.requires.all c.if-kind-eq-FLEX.true).0 }
-
-pub returns-then-not-check_point-3 : goal.returns-then-not-check_point-3
-returns-then-not-check_point-3 c =
+pub returns-else-check_point-7 : goal.returns-else-check_point-7
+returns-else-check_point-7 c =
     let p = fine c.args.commands.now c.args.e c.args.fold in
-    six_1 (p 1) (p 3) (p 5) (p 7) (p 9) (p 11) (sym c.check_point-then-kind-eq-FLEX.ensures ∙ c.if-not-check_point-3.true)
-    ∙ fine_flex c.args.commands.now c.args.e c.args.fold c.if-kind-eq-FLEX.true
+    let v3 : c.if-check_point-3.value ≡ (c.check_point-in-4.result && p 3) = elim c.if-check_point-3.branch [ then-check_point-3 w ↦ and_then w.if-check_point-3.true w.value-is w.check_point-then-check_point-3.ensures | else-check_point-3 w ↦ and_else _ w.if-check_point-3.false (w.value-is ∙ w.if-check_point-3.false) ] in
+    let v4 : c.if-check_point-4.value ≡ (c.if-check_point-3.value && p 5) = elim c.if-check_point-4.branch [ then-check_point-4 w ↦ and_then w.if-check_point-4.true w.value-is w.check_point-then-check_point-4.ensures | else-check_point-4 w ↦ and_else _ w.if-check_point-4.false (w.value-is ∙ w.if-check_point-4.false) ] in
+    let v5 : c.if-check_point-5.value ≡ (c.if-check_point-4.value && p 7) = elim c.if-check_point-5.branch [ then-check_point-5 w ↦ and_then w.if-check_point-5.true w.value-is w.check_point-then-check_point-5.ensures | else-check_point-5 w ↦ and_else _ w.if-check_point-5.false (w.value-is ∙ w.if-check_point-5.false) ] in
+    let v6 : c.if-check_point-6.value ≡ (c.if-check_point-5.value && p 9) = elim c.if-check_point-6.branch [ then-check_point-6 w ↦ and_then w.if-check_point-6.true w.value-is w.check_point-then-check_point-6.ensures | else-check_point-6 w ↦ and_else _ w.if-check_point-6.false (w.value-is ∙ w.if-check_point-6.false) ] in
+    let all : c.if-check_point-6.value ≡ ((((p 1 && p 3) && p 5) && p 7) && p 9) = v6 ∙ ap (λ (b : Bool). b && p 9) (v5 ∙ ap (λ (b : Bool). b && p 7) (v4 ∙ ap (λ (b : Bool). b && p 5) (v3 ∙ ap (λ (b : Bool). b && p 3) c.check_point-in-4.ensures))) in
+    and_else _ c.if-check_point-7.false c.if-check_point-7.false ∙ ap (λ (b : Bool). b && p 11) all ∙ six_left (p 1) (p 3) (p 5) (p 7) (p 9) (p 11) ∙ fine_flex c.args.commands.now c.args.e c.args.fold c.in-4.is
 
-pub check_point-requires-then-kind-eq-FLEX-2 : goal.check_point-requires-then-kind-eq-FLEX-2
-check_point-requires-then-kind-eq-FLEX-2 c =
-    record { at_in_bounds = omega arith; good = (good_flex c.args.commands.now c.args.e c.requires.all c.if-kind-eq-FLEX.true).1.0 }
+pub check_point-requires-clause-good : goal.check_point-requires-clause-good
+check_point-requires-clause-good c = good_move c.args.commands.now c.args.e c.requires.all c.in-1.is
 
-pub returns-then-not-check_point-4 : goal.returns-then-not-check_point-4
-returns-then-not-check_point-4 c =
-    let p = fine c.args.commands.now c.args.e c.args.fold in
-    six_2 (p 1) (p 3) (p 5) (p 7) (p 9) (p 11) (sym c.check_point-then-kind-eq-FLEX.ensures ∙ c.if-not-check_point-3.false)
-    (sym c.check_point-then-kind-eq-FLEX-2.ensures ∙ c.if-not-check_point-4.true)
-    ∙ fine_flex c.args.commands.now c.args.e c.args.fold c.if-kind-eq-FLEX.true
+pub returns-in-1 : goal.returns-in-1
+returns-in-1 c = c.check_point.ensures ∙ fine_move c.args.commands.now c.args.e c.args.fold c.in-1.is
 
-pub check_point-requires-then-kind-eq-FLEX-3 : goal.check_point-requires-then-kind-eq-FLEX-3
-check_point-requires-then-kind-eq-FLEX-3 c =
-    record { at_in_bounds = omega arith; good = (good_flex c.args.commands.now c.args.e c.requires.all c.if-kind-eq-FLEX.true).1.1.0 }
+pub check_point-requires-in-2-clause-good : goal.check_point-requires-in-2-clause-good
+check_point-requires-in-2-clause-good c = good_line c.args.commands.now c.args.e c.requires.all c.in-2.is
 
-pub returns-then-not-check_point-5 : goal.returns-then-not-check_point-5
-returns-then-not-check_point-5 c =
-    let p = fine c.args.commands.now c.args.e c.args.fold in
-    six_3 (p 1) (p 3) (p 5) (p 7) (p 9) (p 11) (sym c.check_point-then-kind-eq-FLEX.ensures ∙ c.if-not-check_point-3.false)
-    (sym c.check_point-then-kind-eq-FLEX-2.ensures ∙ c.if-not-check_point-4.false) (sym c.check_point-then-kind-eq-FLEX-3.ensures ∙ c.if-not-check_point-5.true)
-    ∙ fine_flex c.args.commands.now c.args.e c.args.fold c.if-kind-eq-FLEX.true
+pub returns-in-2 : goal.returns-in-2
+returns-in-2 c = c.check_point-in-2.ensures ∙ fine_line c.args.commands.now c.args.e c.args.fold c.in-2.is
 
-pub check_point-requires-then-kind-eq-FLEX-4 : goal.check_point-requires-then-kind-eq-FLEX-4
-check_point-requires-then-kind-eq-FLEX-4 c =
-    record { at_in_bounds = omega arith; good = (good_flex c.args.commands.now c.args.e c.requires.all c.if-kind-eq-FLEX.true).1.1.1.0 }
-
-pub returns-then-not-check_point-6 : goal.returns-then-not-check_point-6
-returns-then-not-check_point-6 c =
-    let p = fine c.args.commands.now c.args.e c.args.fold in
-    six_4 (p 1) (p 3) (p 5) (p 7) (p 9) (p 11)
-    (sym c.check_point-then-kind-eq-FLEX.ensures ∙ c.if-not-check_point-3.false)
-    (sym c.check_point-then-kind-eq-FLEX-2.ensures ∙ c.if-not-check_point-4.false)
-    (sym c.check_point-then-kind-eq-FLEX-3.ensures ∙ c.if-not-check_point-5.false) (sym c.check_point-then-kind-eq-FLEX-4.ensures ∙ c.if-not-check_point-6.true)
-    ∙ fine_flex c.args.commands.now c.args.e c.args.fold c.if-kind-eq-FLEX.true
-
-pub check_point-requires-then-kind-eq-FLEX-5 : goal.check_point-requires-then-kind-eq-FLEX-5
-check_point-requires-then-kind-eq-FLEX-5 c =
-    record { at_in_bounds = omega arith; good = (good_flex c.args.commands.now c.args.e c.requires.all c.if-kind-eq-FLEX.true).1.1.1.1.0 }
-
-pub returns-then-not-check_point-7 : goal.returns-then-not-check_point-7
-returns-then-not-check_point-7 c =
-    let p = fine c.args.commands.now c.args.e c.args.fold in
-    six_5 (p 1) (p 3) (p 5) (p 7) (p 9) (p 11)
-    (sym c.check_point-then-kind-eq-FLEX.ensures ∙ c.if-not-check_point-3.false)
-    (sym c.check_point-then-kind-eq-FLEX-2.ensures ∙ c.if-not-check_point-4.false)
-    (sym c.check_point-then-kind-eq-FLEX-3.ensures ∙ c.if-not-check_point-5.false)
-    (sym c.check_point-then-kind-eq-FLEX-4.ensures ∙ c.if-not-check_point-6.false) (sym c.check_point-then-kind-eq-FLEX-5.ensures ∙ c.if-not-check_point-7.true)
-    ∙ fine_flex c.args.commands.now c.args.e c.args.fold c.if-kind-eq-FLEX.true
-
-pub check_point-requires-then-kind-eq-FLEX-6 : goal.check_point-requires-then-kind-eq-FLEX-6
-check_point-requires-then-kind-eq-FLEX-6 c =
-    record { at_in_bounds = omega arith; good = (good_flex c.args.commands.now c.args.e c.requires.all c.if-kind-eq-FLEX.true).1.1.1.1.1.0 }
-
-pub returns-then-kind-eq-FLEX : goal.returns-then-kind-eq-FLEX
-returns-then-kind-eq-FLEX c =
-    let p = fine c.args.commands.now c.args.e c.args.fold in
-    six_6 (p 1) (p 3) (p 5) (p 7) (p 9) (p 11) _
-    (sym c.check_point-then-kind-eq-FLEX.ensures ∙ c.if-not-check_point-3.false)
-    (sym c.check_point-then-kind-eq-FLEX-2.ensures ∙ c.if-not-check_point-4.false)
-    (sym c.check_point-then-kind-eq-FLEX-3.ensures ∙ c.if-not-check_point-5.false)
-    (sym c.check_point-then-kind-eq-FLEX-4.ensures ∙ c.if-not-check_point-6.false)
-    (sym c.check_point-then-kind-eq-FLEX-5.ensures ∙ c.if-not-check_point-7.false) c.check_point-then-kind-eq-FLEX-6.ensures
-    ∙ fine_flex c.args.commands.now c.args.e c.args.fold c.if-kind-eq-FLEX.true
-
-pub returns : goal.returns
-returns c =
-    fine-none c.args.commands.now c.args.e c.args.fold c.if-kind-eq-MOVE.false c.if-kind-eq-LINE.false c.if-kind-eq-CURVE.false c.if-kind-eq-FLEX.false
+pub returns-in_default : goal.returns-in_default
+returns-in_default c = fine-none c.args.commands.now c.args.e c.args.fold (search rules) (search rules) (search rules) (search rules)

@@ -8,7 +8,7 @@ use Rattle.type1_to_type2.proofs.declaring.write_front.Goals as goal
 pub returns-then-masked : goal.returns-then-masked
 unfolding of_bits
 returns-then-masked c = record {
-  declares = front_written _ _ _ _ _ _ _ (ap (λ (t : Bool). cond t 18 1) (sym c.if-masked.true)) (ap (λ (t : Bool). cond t 23 3) (sym c.if-masked.true)) refl refl refl refl refl
+  declares = front_written _ _ _ _ _ _ _ (ap (λ (t : Bool). cond t 18 1) (sym c.if-masked.true)) (ap (λ (t : Bool). cond t 23 3) (sym c.if-masked.true)) refl refl refl refl
       c.write_stems-a.ensures.puts c.write_stems-a.ensures.still c.write_stems.ensures.puts c.write_stems.ensures.still;
   out_len_unchanged = c.write_stems.ensures.puts.same ∙ c.write_stems-a.ensures.puts.same;
 }
@@ -16,7 +16,7 @@ returns-then-masked c = record {
 pub returns : goal.returns
 unfolding of_bits
 returns c = record {
-  declares = front_written _ _ _ _ _ _ _ (ap (λ (t : Bool). cond t 18 1) (sym c.if-masked.false)) (ap (λ (t : Bool). cond t 23 3) (sym c.if-masked.false)) refl refl refl refl refl
+  declares = front_written _ _ _ _ _ _ _ (ap (λ (t : Bool). cond t 18 1) (sym c.if-masked.false)) (ap (λ (t : Bool). cond t 23 3) (sym c.if-masked.false)) refl refl refl refl
       c.write_stems-a-2.ensures.puts c.write_stems-a-2.ensures.still c.write_stems-2.ensures.puts c.write_stems-2.ensures.still;
   out_len_unchanged = c.write_stems-2.ensures.puts.same ∙ c.write_stems-a-2.ensures.puts.same;
 }

@@ -9,9 +9,6 @@ use Rattle.type1_to_type2.proofs.declaring.write_stems.Given as goal
 
 abbrev pub invariant-loop-i : goal.invariant-loop-i
 invariant-loop-i l =
-    ((f : ℕ → Written) → resumed l.s.w.number l.s.w.next l.out (λ room. stems_written l.op (drop l.i (table_stems l.horizontal l.n l.table)) l.s.left l.s.from room f)
-    ≡ resumed l.initial.s.w.number l.initial.s.w.next l.initial.out (λ room. stems_written l.op (table_stems l.horizontal l.n l.table) l.initial.s.left l.initial.s.from room f))
+    ((f : ℕ → Written) → resumed l.s.w.next l.out (λ room. stems_written l.op (drop l.i (table_stems l.horizontal l.n l.table)) l.s.left l.s.from room f)
+    ≡ resumed l.initial.s.w.next l.initial.out (λ room. stems_written l.op (table_stems l.horizontal l.n l.table) l.initial.s.left l.initial.s.from room f))
     × (Still l.initial.s.w l.s.w × ((length l.out ≡ length l.initial.out) × (l.s.left ≤ 23)))
-
-abbrev pub decreases-loop-i : goal.decreases-loop-i
-decreases-loop-i l = l.n - l.i

@@ -4,7 +4,4 @@ use Prim.Native.Nat.{◌≤◌, ◌-◌}
 use Rattle.type1_to_type2.proofs.drawing.draw_points.Given as goal
 
 abbrev pub invariant-loop-j : goal.invariant-loop-j
-invariant-loop-j l = (l.j ≤ l.n) × PointsLeft l.fold l.commands l.e l.n l.initial.r l.initial.out l.r l.out l.j
-
-abbrev pub decreases-loop-j : goal.decreases-loop-j
-decreases-loop-j l = l.n - l.j
+invariant-loop-j l = PointsLeft l.fold l.commands l.e l.n l.initial.r l.initial.out l.r l.out l.j

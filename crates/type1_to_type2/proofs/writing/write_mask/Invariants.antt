@@ -12,7 +12,7 @@ use Rattle.type1_to_type2.proofs.writing.write_mask.Given as goal
 
 abbrev pub invariant-loop-i : goal.invariant-loop-i
 invariant-loop-i l =
-    ((b : List Bool) → length b ≡ l.n → take l.k l.places ≡ places_from 0 b → LeftFrom l.i l.j (take l.k l.places) b × ((f : ℕ → Written) → resumed l.r.number l.r.next l.out (λ left. put left (mask_bytes (drop l.i b)) f) ≡ resumed l.initial.r.number l.initial.r.next l.initial.out (λ left. put left (mask_bytes b) f)))
+    ((b : List Bool) → length b ≡ l.n → take l.k l.places ≡ places_from 0 b → LeftFrom l.i l.j (take l.k l.places) b × ((f : ℕ → Written) → resumed l.r.next l.out (λ left. put left (mask_bytes (drop l.i b)) f) ≡ resumed l.initial.r.next l.initial.out (λ left. put left (mask_bytes b) f)))
     × (Still l.initial.r l.r × (length l.out ≡ length l.initial.out))
 
 abbrev pub decreases-loop-i : goal.decreases-loop-i

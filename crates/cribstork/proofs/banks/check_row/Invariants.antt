@@ -1,9 +1,0 @@
--- `cribstork::banks::check_row` is safe and ends.
-use Rattle.std.proofs.Common.{◌-◌}
-use Rattle.cribstork.proofs.banks.check_row.Given as goal
-
-abbrev pub invariant-loop-c : goal.invariant-loop-c
-invariant-loop-c l = Unit {0}
-
-abbrev pub decreases-loop-c : goal.decreases-loop-c
-decreases-loop-c l = 15 - l.c

@@ -1,8 +1,0 @@
--- `cribstork::banks::next_line` is safe and ends.
-use Rattle.cribstork.proofs.banks.next_line.Given as goal
-
-abbrev pub invariant-loop-turns : goal.invariant-loop-turns
-invariant-loop-turns l = Unit {0}
-
-abbrev pub decreases-loop-turns : goal.decreases-loop-turns
-decreases-loop-turns l = l.turns

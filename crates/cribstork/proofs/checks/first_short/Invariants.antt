@@ -1,9 +1,0 @@
--- `cribstork::checks::first_short` is safe and ends.
-use Rattle.std.proofs.Common.{◌-◌}
-use Rattle.cribstork.proofs.checks.first_short.Given as goal
-
-abbrev pub invariant-loop-i : goal.invariant-loop-i
-invariant-loop-i l = Unit {0}
-
-abbrev pub decreases-loop-i : goal.decreases-loop-i
-decreases-loop-i l = l.count - l.i

@@ -1,9 +1,0 @@
--- `cribstork::font::read_private` is safe and ends.
-use Rattle.std.proofs.Common.{◌≡◌, length}
-use Rattle.cribstork.proofs.font.read_private.Given as goal
-
-abbrev pub invariant-loop-turns : goal.invariant-loop-turns
-invariant-loop-turns l = (length l.list ≡ length l.initial.list) × (length l.glyphs ≡ length l.initial.glyphs) × (length l.codes ≡ length l.initial.codes) × (length l.table ≡ length l.initial.table)
-
-abbrev pub decreases-loop-turns : goal.decreases-loop-turns
-decreases-loop-turns l = l.turns

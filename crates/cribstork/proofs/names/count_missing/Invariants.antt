@@ -1,8 +1,0 @@
--- `cribstork::names::count_missing` is safe and ends.
-use Rattle.cribstork.proofs.names.count_missing.Given as goal
-
-abbrev pub invariant-loop-turns : goal.invariant-loop-turns
-invariant-loop-turns l = Unit {0}
-
-abbrev pub decreases-loop-turns : goal.decreases-loop-turns
-decreases-loop-turns l = l.turns

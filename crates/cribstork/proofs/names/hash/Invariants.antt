@@ -1,9 +1,0 @@
--- `cribstork::names::hash` is safe and ends.
-use Rattle.std.proofs.Common.{◌-◌, length}
-use Rattle.cribstork.proofs.names.hash.Given as goal
-
-abbrev pub invariant-loop-i : goal.invariant-loop-i
-invariant-loop-i l = Unit {0}
-
-abbrev pub decreases-loop-i : goal.decreases-loop-i
-decreases-loop-i l = length l.name - l.i

@@ -1,9 +1,0 @@
--- `cribstork::options::not_finite` is safe and ends.
-use Rattle.std.proofs.Common.{◌-◌}
-use Rattle.cribstork.proofs.options.not_finite.Given as goal
-
-abbrev pub invariant-loop-k : goal.invariant-loop-k
-invariant-loop-k l = Unit {0}
-
-abbrev pub decreases-loop-k : goal.decreases-loop-k
-decreases-loop-k l = 6 - l.k

@@ -1,8 +1,0 @@
--- `cribstork::tokens::closed_end` is safe and ends.
-use Rattle.cribstork.proofs.tokens.closed_end.Given as goal
-
-abbrev pub invariant-loop-turns : goal.invariant-loop-turns
-invariant-loop-turns l = Unit {0}
-
-abbrev pub decreases-loop-turns : goal.decreases-loop-turns
-decreases-loop-turns l = l.turns

@@ -1,9 +1,0 @@
--- `cribstork::tokens::is_printable` is safe and ends.
-use Rattle.std.proofs.Common.{◌-◌, length}
-use Rattle.cribstork.proofs.tokens.is_printable.Given as goal
-
-abbrev pub invariant-loop-i : goal.invariant-loop-i
-invariant-loop-i l = Unit {0}
-
-abbrev pub decreases-loop-i : goal.decreases-loop-i
-decreases-loop-i l = length l.w - l.i

@@ -1,9 +1,0 @@
--- `cribstork::tokens::string_end` is safe and ends.
-use Rattle.std.proofs.Common.{◌-◌, length}
-use Rattle.cribstork.proofs.tokens.string_end.Given as goal
-
-abbrev pub invariant-loop-at : goal.invariant-loop-at
-invariant-loop-at l = Unit {0}
-
-abbrev pub decreases-loop-at : goal.decreases-loop-at
-decreases-loop-at l = length l.v - l.at

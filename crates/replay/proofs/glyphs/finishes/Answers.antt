@@ -1,7 +1,0 @@
--- `replay::glyphs::finishes` is safe. The lent part of the output has the length that was asked.
-use native.Mathlib.Omega.{arith}
-use lib.ListN.{length-take}
-use Rattle.replay.proofs.glyphs.finishes.Goals as goal
-
-pub slice_bounds-finish-end-2 : goal.slice_bounds-finish-end-2
-slice_bounds-finish-end-2 c = simp length-take (omega arith)
