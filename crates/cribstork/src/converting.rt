@@ -120,9 +120,9 @@ impl Stores {
         }
     }
 
-    // The first bytes of the finished charstring.
-    pub(crate) fn finished(&self, len: usize) -> &[u8] {
-        self.finished.get(..len).unwrap_or(&[])
+    // The finished charstring, of so many bytes.
+    pub(crate) fn finished(&mut self, len: usize) -> &[u8] {
+        type1_to_type2::finished_program(&mut self.finished, len)
     }
 }
 

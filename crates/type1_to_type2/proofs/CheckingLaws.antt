@@ -20,12 +20,17 @@ use Rattle.type1.specs.Sound.{All, OfPoint, OfCommand}
 use Rattle.type1_to_type2.specs.declared.Collected.{Collected}
 use Rattle.type1_to_type2.specs.declared.Plan.{Plan}
 use Rattle.type2.specs.Bools.{yes}
+use Rattle.folding.specs.Folding as Folding
 use Rattle.folding.specs.Folding.{finite_matrix, folded_point, folded_command, folded_list, folded_width, finite_point, finite_command, finite_list}
 use Rattle.type1_to_type2.specs.Table.{table_stems}
 use Rattle.type1_to_type2.specs.Collecting.{Counted, dropped_counts, needs_masks}
 use Rattle.std.specs.Prelude.{Result, Ok, Err, is_ok}
+use Rattle.std.specs.Result.{result_unwrap_or}
 use Rattle.refusal.specs.declared.Refusal.{Refusal}
 use Rattle.refusal.specs.declared.Refusal.TheVariants.{NotFinite}
+use Rattle.refusal.specs.declared.UnknownNumber.{UnknownNumber}
+use Rattle.refusal.specs.Refusal.{number_of, Decodes}
+use Rattle.refusal.proofs.Numbers.{positive, most, same_number}
 use mathlib.Core.Bool.{cond, true≢false, and-false}
 use Rattle.outline.specs.declared.Stem.{Stem}
 use Rattle.type1_to_type2.specs.Emission.{Cmd, program}
@@ -134,6 +139,22 @@ planned c d m width w f b few ew ef t u ed eb = record {
 }
 
 -- ---- the program's end
+-- the refusal of the number that comes first
+pub first_refusal : (e y : Refusal) (points : Bool) (k n : ℕ) (r : Result Refusal UnknownNumber) → k ≡ number_of e → n ≡ Folding.refusal 0 k points → Decodes n r → y ≡ result_unwrap_or r e → number_of y ≡ cond points (number_of e) 14
+unfolding Folding.refusal
+first_refusal e y points k n r p q d u = go r d u
+  where
+    first : n ≡ cond points (number_of e) 14
+    first = q ∙ ap (λ (i : ℕ). cond points i 14) p
+
+    within : (b : Bool) → n ≡ cond b (number_of e) 14 → (0 < n) × (n ≤ 22)
+    within true h = let s = positive e in let t = most e in (omega (arith, h, s), omega (arith, h, t))
+    within false h = (omega (arith, h), omega (arith, h))
+
+    go : (s : Result Refusal UnknownNumber) → Decodes n s → y ≡ result_unwrap_or s e → number_of y ≡ cond points (number_of e) 14
+    go (Ok z) h w = ap number_of w ∙ h ∙ first
+    go (Err z) h w = absurd (let a = within points first in let b = h.1 a.0 in let c = a.1 in let y : ⊥ = omega (arith, b, c) in y)
+
 module _ (x : Written) (room : ℕ) (out : List ℕ) (points : Bool) where
   pub ended_refused : (e : Refusal) (g : List ℕ → Glyph) → Ends room x (Err e) out → points ≡ true → Gives (settles points (writes g x)) room (Err e) out
   ended_refused e g F t = go x F
@@ -148,6 +169,14 @@ module _ (x : Written) (room : ℕ) (out : List ℕ) (points : Bool) where
       go : (y : Written) → Ends room y (Err e) out → Gives (settles points (writes g y)) room (Err NotFinite) out
       go (Writing.refused j) F = record { glyph = ap (λ (b : Bool). record { number = cond b j 14; len = 0; width = plus_zero; ran = 0 }) (sym t); bytes = tt; same = F.1.1 }
       go (Writing.wrote b) F = absurd (true≢false (ap is_ok (sym F.0)))
+
+  -- with the refusal that comes first
+  pub ended_first : (e y : Refusal) (g : List ℕ → Glyph) → Ends room x (Err e) out → number_of y ≡ cond points (number_of e) 14 → Gives (settles points (writes g x)) room (Err y) out
+  ended_first e y g F t = go points refl t
+    where
+      go : (b : Bool) → points ≡ b → number_of y ≡ cond b (number_of e) 14 → Gives (settles points (writes g x)) room (Err y) out
+      go true q s = subst (λ (r : Refusal). Gives (settles points (writes g x)) room (Err r) out) (same_number e y (sym s)) (ended_refused e g F q)
+      go false q s = subst (λ (r : Refusal). Gives (settles points (writes g x)) room (Err r) out) (same_number NotFinite y (sym s)) (ended_folding e g F q)
 
   pub ended-written : (k : ℕ) (w : Float) (n : ℕ) → Ends room x (Ok k) out → Gives (settles points (writes (glyph_of w n) x)) room (Ok (record { number = 0; len = k; width = w; ran = n })) out
   ended-written k w n F = go x F

@@ -5,7 +5,7 @@ ghost use Rattle.outline.specs.Store.{entry_words, command_in, drawn_in};
 ghost use Rattle.type1.specs.Memory.{Good};
 ghost use Rattle.type1.specs.Sound.{All, OfCommand};
 ghost use Rattle.folding.specs.Folding.{folded_list, folded_width, finite_list};
-ghost use Rattle.type1_to_type2.specs.Convert.{glyph_of, writes, folded};
+ghost use Rattle.type1_to_type2.specs.Convert.{glyph_of, writes, folded, refused};
 ghost use Rattle.type1_to_type2.specs.Collecting.{Counted};
 ghost use Rattle.type1_to_type2.specs.Streaming.{resumed_all};
 ghost use Rattle.type1_to_type2.specs.Passes.{Stored};
@@ -63,11 +63,9 @@ fn end_program(
             ran: r.ran,
         }),
         Err(refused) => {
-            if finite_points(commands, r.entries, fold) {
-                Err(refused)
-            } else {
-                Err(Refusal::NotFinite)
-            }
+            let finite = finite_points(commands, r.entries, fold);
+            let number = folding::refusal(0, refused.number() as u64, finite);
+            Err(Refusal::try_from(number).unwrap_or(refused))
         }
     }
 }
@@ -142,7 +140,22 @@ pub(crate) fn first_number(m: Matrix, number: u64) -> u64
     if folding::finite_matrix(m) { number } else { 1 }
 }
 
-// The same as an answer, where there is no number yet.
+// A refusal: all but the number are 0, and the output is zeros.
+fn refuse(number: u64, out: &mut [u8]) -> Type2Glyph
+    requires { number ≡ 0 → ⊥ }
+    ensures { Answers (refused number) (length out.old) result out.new }
+{
+    let kept = stores::kept_bytes(number, out.len());
+    stores::zero_from(out, kept);
+    Type2Glyph {
+        number,
+        len: 0,
+        width: 0.0,
+        ran: 0,
+    }
+}
+
+// The same as an answer, where there is no number yet. On a refusal the output is zeroed in one place.
 pub(crate) fn answered(
     r: Interpreted,
     number: u64,
@@ -156,25 +169,11 @@ pub(crate) fn answered(
         Answers (from_run number m (length out.old) r commands.old stems.old) (length out.old) result out.new) }
 {
     if number != 0 {
-        stores::zero_from(out, 0);
-        return Type2Glyph {
-            number,
-            len: 0,
-            width: 0.0,
-            ran: 0,
-        };
+        return refuse(number, out);
     }
     match convert_stored(r, m, stems, commands, out) {
         Ok(g) => g,
-        Err(e) => {
-            stores::zero_from(out, 0);
-            Type2Glyph {
-                number: e.number() as u64,
-                len: 0,
-                width: 0.0,
-                ran: 0,
-            }
-        }
+        Err(e) => refuse(e.number() as u64, out),
     }
 }
 

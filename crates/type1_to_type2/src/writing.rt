@@ -180,7 +180,7 @@ pub(crate) fn finish_program(w: Writer, out: &mut [u8]) -> Result<usize, Refusal
     let f = flush(w, out);
     let end = put_byte(T2_ENDCHAR, f, out).next;
     if let Ok(len) = end {
-        stores::zero_from(out, len);
+        stores::zero_from(out, stores::kept_bytes(0, len));
     }
     end
 }
