@@ -1,6 +1,6 @@
 // The subroutines and the charstrings of a private part.
 use crate::bytes::{Span, byte, is_space};
-use crate::names::Glyphs;
+use crate::names::{Glyphs, KeyedHash, Name};
 use crate::tokens::{Kind, Token};
 use crate::trouble::{Trouble, What};
 use crate::{GLYPHS, tokens};
@@ -257,12 +257,13 @@ impl<'a> Charcodes<'a> {
     // The glyph of a name. A name that comes again replaces its charstring.
     fn glyph(&mut self, t: Token<'a>) -> Step {
         let b = self.walk.binary(t.end())?;
-        if self.glyphs.contains_key(t.text) {
-            self.again = self.again.saturating_add(1);
-        } else if self.glyphs.len() >= GLYPHS {
+        let name = Name { bytes: t.text };
+        if self.glyphs.len() >= GLYPHS && !self.glyphs.contains_key(&name) {
             return Err(What::TooManyGlyphs.into());
         }
-        self.glyphs.insert(t.text, b.code)?;
+        if self.glyphs.insert(name, b.code)?.is_some() {
+            self.again = self.again.saturating_add(1);
+        }
         self.walk.begin(b)
     }
 
@@ -297,13 +298,14 @@ impl<'a> Charcodes<'a> {
 // the place after them.
 pub(crate) fn list_glyphs<'a>(
     alloc: Global,
+    hash: KeyedHash,
     text: &'a [u8],
     from: usize,
     reads: Option<&'a [u8]>,
 ) -> Result<(Glyphs<'a>, usize, usize), Trouble> {
     let mut codes = Charcodes {
         walk: Walk::new(text, reads),
-        glyphs: Glyphs::new(alloc),
+        glyphs: Glyphs::with_hasher(alloc, hash),
         again: 0,
     };
     let end = take_steps(text, from, |at| codes.step(at))?;

@@ -2,6 +2,7 @@
 use crate::bytes::Span;
 use crate::entries::{Charstrings, Step, Subroutines, take_steps};
 use crate::file::Private;
+use crate::names::{KeyedHash, Name};
 use crate::tokens::{Kind, Token};
 use crate::trouble::{Place, Trouble, What};
 use crate::{SUBROUTINES, checks, entries, file, tokens};
@@ -73,7 +74,7 @@ impl Font<'_> {
 
     // No glyph has a name.
     pub(crate) fn lacks(&self, name: &[u8]) -> bool {
-        !self.charstrings.glyphs.contains_key(name)
+        !self.charstrings.glyphs.contains_key(&Name { bytes: name })
     }
 
     // Where its subroutines stand, those that are defined.
@@ -220,6 +221,7 @@ fn read_clear(text: &[u8]) -> Result<(Head, usize), Trouble> {
 #[derive(Drop)]
 struct Reader<'a> {
     alloc: Global,
+    hash: KeyedHash,
     text: &'a [u8],
     head: Head,
     subroutines: Option<Subroutines<'a>>,
@@ -270,7 +272,13 @@ impl<'a> Reader<'a> {
             return Err(What::Second.at(t.at));
         }
         let reads = self.subroutines.as_ref().and_then(|s| s.reads);
-        let (glyphs, again, end) = entries::list_glyphs(self.alloc, self.text, w.end(), reads)?;
+        let (glyphs, again, end) = entries::list_glyphs(
+            self.alloc,
+            self.hash,
+            self.text,
+            w.end(),
+            reads,
+        )?;
         self.charstrings = Some(Charstrings {
             at: t.at,
             room,
@@ -327,9 +335,16 @@ impl<'a> Reader<'a> {
 }
 
 // Reads the private part, which begins at a place, and checks what is in it.
-fn read_private(alloc: Global, text: &[u8], head: Head, from: usize) -> Result<Font<'_>, Trouble> {
+fn read_private(
+    alloc: Global,
+    hash: KeyedHash,
+    text: &[u8],
+    head: Head,
+    from: usize,
+) -> Result<Font<'_>, Trouble> {
     let mut reader = Reader {
         alloc,
+        hash,
         text,
         head,
         subroutines: None,
@@ -372,6 +387,7 @@ fn in_private(file: &[u8], t: Trouble, from: usize, p: Private) -> Trouble {
 // Reads a font from a file's bytes: its plain text goes to `text`.
 pub(crate) fn read<'a>(
     alloc: Global,
+    hash: KeyedHash,
     file: &[u8],
     text: &'a mut Vec<u8>,
 ) -> Result<Font<'a>, Trouble> {
@@ -382,5 +398,5 @@ pub(crate) fn read<'a>(
     let (head, eexec) = read_clear(text).map_err(|t| in_file(file, t, usize::MAX, false))?;
     let from = private_from(text, eexec);
     let p = file::open_private(text, from);
-    read_private(alloc, text, head, from).map_err(|t| in_private(file, t, from, p))
+    read_private(alloc, hash, text, head, from).map_err(|t| in_private(file, t, from, p))
 }

@@ -33,7 +33,7 @@ mod values;
 mod window;
 
 use geometry::Matrix;
-use names::Names;
+use names::{KeyedHash, Names};
 use options::{Fault, Options};
 use page::Page;
 use report::{Task, Totals};
@@ -253,6 +253,7 @@ fn act(rt: &HostRuntime, page: &mut Page, options: &Options) -> Result<(), Alloc
     page.set_clears(progress);
     let task = Task {
         rt,
+        hash: KeyedHash::new(rt),
         options,
         banks: &[],
         names: &Names::all(),

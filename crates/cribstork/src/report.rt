@@ -2,7 +2,7 @@
 use crate::banks::Bank;
 use crate::converting::{ENTRIES, OUTPUT, Setup, Sizes};
 use crate::font::Font;
-use crate::names::Names;
+use crate::names::{KeyedHash, Names};
 use crate::options::{AskedMatrix, Options};
 use crate::page::Page;
 use crate::rows::Rows;
@@ -49,19 +49,21 @@ pub(crate) fn say_trouble(rt: &HostRuntime, path: &[u8], t: Trouble, progress: b
 // Reads a font from a file's bytes, and builds its bank; its plain text goes to `text`.
 fn read<'a>(
     alloc: Global,
+    hash: KeyedHash,
     file: &[u8],
     text: &'a mut Vec<u8>,
 ) -> Result<(Font<'a>, Vec<u8>), Trouble> {
-    let font = font::read(alloc, file, text)?;
+    let font = font::read(alloc, hash, file, text)?;
     let bank = subroutines::build_bank(alloc, font.text, font.bodies())?;
     Ok((font, bank))
 }
 
-// What the program does with every font: what the arguments ask, the banks and the names that were read, and
-// whether a line of standard error shows progress.
+// What the program does with every font: how glyph names are hashed, what the arguments ask, the banks and the
+// names that were read, and whether a line of standard error shows progress.
 #[derive(Clone, Copy)]
 pub(crate) struct Task<'a> {
     pub rt: &'a HostRuntime,
+    pub hash: KeyedHash,
     pub options: &'a Options<'a>,
     pub banks: &'a [Bank<'a>],
     pub names: &'a Names<'a>,
@@ -149,7 +151,7 @@ impl Task<'_> {
     ) -> Result<(), AllocError> {
         let alloc = self.rt.alloc();
         let mut text = Vec::new(alloc);
-        match read(alloc, file, &mut text) {
+        match read(alloc, self.hash, file, &mut text) {
             Ok((font, bank)) => self.print(page, path, &font, &bank, t),
             Err(wrong) => {
                 self.print_unreadable(page, path, wrong, t);

@@ -211,7 +211,13 @@ impl Rows<'_> {
         let mut sums = Sums::new(alloc);
         for (name, charstring) in source.font.charstrings.glyphs.iter() {
             let code = source.code(*charstring);
-            sums.add(&conversion, *name, code, self.need.has(*name), stores)?;
+            sums.add(
+                &conversion,
+                name.bytes,
+                code,
+                self.need.has(name.bytes),
+                stores,
+            )?;
         }
         let listed = self.need.listed();
         let missing = listed

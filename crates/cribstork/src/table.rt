@@ -390,9 +390,9 @@ pub(crate) fn print(
         let code = source.code(*charstring);
         table.do_glyph(
             page,
-            *name,
+            name.bytes,
             code,
-            asked.has(*name),
+            asked.has(name.bytes),
             &mut stores,
             &mut totals,
         )?;

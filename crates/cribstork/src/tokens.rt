@@ -36,22 +36,6 @@ impl<'a> Token<'a> {
         }
     }
 
-    // The string that ends before a place; a broken one where it does not end.
-    fn string(v: &'a [u8], at: usize, end: Option<usize>) -> Token<'a> {
-        match end {
-            Some(end) => Token::new(v, Kind::String, at, end),
-            None => Token::broken(at),
-        }
-    }
-
-    fn broken(at: usize) -> Token<'a> {
-        Token {
-            kind: Kind::Broken,
-            at,
-            text: &[],
-        }
-    }
-
     // The place after its bytes.
     pub(crate) fn end(self) -> usize {
         self.at.saturating_add(self.text.len())
@@ -121,13 +105,23 @@ impl<'a> Token<'a> {
 
 // A byte that ends a name or a number.
 fn is_delimiter(b: u8) -> bool {
-    is_space(b) || b"/[]{}()<>%".contains(&b)
+    is_space(b)
+        || b == b'/'
+        || b == b'['
+        || b == b']'
+        || b == b'{'
+        || b == b'}'
+        || b == b'('
+        || b == b')'
+        || b == b'<'
+        || b == b'>'
+        || b == b'%'
 }
 
 // The first place from `from` on that ends a name.
 fn name_end(v: &[u8], from: usize) -> usize {
     (from..v.len())
-        .find(|&at| is_delimiter(byte(v, at)))
+        .find(|&at| is_delimiter(v[at]))
         .unwrap_or(v.len())
 }
 
@@ -160,12 +154,12 @@ fn string_end(v: &[u8], from: usize) -> Option<usize> {
     for at in from..v.len() {
         let b = v[at];
         match b {
-            _ if escaped => {}
+            _ if escaped => escaped = false,
+            b'\\' => escaped = true,
             b'(' => depth = depth.saturating_add(1),
             b')' => depth = depth.saturating_sub(1),
             _ => {}
         }
-        escaped = b == b'\\' && !escaped;
         if depth == 0 {
             return Some(at + 1);
         }
@@ -193,35 +187,54 @@ fn base85_end(v: &[u8], from: usize) -> Option<usize> {
     Some(at.saturating_add(2))
 }
 
-// The token that a delimiter begins.
-fn delimited(v: &[u8], at: usize, b: u8) -> Token<'_> {
-    let next = at.saturating_add(1);
-    let second = at.saturating_add(2);
-    match b {
-        b'/' => Token::new(v, Kind::Name, next, name_end(v, next)),
-        b'{' => Token::new(v, Kind::Open, at, next),
-        b'}' => Token::new(v, Kind::Close, at, next),
-        b'[' => Token::new(v, Kind::OpenArray, at, next),
-        b']' => Token::new(v, Kind::CloseArray, at, next),
-        b'(' => Token::string(v, at, string_end(v, next)),
-        b'<' => match byte(v, next) {
-            b'<' => Token::new(v, Kind::Mark, at, second),
-            b'~' => Token::string(v, at, base85_end(v, second)),
-            _ => Token::string(v, at, hex_string_end(v, next)),
-        },
-        b'>' if byte(v, next) == b'>' => Token::new(v, Kind::Mark, at, second),
-        _ => Token::broken(at),
+// A string that ends before a place; a broken one where it does not end.
+fn string(at: usize, end: Option<usize>) -> (Kind, usize, usize) {
+    match end {
+        Some(end) => (Kind::String, at, end),
+        None => (Kind::Broken, at, at),
     }
 }
 
-// The next token from a place on.
-pub(crate) fn next(v: &[u8], from: usize) -> Token<'_> {
-    let at = skip_blank(v, from);
-    match v.get(at) {
-        None => Token::new(v, Kind::End, at, at),
-        Some(&b) if is_delimiter(b) => delimited(v, at, b),
-        Some(_) => Token::new(v, Kind::Word, at, name_end(v, at)),
+// What begins with '<'.
+fn angle(v: &[u8], at: usize) -> (Kind, usize, usize) {
+    let next = at.saturating_add(1);
+    let second = at.saturating_add(2);
+    match byte(v, next) {
+        b'<' => (Kind::Mark, at, second),
+        b'~' => string(at, base85_end(v, second)),
+        _ => string(at, hex_string_end(v, next)),
     }
+}
+
+// The kind of the token that a byte at a place begins, and where its bytes begin and end. The byte is neither
+// white space nor a comment's.
+#[inline(always)]
+fn begun(v: &[u8], at: usize, b: u8) -> (Kind, usize, usize) {
+    let next = at.saturating_add(1);
+    match b {
+        b'/' => (Kind::Name, next, name_end(v, next)),
+        b'{' => (Kind::Open, at, next),
+        b'}' => (Kind::Close, at, next),
+        b'[' => (Kind::OpenArray, at, next),
+        b']' => (Kind::CloseArray, at, next),
+        b'(' => string(at, string_end(v, next)),
+        b'<' => angle(v, at),
+        b'>' if byte(v, next) == b'>' => (Kind::Mark, at, at.saturating_add(2)),
+        b'>' | b')' => (Kind::Broken, at, at),
+        _ => (Kind::Word, at, name_end(v, at)),
+    }
+}
+
+// The next token from a place on. It is compiled into its callers: a walk over nested arrays takes half as long
+// again where it is called.
+#[inline(always)]
+pub(crate) fn next(v: &[u8], from: usize) -> Token<'_> {
+    let place = skip_blank(v, from);
+    let (kind, at, end) = match v.get(place) {
+        None => (Kind::End, place, place),
+        Some(&b) => begun(v, place, b),
+    };
+    Token::new(v, kind, at, end)
 }
 
 // The place after the procedure or array whose first token stands from a place on.
