@@ -1,8 +1,8 @@
 -- Laws: what a reader holds, and the points that its operands go to.
 use Rattle.std.specs.Prelude.{◌≡◌, Bool, ◌&&◌, length, take, drop, get_or, T, leb, ℤ, pos, negsuc, ◌+ℤ◌}
 use Rattle.std.proofs.Math.Path.{refl, sym, ap}
-use Rattle.std.proofs.Common.{ap₂, ◌∙◌, subst, add-one, suc-mul, arith, true≢false, length-take, length-drop, drop-cons, leb→le, leb-false}
-use Prim.Native.Nat.{ℕ, zero, suc, ◌+◌, ◌-◌, ◌*◌, ◌/◌, ◌^◌, ◌≤◌, ◌<◌}
+use Rattle.std.proofs.Common.{ap₂, ◌∙◌, subst, add-one, suc-mul, arith, true≢false, length-take, length-drop, drop-cons, get_or-take, leb→le, leb-false}
+use Prim.Native.Nat.{ℕ, zero, suc, ◌+◌, ◌-◌, ◌*◌, ◌/◌, ◌^◌, ◌≤◌, ◌<◌, min}
 use Rattle.std.proofs.Math.Nat.{zero-mul}
 use Rattle.std.proofs.lemmas.List.{drop-take}
 use Rattle.std.proofs.Math.Bool.{true, false}
@@ -97,6 +97,23 @@ reach_more p v u d e =
 
 pub reach_done : (p : Position) (d : List ℕ) → length d ≤ 1 → reach (point_at p) (held d) ≡ []
 reach_done p d h = let l = held-length d in reach-short (point_at p) (held d) (omega arith)
+
+-- the operands from `i` to before `end`
+pair_at : (o : List ℕ) (i end : ℕ) → i + 1 < end → end ≤ length o → drop i (take end o) ≡ get_or o i 0 ∷ get_or o (i + 1) 0 ∷ drop (i + 1 + 1) (take end o)
+pair_at o i end h k =
+    let l : length (take end o) ≡ end = length-take end o ∙ (let z : min end (length o) ≡ end = omega arith in z) in
+    cons_at (take end o) i (omega arith) ∙ ap₂ (λ (x : ℕ) (m : List ℕ). x ∷ m) (get_or-take end o i 0 (omega arith)) (cons_at (take end o) (i + 1) (omega arith) ∙ ap (λ (x : ℕ). x ∷ drop (i + 1 + 1) (take end o)) (get_or-take end o (i + 1) 0 h))
+
+part_pair : (o : List ℕ) (i end : ℕ) → i + 1 < end → end ≤ length o → part i end o ≡ unit (get_or o i 0) ∷ unit (get_or o (i + 1) 0) ∷ part (i + 1 + 1) end o
+unfolding held
+part_pair o i end h k = ap held (pair_at o i end h k)
+
+-- the first of them, and those after it
+pub reach_part : (o : List ℕ) (i end : ℕ) (p : Position) (v u : ℕ) → i + 1 < end → end ≤ length o → is_near p ≡ true → v ≡ get_or o i 0 → u ≡ get_or o (i + 1) 0
+    → reach (point_at p) (part i end o) ≡ point_at (moved_by p v u) ∷ reach (point_at (moved_by p v u)) (part (i + 2) end o)
+reach_part o i end p v u h k n e f =
+    let j : i + 1 + 1 ≡ i + 2 = omega arith in
+    ap (λ (l : List ℕ). reach (point_at p) (held l)) (pair_at o i end h k ∙ ap₂ (λ (x : ℕ) (m : List ℕ). x ∷ m) (sym e) (ap₂ (λ (x : ℕ) (m : List ℕ). x ∷ m) (sym f) (ap (λ (m : ℕ). drop m (take end o)) j))) ∙ reach_more p v u (drop (i + 2) (take end o)) n
 
 -- ---- entries one after another: the first m operands are pairs
 abbrev pub Splits : ℕ → Type 0
