@@ -88,8 +88,8 @@ module _ {P : List ℕ} {t : Reader} {e : OptionOf Extent} (d : Draws P t e) whe
     deltas_are : deltas ≡ drop r.first (take r.end o)
     deltas_are = slice_part r.first r.end o came.order
 
-    pub small_from : is_drawing r.operation ≡ true → SmallFrom deltas t.position
-    small_from s = record { near = possible_near t d.stands.possible; small = rw deltas_are (came.small s) }
+    pub small_from : is_drawing r.operation ≡ true → (n : ℕ) → n ≡ r.end → SmallFrom (take (n - r.first) (drop r.first o)) t.position
+    small_from s n q = rw q (record { near = possible_near t d.stands.possible; small = rw deltas_are (came.small s) })
 
     module _ (n14 : r.operation ≡ End → ⊥) where
       goes_on : (c : Operation) → (c ≡ End → ⊥) → (s u : State) (rest : List ℕ) → goes_by c s u rest ≡ run rest 0 u
@@ -114,8 +114,9 @@ module _ {P : List ℕ} {t : Reader} {e : OptionOf Extent} (d : Draws P t e) whe
           same : (acts r P (settled_by r o d.state)).drawn ≡ d.state.drawn
           same = unfold acts_by in by_still r.operation s ((acts r P (settled_by r o d.state)).drawn ≡ d.state.drawn) (λ c. rw c) (λ c. rw c) (λ c. absurd (n14 c))
 
-      pub drawn_on : is_drawing r.operation ≡ true → (f : OptionOf Extent) → Extends deltas t.position e f → Draws P r.after f
-      drawn_on s f h =
+      pub drawn_on : is_drawing r.operation ≡ true → (n : ℕ) → n ≡ r.end → (f : OptionOf Extent) → Extends (take (n - r.first) (drop r.first o)) t.position e f → Draws P r.after f
+      drawn_on s n q f g =
+          let h : Extends deltas t.position e f = subst (λ (m : ℕ). Extends (take (m - r.first) (drop r.first o)) t.position e f) q g in
           draws_on f
           (subst (λ (b : Option Bounds). HoldsBox b f) (sym (ap (box_from none) drawn ∙ box_append none (points d.state.drawn) _ ∙ ap (λ (p : Point). box_from (box_from none (points d.state.drawn)) (reach p (operands_of r o))) d.stands.at_is ∙ rw deltas_are))
           (h (box_from none (points d.state.drawn)) d.box))

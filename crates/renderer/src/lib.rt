@@ -2,7 +2,7 @@
 //! operator, as the machine reads it.
 #![tactic(auto)]
 
-ghost use Rattle.std.specs.Prelude.{◌≡◌};
+ghost use Rattle.std.specs.Prelude.{◌≡◌, true};
 ghost use Rattle.renderer.specs.Reader.{number_draws};
 
 mod numbers;
@@ -93,14 +93,11 @@ impl Reader {
         self.stems <= 96 && self.position.is_near()
     }
 
-    /// The next operator, and where the reader stands after it; none where the machine faults, and where no run can
-    /// stand.
-    pub fn next(self, program: &[u8], ops: &mut [u32; 48]) -> Option<Operator>
+    // The next operator where a run can stand, with the point after it; none where the machine faults.
+    fn coming(self, program: &[u8], ops: &mut [u32; 48]) -> Option<Operator>
+        requires { is_possible self ≡ true }
         ensures { Comes program.now «self» ops.new result }
     {
-        if !self.is_possible() {
-            return None;
-        }
         let operator = find(program, self, ops)?;
         if !operator.operation.is_drawing() {
             return Some(operator);
@@ -113,5 +110,16 @@ impl Reader {
             },
             ..operator
         })
+    }
+
+    /// The next operator, and where the reader stands after it; none where the machine faults, and where no run can
+    /// stand.
+    pub fn next(self, program: &[u8], ops: &mut [u32; 48]) -> Option<Operator>
+        ensures { Comes program.now «self» ops.new result }
+    {
+        if !self.is_possible() {
+            return None;
+        }
+        self.coming(program, ops)
     }
 }
