@@ -124,7 +124,7 @@ pub fn cribstork_finish(
     };
     let f = glyph.charstring(program, widths_of(default_width, nominal_width), out);
     let words = finished_words(f);
-    *answer = words;
+    *answer = [words[0], words[1]];
     words[0]
 }
 

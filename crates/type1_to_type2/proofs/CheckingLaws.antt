@@ -5,7 +5,7 @@ use native.Mathlib.Omega.{arith}
 use native.Mathlib.Numerals.{add-one}
 use mathlib.Core.Bool.{Bool, true, false, ◌&&◌}
 use mathlib.Core.List.{List, [], ◌∷◌, ◌++◌}
-use lib.ListN.{get_or}
+use lib.ListN.{length, get_or, length-replicate}
 use lib.Dec.{eqb, ltb}
 use borrow.Author.Tests.{eq-eqb, ne_eqb, ltb-true, ltb-false}
 use lib.Ieee.{Float}
@@ -18,7 +18,6 @@ use Rattle.outline.specs.Store.{word, command_in, drawn_in}
 use Rattle.type1.specs.Memory.{Good}
 use Rattle.type1.specs.Sound.{All, OfPoint, OfCommand}
 use Rattle.type1_to_type2.specs.declared.Collected.{Collected}
-use Rattle.type1_to_type2.specs.declared.Plan.{Plan}
 use Rattle.type2.specs.Bools.{yes}
 use Rattle.folding.specs.Folding as Folding
 use Rattle.folding.specs.Folding.{finite_matrix, folded_point, folded_command, folded_list, folded_width, finite_point, finite_command, finite_list}
@@ -32,13 +31,11 @@ use Rattle.refusal.specs.declared.UnknownNumber.{UnknownNumber}
 use Rattle.refusal.specs.Refusal.{number_of, Decodes}
 use Rattle.refusal.proofs.Numbers.{positive, most, same_number}
 use mathlib.Core.Bool.{cond, true≢false, and-false}
-use Rattle.outline.specs.declared.Stem.{Stem}
-use Rattle.type1_to_type2.specs.Emission.{Cmd, program}
 use Rattle.type1_to_type2.specs.Writing as Writing
 use Rattle.type1_to_type2.specs.Writing.{Written, refused, write}
 use Rattle.type1_to_type2.specs.Convert.{Glyph, glyph_of, writes}
 use Rattle.type1_to_type2.specs.Streaming.{Ends}
-use Rattle.type1_to_type2.specs.Passes.{BothTables, both}
+use Rattle.type1_to_type2.specs.Passes.{BothTables}
 use Rattle.type1_to_type2.specs.Entry.{group_count, first_number, Planned, settles, Gives}
 use Rattle.type1_to_type2.proofs.EntryLaws.{list_end}
 use Rattle.type1_to_type2.proofs.Ordering.{dropped_tables, declared-across, declared-upright, declared_masked}
@@ -160,14 +157,14 @@ module _ (x : Written) (room : ℕ) (out : List ℕ) (points : Bool) where
   ended_refused e g F t = go x F
     where
       go : (y : Written) → Ends room y (Err e) out → Gives (settles points (writes g y)) room (Err e) out
-      go (Writing.refused j) F = record { glyph = ap (λ (i : ℕ). record { number = i; len = 0; width = plus_zero; ran = 0 }) (F.1.0 ∙ ap (λ (b : Bool). cond b j 14) (sym t)); bytes = tt; same = F.1.1 }
+      go (Writing.refused j) F = record { glyph = ap (λ (i : ℕ). record { number = i; len = 0; width = plus_zero; ran = 0 }) (F.1.0 ∙ ap (λ (b : Bool). cond b j 14) (sym t)); bytes = F.1.1; same = ap length F.1.1 ∙ length-replicate room 0 }
       go (Writing.wrote b) F = absurd (true≢false (ap is_ok (sym F.0)))
 
   pub ended_folding : (e : Refusal) (g : List ℕ → Glyph) → Ends room x (Err e) out → points ≡ false → Gives (settles points (writes g x)) room (Err NotFinite) out
   ended_folding e g F t = go x F
     where
       go : (y : Written) → Ends room y (Err e) out → Gives (settles points (writes g y)) room (Err NotFinite) out
-      go (Writing.refused j) F = record { glyph = ap (λ (b : Bool). record { number = cond b j 14; len = 0; width = plus_zero; ran = 0 }) (sym t); bytes = tt; same = F.1.1 }
+      go (Writing.refused j) F = record { glyph = ap (λ (b : Bool). record { number = cond b j 14; len = 0; width = plus_zero; ran = 0 }) (sym t); bytes = F.1.1; same = ap length F.1.1 ∙ length-replicate room 0 }
       go (Writing.wrote b) F = absurd (true≢false (ap is_ok (sym F.0)))
 
   -- with the refusal that comes first

@@ -2,7 +2,7 @@
 use mathlib.Core.Path.{◌≡◌, refl, sym, ap, ap₂, ◌∙◌, subst, fun_ext}
 use mathlib.Core.Logic.{◌⊎◌, inl, inr}
 use Prim.Native.Nat.{ℕ, zero, suc, ◌+◌, ◌-◌, ◌*◌, ◌%◌, ◌^◌, ◌≤◌, ◌<◌}
-use native.Mathlib.Nat.{sub-zero, pos_of_ne-zero}
+use native.Mathlib.Nat.{sub-zero}
 use native.Mathlib.Omega.{arith}
 use mathlib.Core.Bool.{Bool, true, false, ◌&&◌, cond, and-false}
 use mathlib.Core.List.{List, [], ◌∷◌, ◌++◌, append-nil}
@@ -12,16 +12,17 @@ use lib.IntN.{ℤ}
 use lib.Pow.{pow_pos}
 use lib.Ieee.{Float, nan, inf, fin, binary64, sub, add, neg, mul, div, lt, fits, eq}
 use lib.Ieee.Fits.{eq→eqb, sub-fits}
-use borrow.Author.Tests.{eqb-true, eqb-false, eq-eqb, ne_eqb}
+use borrow.Author.Tests.{eq-eqb, ne_eqb}
 use Rattle.binary64.specs.Units.{bool_iff}
 use Rattle.binary64.specs.Value.{mag, pl, mi}
 use Rattle.binary64.specs.Rounding.{away, abs}
 use Rattle.binary64.specs.Tests.{eq→balance, balance→eq}
 use Rattle.geometry.specs.declared.Point.{Point}
-use Rattle.stores.specs.Zeros.{zeros_from}
-use Rattle.std.specs.Prelude.{Result, Ok, Err}
+use Rattle.stores.specs.Zeros.{zeros_from, kept}
+use Rattle.std.specs.Prelude.{Result, Ok, Err, IfOk}
+use Rattle.std.specs.Result.{result_unwrap_or}
 use Rattle.refusal.specs.declared.Refusal.{Refusal}
-use Rattle.refusal.specs.Refusal.{number_of}
+use Rattle.refusal.specs.Refusal.{number_in}
 use Rattle.refusal.proofs.Numbers.{positive}
 use Rattle.outline.specs.declared.Stem.{Stem}
 use Rattle.outline.specs.Outline.{Command, move, line, curve, flex, plus_zero, pick}
@@ -308,13 +309,19 @@ ended p q true ss = (in_turn p.puts q).then (λ left. wrote [])
 ended p q false ss = (in_turn p.puts q).then (λ left. wrote [])
 
 -- n is the place after the last byte, z the output, and o the output with zeros from there on
-pub finished_refused : (room : ℕ) (e : Refusal) (z : List ℕ) (x : Written) → resumed (Err e) z (λ left. wrote []) ≡ x → length z ≡ room → Ends room x (Err e) z
+finished_refused : (room : ℕ) (e : Refusal) (z o : List ℕ) (x : Written) → resumed (Err e) z (λ left. wrote []) ≡ x → length z ≡ room → o ≡ zeros_from 0 z → Ends room x (Err e) o
 unfolding resumed
-finished_refused room e z x h l = subst (λ (y : Written). Ends room y (Err e) z) h (positive e, (refl, l))
+finished_refused room e z o x h l d = subst (λ (y : Written). Ends room y (Err e) o) h (positive e, (refl, d ∙ ap (λ (n : ℕ). replicate n 0) (sub-zero (length z) ∙ l)))
 
-pub finished-written : (room n : ℕ) (z o : List ℕ) (x : Written) → resumed (Ok n) z (λ left. wrote []) ≡ x → length z ≡ room → n ≤ length z → o ≡ zeros_from n z → length o ≡ room → Ends room x (Ok n) o
+finished-written : (room n : ℕ) (z o : List ℕ) (x : Written) → resumed (Ok n) z (λ left. wrote []) ≡ x → length z ≡ room → n ≤ length z → o ≡ zeros_from n z → length o ≡ room → Ends room x (Ok n) o
 unfolding resumed
 finished-written room n z o x h l f d m =
     let w : length (take n z) ≡ n = omega (arith, length-take n z) in
     subst (λ (y : Written). Ends room y (Ok n) o) (ap wrote (sym (append-nil (take n z))) ∙ h)
     (ap (λ (k : ℕ). Ok k) (sym w), (d ∙ ap₂ (λ (i j : ℕ). take n z ++ replicate (i - j) 0) l (sym w), m))
+
+-- n is the end's number, k how many bytes are kept, d of no use
+pub finished : (room n k d : ℕ) (end : Result ℕ Refusal) (z o : List ℕ) (x : Written) → resumed end z (λ left. wrote []) ≡ x → length z ≡ room → IfOk end (λ i. i ≤ length z) → n ≡ number_in end → k ≡ kept n (result_unwrap_or end d) → o ≡ zeros_from k z → length o ≡ room → Ends room x end o
+finished room n k d (Ok i) z o x h l f a b c m = finished-written room i z o x h l f (c ∙ ap (λ (j : ℕ). zeros_from j z) (b ∙ ap (λ (j : ℕ). kept j i) a)) m
+finished room n k d (Err e) z o x h l f a b c m =
+    finished_refused room e z o x h l (c ∙ ap (λ (j : ℕ). zeros_from j z) (b ∙ ap (λ (t : Bool). cond t d 0) (ne_eqb n 0 (λ (q : n ≡ 0). let p = positive e in let y : ⊥ = omega (arith, a, q, p) in y))))

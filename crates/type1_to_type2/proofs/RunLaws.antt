@@ -1,10 +1,10 @@
 -- Laws: what the parts of `convert_run` answer is the conversion of what the run has left. Assumes nothing.
 use mathlib.Core.Path.{◌≡◌, refl, sym, ◌∙◌, ap, ap₂, subst}
-use Prim.Native.Nat.{ℕ, zero, suc, ◌<◌}
+use Prim.Native.Nat.{ℕ, zero, suc, ◌+◌, ◌<◌, ◌≤◌}
 use native.Mathlib.Omega.{arith}
 use mathlib.Core.Bool.{Bool, true, false, not, ◌&&◌, cond, true≢false}
 use mathlib.Core.List.{List, [], ◌∷◌, ◌++◌}
-use lib.ListN.{length, replicate}
+use lib.ListN.{length, replicate, length-replicate}
 use lib.Dec.{T, eqb, eqb-suc-zero, ltb, ltb→lt, nltb→le}
 use lib.Ieee.{Float}
 use lib.Ieee.Scale.{finite}
@@ -26,6 +26,7 @@ use Rattle.type1_to_type2.specs.declared.Collected.{Collected}
 use Rattle.type1_to_type2.specs.declared.Plan.{Plan}
 use Rattle.type1_to_type2.specs.declared.Writer.{Writer}
 use Rattle.type1_to_type2.specs.declared.Type2Glyph.{Type2Glyph}
+use Rattle.folding.specs.Folding as Folding
 use Rattle.folding.specs.Folding.{finite_matrix, fold_of, folded_width, folded_list, folded_groups, finite_list, finite_groups}
 use Rattle.type2.specs.Bools.{yes}
 use Rattle.type1_to_type2.specs.Stems.{Declared, declared, all_stems}
@@ -34,15 +35,16 @@ use Rattle.type1_to_type2.specs.Writing as Writing
 use Rattle.type1_to_type2.specs.Writing.{Written, write}
 use Rattle.type1_to_type2.specs.Convert as Convert
 use Rattle.type1_to_type2.specs.Convert.{folds_finite, Glyph, glyph_of, Conversion, instructions, writes, folded, ended, rooms_of, convert, answer, output}
-use Rattle.type1_to_type2.specs.Collecting.{Collects, Counted, none_collected}
-use Rattle.type1_to_type2.specs.Streaming.{resumed_all}
+use Rattle.type1_to_type2.specs.Table.{table_stems}
+use Rattle.type1_to_type2.specs.Collecting.{Ascending, Collects, Counted, none_collected}
+use Rattle.type1_to_type2.specs.Streaming.{point_of, resumed, streamed, resumed_all}
 use Rattle.type1_to_type2.specs.Passes.{both, BothTables, Gathers, stems_to, cmds_from, Stored}
-use Rattle.type1_to_type2.specs.Entry.{group_count, none_of, tables, Declares, Planned, left_state, from_run, settles, told, Gives, Answers, ConvertsFrom, first_number}
-use Rattle.std.specs.Prelude.{Result, Ok, Err, OnOk, IsOk, IsErr}
+use Rattle.type1_to_type2.specs.Entry.{group_count, none_of, tables, Declares, Planned, nothing_planned, Opens, left_state, from_run, settles, told, Gives, GivesAfter, Answers, ConvertsFrom, first_number}
+use Rattle.std.specs.Prelude.{Result, Ok, Err, IfOk, is_ok, IsErr, MatchResult}
+use Rattle.std.specs.Result.{result_and, result_unwrap_or}
 use Rattle.refusal.specs.declared.Refusal.{Refusal}
 use Rattle.refusal.specs.declared.Refusal.TheVariants.{NotFinite}
 use Rattle.refusal.specs.Refusal as Refusals
-use Rattle.refusal.proofs.Numbers.{positive}
 use Rattle.type1_to_type2.specs.Fine.{written-finite}
 use Rattle.type1_to_type2.specs.Nonzero.{folded_nonzero}
 use Rattle.type1_to_type2.proofs.Folds.{finite_all}
@@ -113,14 +115,14 @@ module _ (m : Matrix) (fold : Fold) (made : fold ≡ fold_of m) (r : Interpreted
 
   -- no plan: the width or a stem is not finite
   pub run_refused : (k : ℕ) (c₀ cc : Collected) (ta tu ta₁ tu₁ : List Float) (e : Refusal) (out : List ℕ)
-      → length ta ≡ 192 → length tu ≡ 192 → c₀ ≡ none_of k → Gathers (stems_to fold c z r.entries) c₀ ta tu cc ta₁ tu₁ → e ≡ NotFinite → (finite (folded_width m r.width) && cc.finite) ≡ false → length out ≡ room
+      → length ta ≡ 192 → length tu ≡ 192 → c₀ ≡ none_of k → Gathers (stems_to fold c z r.entries) c₀ ta tu cc ta₁ tu₁ → e ≡ NotFinite → (finite (folded_width m r.width) && cc.finite) ≡ false → out ≡ replicate room 0
       → Gives (folded m room (left_state r c z)) room (Err e) out
-  run_refused k c₀ cc ta tu ta₁ tu₁ e out la lu e₀ G ee not l =
+  run_refused k c₀ cc ta tu ta₁ tu₁ e out la lu e₀ G ee not zeros =
       let s = same_stems k c₀ cc ta tu ta₁ tu₁ la lu e₀ G in
       let ds = folded_list fold (drawn_in r.entries c) in
       let x : folded m room (left_state r c z) ≡ Convert.refused 14 =
       from_made ∙ ap folds (sym made) ∙ not_settled (finite (folded_width m r.width)) (finite_groups gs) (finite_list ds) (writes (glyph_of (folded_width m r.width) r.ran) (write (program (declared gs) (commands 0 gs ds)) room)) (ap (λ (b : Bool). finite (folded_width m r.width) && b) (sym s) ∙ not) in
-      record { glyph = ap (λ (i : Refusal). told (Err i)) ee ∙ ap answer (sym x); bytes = tt; same = l }
+      record { glyph = ap (λ (i : Refusal). told (Err i)) ee ∙ ap answer (sym x); bytes = zeros ∙ ap (output room) (sym x); same = ap length zeros ∙ length-replicate room 0 }
 
   pub run_answers : (k : ℕ) (c₀ cc : Collected) (ta tu ta₁ tu₁ : List Float) (p : Plan) (w v : Writer) (out₁ out₂ out₃ : List ℕ) (g : Result Type2Glyph Refusal) (z' : List Stem)
       → length ta ≡ 192 → length tu ≡ 192 → k ≡ group_count r.entries c → c₀ ≡ none_of k → Gathers (stems_to fold c z r.entries) c₀ ta tu cc ta₁ tu₁ → Planned cc m r.width p → Declares p.masked p.across p.upright ta₁ tu₁ room w out₁ → z' ≡ z
@@ -141,28 +143,116 @@ module _ (m : Matrix) (fold : Fold) (made : fold ≡ fold_of m) (r : Interpreted
       (ap₂ (λ (d : Declared) (cs : List Cmd). write (program d cs) room) (sym (P.stems gs ta₁ tu₁ C' counted)) (commands_are fold c z r.entries))
       (λ b q. yes (finite_list ds) (written-finite (declared gs) gs ds room b q))
       ∙ ap folds made ∙ sym from_made in
-      record { glyph = A.glyph ∙ ap answer x; bytes = output_of g x l A.bytes; same = A.same ∙ l }
-    where
-      output_of : (g : Result Type2Glyph Refusal) {x y : Conversion} {n k : ℕ} → x ≡ y → n ≡ k → OnOk g (out₃ ≡ output n x) → OnOk g (out₃ ≡ output k y)
-      output_of (Ok g) e l h = h ∙ ap₂ output l e
-      output_of (Err g) e l h = tt
+      record { glyph = A.glyph ∙ ap answer x; bytes = A.bytes ∙ ap₂ output l x; same = A.same ∙ l }
 
--- what is told of a run that was not refused
-pub gives_answers : (x : Conversion) (room : ℕ) (g : Result Type2Glyph Refusal) (out out' : List ℕ) → Gives x room g out → (IsOk g → out' ≡ out) → (IsErr g → out' ≡ replicate room 0) → Answers x room (told g) out'
-gives_answers x room (Ok g) out out' G f h = record { glyph = G.glyph; bytes = f refl ∙ G.bytes }
-gives_answers (Convert.refused n) room (Err e) out out' G f h = record { glyph = G.glyph; bytes = h refl }
-gives_answers (Convert.converted g) room (Err e) out out' G f h = absurd (let n = ap (λ (y : Type2Glyph). y.number) G.glyph in let p = positive e in let y : ⊥ = omega (arith, n, p) in y)
+  -- what `make_plan` answers of the stems collected
+  abbrev Made : Collected → Result Plan Refusal → Type 0
+  Made cc made = MatchResult made (Planned cc m r.width) (λ e. (e ≡ NotFinite) × ((finite (folded_width m r.width) && cc.finite) ≡ false))
+
+  -- a plan that was not refused, and nothing planned, are written in order
+  pub planned-few : (cc : Collected) (early : Result (Unit {0}) Refusal) (made planned : Result Plan Refusal) → planned ≡ result_and early made → Made cc made → IfOk planned (λ p. p.across + p.upright ≤ 96)
+  planned-few cc early made planned e M = rw e (go early made M)
+    where
+      go : (early : Result (Unit {0}) Refusal) (made : Result Plan Refusal) → Made cc made → IfOk (result_and early made) (λ p. p.across + p.upright ≤ 96)
+      go (Err x) made M = tt
+      go (Ok u) (Ok p) M = M.few
+      go (Ok u) (Err x) M = tt
+
+  pub planned-tables : (k : ℕ) (c₀ cc : Collected) (l : List Stem) (ta tu ta₁ tu₁ : List Float) (early : Result (Unit {0}) Refusal) (made planned : Result Plan Refusal) (p : Plan) → length ta ≡ 192 → length tu ≡ 192 → c₀ ≡ none_of k → Gathers l c₀ ta tu cc ta₁ tu₁
+      → planned ≡ result_and early made → p ≡ result_unwrap_or planned nothing_planned → Made cc made → BothTables p.across p.upright ta₁ tu₁
+  planned-tables k c₀ cc l ta tu ta₁ tu₁ early made planned p la lu e₀ G e q M =
+      subst (λ (x : Plan). BothTables x.across x.upright ta₁ tu₁) (sym (q ∙ ap (λ (x : Result Plan Refusal). result_unwrap_or x nothing_planned) e)) (go early made M)
+    where
+      none : BothTables 0 0 ta₁ tu₁
+      none = unfold Ascending table_stems in record { few = omega arith; across = tt; upright = tt }
+
+      go : (early : Result (Unit {0}) Refusal) (made : Result Plan Refusal) → Made cc made → let x = result_unwrap_or (result_and early made) nothing_planned in BothTables x.across x.upright ta₁ tu₁
+      go (Err x) made M = none
+      go (Ok u) (Ok p) M = run-tables k c₀ cc l ta tu ta₁ tu₁ p la lu e₀ G M
+      go (Ok u) (Err x) M = none
+
+  -- a refusal, given early or by the plan, is kept
+  pub run_after : (k : ℕ) (c₀ cc : Collected) (ta tu ta₁ tu₁ : List Float) (early : Result (Unit {0}) Refusal) (made planned : Result Plan Refusal) (p : Plan) (w v : Writer) (out₁ out₂ out₃ : List ℕ) (done g : Result Type2Glyph Refusal) (z' : List Stem)
+      → length ta ≡ 192 → length tu ≡ 192 → k ≡ group_count r.entries c → c₀ ≡ none_of k → Gathers (stems_to fold c z r.entries) c₀ ta tu cc ta₁ tu₁ → Made cc made → planned ≡ result_and early made → p ≡ result_unwrap_or planned nothing_planned
+      → Opens planned ta₁ tu₁ room w out₁ → z' ≡ z
+      → resumed_all p.masked (both p.across p.upright ta₁ tu₁) v out₂ [] ≡ resumed_all p.masked (both p.across p.upright ta₁ tu₁) w out₁ (cmds_from fold c z' 0 r.entries) → length out₂ ≡ room
+      → Gives (settles (finite_list (folded_list fold (drawn_in r.entries c))) (writes (glyph_of p.width r.ran) (resumed_all false [] v out₂ []))) (length out₂) done out₃ → g ≡ result_and planned done
+      → GivesAfter early (folded m room (left_state r c z)) room g out₃
+  unfolding resumed
+  run_after k c₀ cc ta tu ta₁ tu₁ early made planned p w v out₁ out₂ out₃ done g z' la lu K e₀ G M e q B ez t l A h =
+      go early made M (subst (λ (x : Result Plan Refusal). Opens x ta₁ tu₁ room w out₁) e B) (q ∙ ap (λ (x : Result Plan Refusal). result_unwrap_or x nothing_planned) e) (h ∙ ap (λ (x : Result Plan Refusal). result_and x done) e)
+    where
+      -- nothing more is written
+      zeros : (x : Refusal) → w.next ≡ Err x → out₃ ≡ replicate room 0
+      zeros x B =
+          let left : resumed_all false [] v out₂ [] ≡ Writing.refused (Refusals.number_of x) =
+          nothing_left p.masked (both p.across p.upright ta₁ tu₁) v out₂ ∙ t ∙ ap (λ (n : Result ℕ Refusal). resumed n out₁ (streamed (items p.masked (both p.across p.upright ta₁ tu₁) (point_of w) (cmds_from fold c z' 0 r.entries)) w.waits w.held)) B in
+          A.bytes ∙ ap₂ (λ (n : ℕ) (y : Written). output n (settles (finite_list (folded_list fold (drawn_in r.entries c))) (writes (glyph_of p.width r.ran) y))) l left
+
+      go : (early : Result (Unit {0}) Refusal) (made : Result Plan Refusal) → Made cc made → Opens (result_and early made) ta₁ tu₁ room w out₁ → p ≡ result_unwrap_or (result_and early made) nothing_planned → g ≡ result_and (result_and early made) done
+          → GivesAfter early (folded m room (left_state r c z)) room g out₃
+      go (Err x) made M B q h = (h, zeros x B)
+      go (Ok u) (Ok x) M B q h =
+          subst (λ (y : Result Type2Glyph Refusal). Gives (folded m room (left_state r c z)) room y out₃) (sym h)
+          (run_answers k c₀ cc ta tu ta₁ tu₁ p w v out₁ out₂ out₃ done z' la lu K e₀ G (subst (Planned cc m r.width) (sym q) M) (subst (λ (y : Plan). Declares y.masked y.across y.upright ta₁ tu₁ room w out₁) (sym q) B) ez t l A)
+      go (Ok u) (Err x) M B q h =
+          subst (λ (y : Result Type2Glyph Refusal). Gives (folded m room (left_state r c z)) room y out₃) (sym h) (run_refused k c₀ cc ta tu ta₁ tu₁ x out₃ la lu e₀ G M.0 M.1 (zeros x B))
+
+-- what is told of a result
+gives_answers : (x : Conversion) (room : ℕ) (g : Result Type2Glyph Refusal) (out : List ℕ) → Gives x room g out → Answers x room (told g) out
+gives_answers x room g out G = record { glyph = G.glyph; bytes = G.bytes }
 
 -- from a run that was not refused, and from one that was
-pub from_run_on : (n : ℕ) (m : Matrix) (room : ℕ) (r : Interpreted) (c : List ℕ) (z : List Stem) → n ≡ 0 → folded m room (left_state r c z) ≡ from_run n m room r c z
+from_run_on : (n : ℕ) (m : Matrix) (room : ℕ) (r : Interpreted) (c : List ℕ) (z : List Stem) → n ≡ 0 → folded m room (left_state r c z) ≡ from_run n m room r c z
 unfolding from_run
 from_run_on n m room r c z h = sym (ap (λ (k : ℕ). pick (eqb k 0) (folded m room (left_state r c z)) (Convert.refused k)) h)
 
-pub from_run_refused : (n : ℕ) (m : Matrix) (room : ℕ) (r : Interpreted) (c : List ℕ) (z : List Stem) (out : List ℕ) → (n ≡ 0 → ⊥) → out ≡ replicate room 0 → Answers (from_run n m room r c z) room (record { number = n; len = 0; width = plus_zero; ran = 0 }) out
+from_run_refused : (n : ℕ) (m : Matrix) (room : ℕ) (r : Interpreted) (c : List ℕ) (z : List Stem) (out : List ℕ) → (n ≡ 0 → ⊥) → out ≡ replicate room 0 → Answers (from_run n m room r c z) room (record { number = n; len = 0; width = plus_zero; ran = 0 }) out
 unfolding from_run
 from_run_refused n m room r c z out h e =
     let q : from_run n m room r c z ≡ Convert.refused n = ap (λ (b : Bool). pick b (folded m room (left_state r c z)) (Convert.refused n)) (ne_eqb n 0 h) in
     record { glyph = ap answer (sym q); bytes = e ∙ ap (output room) (sym q) }
+
+-- the number before comes first, if there is one
+not_zero : (n : ℕ) → suc n ≡ 0 → ⊥
+not_zero n e = let y : ⊥ = omega (arith, e) in y
+
+none_before : (j : ℕ) → Folding.refusal 0 j true ≡ j
+unfolding Folding.refusal
+none_before j = refl
+
+one_before : (n j : ℕ) → Folding.refusal (suc n) j true ≡ suc n
+unfolding Folding.refusal
+one_before n j = ap (λ (b : Bool). cond b j (suc n)) (ne_eqb (suc n) 0 (not_zero n))
+
+-- with the number n so far, and what it is as a refusal
+abbrev Early : ℕ → Result (Unit {0}) Refusal → Type 0
+Early n early = (n ≡ 0 → early ≡ Ok tt) × ((n ≡ 0 → ⊥) → IsErr early)
+
+module _ (m : Matrix) (room : ℕ) (r : Interpreted) (c : List ℕ) (z : List Stem) where
+  pub told_glyph : (n : ℕ) (early : Result (Unit {0}) Refusal) (g : Type2Glyph) (out : List ℕ) → Early n early → GivesAfter early (folded m room (left_state r c z)) room (Ok g) out → Answers (from_run n m room r c z) room g out
+  told_glyph zero early g out E G =
+      subst (λ (x : Conversion). Answers x room g out) (from_run_on 0 m room r c z refl)
+      (gives_answers (folded m room (left_state r c z)) room (Ok g) out (subst (λ (x : Result (Unit {0}) Refusal). GivesAfter x (folded m room (left_state r c z)) room (Ok g) out) (E.0 refl) G))
+  told_glyph (suc n) early g out E G = absurd (kept early (E.1 (not_zero n)) G)
+    where
+      kept : (early : Result (Unit {0}) Refusal) → IsErr early → GivesAfter early (folded m room (left_state r c z)) room (Ok g) out → ⊥
+      kept (Ok u) h G = true≢false (sym h)
+      kept (Err e) h G = true≢false (ap is_ok G.0)
+
+  -- k is the number that comes first
+  pub told_refused : (n : ℕ) (early : Result (Unit {0}) Refusal) (e : Refusal) (k : ℕ) (out : List ℕ) → Early n early → GivesAfter early (folded m room (left_state r c z)) room (Err e) out → k ≡ Folding.refusal n (Refusals.number_of e) true
+      → Answers (from_run n m room r c z) room (record { number = k; len = 0; width = plus_zero; ran = 0 }) out
+  told_refused zero early e k out E G K =
+      subst (λ (i : ℕ). Answers (from_run 0 m room r c z) room (record { number = i; len = 0; width = plus_zero; ran = 0 }) out) (sym (K ∙ none_before (Refusals.number_of e)))
+      (subst (λ (x : Conversion). Answers x room (record { number = Refusals.number_of e; len = 0; width = plus_zero; ran = 0 }) out) (from_run_on 0 m room r c z refl)
+      (gives_answers (folded m room (left_state r c z)) room (Err e) out (subst (λ (x : Result (Unit {0}) Refusal). GivesAfter x (folded m room (left_state r c z)) room (Err e) out) (E.0 refl) G)))
+  told_refused (suc n) early e k out E G K =
+      subst (λ (i : ℕ). Answers (from_run (suc n) m room r c z) room (record { number = i; len = 0; width = plus_zero; ran = 0 }) out) (sym (K ∙ one_before n (Refusals.number_of e))) (from_run_refused (suc n) m room r c z out (not_zero n) (zeros early (E.1 (not_zero n)) G))
+    where
+      zeros : (early : Result (Unit {0}) Refusal) → IsErr early → GivesAfter early (folded m room (left_state r c z)) room (Err e) out → out ≡ replicate room 0
+      zeros (Ok u) h G = absurd (true≢false (sym h))
+      zeros (Err x) h G = G.1
 
 -- ---- the entry
 

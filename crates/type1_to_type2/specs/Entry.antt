@@ -1,5 +1,5 @@
 -- Definitions: what the entry and its parts answer and leave. Document 01, "Numbers the board logs", "What each entry is held to", a.
-use Rattle.std.specs.Prelude.{ℕ, zero, suc, ◌+◌, ◌≤◌, ◌≡◌, Bool, true, false, ◌&&◌, List, [], eqb, length, replicate, Float, cond, Result, Ok, Err, OnOk}
+use Rattle.std.specs.Prelude.{ℕ, zero, suc, ◌+◌, ◌≤◌, ◌≡◌, Bool, true, false, ◌&&◌, List, [], eqb, length, replicate, Float, cond, Result, Ok, Err, MatchResult}
 use Rattle.refusal.specs.declared.Refusal.{Refusal}
 use Rattle.refusal.specs.Refusal.{number_of}
 use Rattle.std.specs.Float.Ieee.Scale.{finite}
@@ -8,7 +8,7 @@ use Rattle.outline.specs.declared.Stem.{Stem}
 use Rattle.type1.specs.declared.Reading.{Reading}
 use Rattle.type1.specs.declared.Interpreted.{Interpreted}
 use Rattle.type1.specs.Interpret.{Source}
-use Rattle.outline.specs.Outline.{Group, origin, pick, zero_stem}
+use Rattle.outline.specs.Outline.{Group, origin, pick, plus_zero, zero_stem}
 use Rattle.outline.specs.Store.{word, drawn_in, groups_in}
 use Rattle.type1.specs.State.{State, start}
 use Rattle.type1_to_type2.specs.declared.Collected.{Collected}
@@ -54,6 +54,14 @@ pub record Planned (c : Collected) (m : Matrix) (width : Float) (p : Plan) : Typ
   pub stems : (gs : List Group) (ta tu : List Float) → Collects (all_stems gs) c ta tu → c.groups ≡ length gs → declared gs ≡ tables p ta tu
   pub order : (l : List Stem) (ta tu : List Float) → Collects l c ta tu → BothTables p.across p.upright ta tu
 
+-- no stems are declared, and no masks are needed
+abbrev pub nothing_planned : Plan
+nothing_planned = record { masked = false; across = 0; upright = 0; width = plus_zero }
+
+-- the stems of a plan are written, or its refusal is kept
+abbrev pub Opens : Result Plan Refusal → List Float → List Float → ℕ → Writer → List ℕ → Type 0
+Opens planned ta tu room w out = MatchResult planned (λ p. Declares p.masked p.across p.upright ta tu room w out) (λ e. w.next ≡ Err e)
+
 -- the run's state, as far as the stores and the answer tell it
 abbrev pub left_state : Interpreted → List ℕ → List Stem → State
 left_state r c z = record { operands = []; postscript = []; point = origin; bearing = origin; width = r.width; opened = false; flexing = start.flexing; hints = []; changed = false; groups = groups_in r.entries c z; drawn = drawn_in r.entries c; divided = false; ran = r.ran }
@@ -76,11 +84,15 @@ abbrev pub told : Result Type2Glyph Refusal → Type2Glyph
 told (Ok g) = g
 told (Err e) = answer (Convert.refused (number_of e))
 
--- a result that is a conversion's, and on success the output too
+-- a result and an output that are a conversion's
 pub record Gives (x : Conversion) (room : ℕ) (r : Result Type2Glyph Refusal) (out : List ℕ) : Type 0 where
   pub glyph : told r ≡ answer x
-  pub bytes : OnOk r (out ≡ output room x)
+  pub bytes : out ≡ output room x
   pub same : length out ≡ room
+
+-- a refusal that was given early is kept
+abbrev pub GivesAfter : Result (Unit {0}) Refusal → Conversion → ℕ → Result Type2Glyph Refusal → List ℕ → Type 0
+GivesAfter early x room r out = MatchResult early (λ u. Gives x room r out) (λ e. (r ≡ Err e) × (out ≡ replicate room 0))
 
 -- an answer and an output that are a conversion's
 pub record Answers (x : Conversion) (room : ℕ) (g : Type2Glyph) (out : List ℕ) : Type 0 where

@@ -163,9 +163,9 @@ pub record Stemmed (op : ℕ) (x : Stem) (s : StemWriter) (before : List ℕ) (r
   pub few : r.left ≤ 23
   pub same : length after ≡ length before
 
--- what a written program leaves: its length, and the output's every byte, of so many; or a refusal
+-- what a written program leaves: its length, or a refusal, and the output's every byte, of so many
 abbrev pub Ends : ℕ → Written → Result ℕ Refusal → List ℕ → Type 0
-Ends room (refused k) r out = (0 < k) × ((number_in r ≡ k) × (length out ≡ room))
+Ends room (refused k) r out = (0 < k) × ((number_in r ≡ k) × (out ≡ replicate room 0))
 Ends room (wrote b) r out = (r ≡ Ok (length b)) × ((out ≡ b ++ replicate (room - length b) 0) × (length out ≡ room))
 
 -- entry e is written, where n stems are declared; g are the stems of the group that it starts, if it starts one, and p their places where masks are needed

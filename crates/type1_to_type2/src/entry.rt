@@ -1,15 +1,15 @@
 // From what a run has left to the answer: the plan, the program's start and end, and the tables lent.
-ghost use Rattle.std.specs.Prelude.{◌≡◌, false, ◌&&◌, [], ℕ, ◌+◌, ◌*◌, ◌≤◌, ◌<◌, length, replicate, MatchResult};
+ghost use Rattle.std.specs.Prelude.{◌≡◌, false, ◌&&◌, [], ℕ, ◌+◌, ◌*◌, ◌≤◌, ◌<◌, length, replicate, MatchResult, IfOk, IsErr, Ok};
 ghost use Rattle.std.specs.Float.Ieee.Scale.{finite};
 ghost use Rattle.outline.specs.Store.{entry_words, command_in, drawn_in};
 ghost use Rattle.type1.specs.Memory.{Good};
 ghost use Rattle.type1.specs.Sound.{All, OfCommand};
 ghost use Rattle.folding.specs.Folding.{folded_list, folded_width, finite_list};
-ghost use Rattle.type1_to_type2.specs.Convert.{glyph_of, writes, folded, refused};
+ghost use Rattle.type1_to_type2.specs.Convert.{glyph_of, writes, folded, refused, answer};
 ghost use Rattle.type1_to_type2.specs.Collecting.{Counted};
 ghost use Rattle.type1_to_type2.specs.Streaming.{resumed_all};
 ghost use Rattle.type1_to_type2.specs.Passes.{Stored};
-ghost use Rattle.type1_to_type2.specs.Entry.{Lengths, Planned, left_state, settles, Gives, first_number, from_run, Answers};
+ghost use Rattle.type1_to_type2.specs.Entry.{Lengths, Planned, nothing_planned, Opens, left_state, settles, Gives, GivesAfter, first_number, from_run, Answers};
 
 use crate::checking::{count_groups, finite_points};
 use crate::declaring::write_front;
@@ -22,6 +22,18 @@ use geometry::Matrix;
 use outline::Stem;
 use refusal::Refusal;
 use type1::Interpreted;
+
+// No stems and no masks.
+fn nothing_planned() -> Plan
+    ensures { result ≡ nothing_planned }
+{
+    Plan {
+        masked: false,
+        across: 0,
+        upright: 0,
+        width: 0.0,
+    }
+}
 
 // What is to be written, from the stems; 14 where the folded width or a folded stem is not finite.
 fn make_plan(c: Collected, m: Matrix, r: Interpreted) -> Result<Plan, Refusal>
@@ -39,6 +51,29 @@ fn make_plan(c: Collected, m: Matrix, r: Interpreted) -> Result<Plan, Refusal>
         upright: d.upright,
         width,
     })
+}
+
+// The stems are written, or a refusal is kept: then nothing more is written.
+fn begin_program(
+    planned: Result<Plan, Refusal>,
+    across: &[f64; 192],
+    upright: &[f64; 192],
+    out: &mut [u8],
+) -> Writer
+    requires { IfOk planned (λ p. p.across + p.upright ≤ 96) }
+    ensures opens { Opens planned across.now upright.now (length out.old) result out.new }
+    ensures out_len_unchanged { length out.new ≡ length out.old }
+{
+    match planned {
+        Ok(p) => write_front(p.masked, p.across, p.upright, across, upright, out),
+        Err(refusal) => Writer {
+            next: Err(refusal),
+            x: 0.0,
+            y: 0.0,
+            waits: 0,
+            held: 0,
+        },
+    }
 }
 
 // The program's end, and the glyph. A folded point that is not finite has been refused by the writer at the latest,
@@ -70,9 +105,11 @@ fn end_program(
     }
 }
 
-// Folding and writing, from what a run has left.
+// Folding and writing, from what a run has left. The same steps are taken for every input: a refusal, given early or
+// by the plan, is kept, and nothing more is written.
 fn convert_run(
     r: Interpreted,
+    early: Result<(), Refusal>,
     m: Matrix,
     stems: &mut [Stem],
     commands: &mut [u64],
@@ -83,7 +120,7 @@ fn convert_run(
 ) -> Result<Type2Glyph, Refusal>
     requires { Stored r.entries commands.old stems.old × Lengths across.old upright.old places.old }
     ensures { (stems.new ≡ stems.old) × ((commands.new ≡ commands.old) ×
-        Gives (folded m (length out.old) (left_state r commands.old stems.old)) (length out.old) result out.new) }
+        GivesAfter early (folded m (length out.old) (left_state r commands.old stems.old)) (length out.old) result out.new) }
 {
     let fold = Fold::new(m);
     let k = count_groups(commands, r.entries);
@@ -96,19 +133,21 @@ fn convert_run(
         across,
         upright,
     );
-    let p = make_plan(c, m, r)?;
-    let w = write_front(p.masked, p.across, p.upright, across, upright, out);
+    let planned = early.and(make_plan(c, m, r));
+    let p = planned.unwrap_or(nothing_planned());
+    let w = begin_program(planned, across, upright, out);
     let v = write_all(
         stems, commands, r.entries, fold, p.masked, p.across, p.upright, across, upright, places,
         w, out,
     );
-    end_program(p, r, v, commands, fold, out)
+    planned.and(end_program(p, r, v, commands, fold, out))
 }
 
 // The same with its own tables of stems, which are made after the run: so they may share the stack with the
 // run's arrays.
 pub(crate) fn convert_stored(
     r: Interpreted,
+    early: Result<(), Refusal>,
     m: Matrix,
     stems: &mut [Stem],
     commands: &mut [u64],
@@ -116,13 +155,14 @@ pub(crate) fn convert_stored(
 ) -> Result<Type2Glyph, Refusal>
     requires { Stored r.entries commands.old stems.old }
     ensures { (stems.new ≡ stems.old) × ((commands.new ≡ commands.old) ×
-        Gives (folded m (length out.old) (left_state r commands.old stems.old)) (length out.old) result out.new) }
+        GivesAfter early (folded m (length out.old) (left_state r commands.old stems.old)) (length out.old) result out.new) }
 {
     let mut across = [0.0; 192];
     let mut upright = [0.0; 192];
     let mut places = [0; 96];
     convert_run(
         r,
+        early,
         m,
         stems,
         commands,
@@ -140,13 +180,10 @@ pub(crate) fn first_number(m: Matrix, number: u64) -> u64
     if folding::finite_matrix(m) { number } else { 1 }
 }
 
-// A refusal: all but the number are 0, and the output is zeros.
-fn refuse(number: u64, out: &mut [u8]) -> Type2Glyph
-    requires { number ≡ 0 → ⊥ }
-    ensures { Answers (refused number) (length out.old) result out.new }
+// A refusal: all but the number are 0.
+fn refuse(number: u64) -> Type2Glyph
+    ensures { result ≡ answer (refused number) }
 {
-    let kept = stores::kept_bytes(number, out.len());
-    stores::zero_from(out, kept);
     Type2Glyph {
         number,
         len: 0,
@@ -155,7 +192,18 @@ fn refuse(number: u64, out: &mut [u8]) -> Type2Glyph
     }
 }
 
-// The same as an answer, where there is no number yet. On a refusal the output is zeroed in one place.
+// A number that was given early, as its refusal; one that document 01 does not have is given as another, since `answered`
+// gives the number itself.
+fn early(number: u64) -> Result<(), Refusal>
+    ensures { (number ≡ 0 → result ≡ Ok tt) × ((number ≡ 0 → ⊥) → IsErr result) }
+{
+    if number == 0 {
+        return Ok(());
+    }
+    Err(Refusal::try_from(number).unwrap_or(Refusal::NotFinite))
+}
+
+// The same as an answer, with the number so far.
 pub(crate) fn answered(
     r: Interpreted,
     number: u64,
@@ -168,12 +216,9 @@ pub(crate) fn answered(
     ensures { (stems.new ≡ stems.old) × ((commands.new ≡ commands.old) ×
         Answers (from_run number m (length out.old) r commands.old stems.old) (length out.old) result out.new) }
 {
-    if number != 0 {
-        return refuse(number, out);
-    }
-    match convert_stored(r, m, stems, commands, out) {
+    match convert_stored(r, early(number), m, stems, commands, out) {
         Ok(g) => g,
-        Err(e) => refuse(e.number() as u64, out),
+        Err(e) => refuse(folding::refusal(number, e.number() as u64, true)),
     }
 }
 

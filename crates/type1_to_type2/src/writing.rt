@@ -1,5 +1,6 @@
 // A program written into the output: numbers, operators, deltas, masks (document 01, "Path", "Stems and masks").
 ghost use Rattle.std.specs.Prelude.{◌≡◌, Bool, true, List, [], ◌∷◌, ◌+◌, ◌≤◌, ◌<◌, length, take, IfOk};
+ghost use Rattle.refusal.specs.Refusal.{number_in};
 ghost use Rattle.outline.specs.Outline.{move};
 ghost use Rattle.outline.specs.declared.Stem.{Stem};
 ghost use Rattle.type1.specs.Run.{point_at};
@@ -173,14 +174,23 @@ pub(crate) fn write_mask(n: usize, k: usize, places: &[u8; 96], w: Writer, out: 
     r
 }
 
-// The end of a program, and zeros after it; the program's length.
+// 0, or the number of a refusal.
+fn number_of(end: Result<usize, Refusal>) -> u64
+    ensures { result ≡ number_in end }
+{
+    match end {
+        Ok(_) => 0,
+        Err(refusal) => refusal.number() as u64,
+    }
+}
+
+// The end of a program, and zeros after it; all zeros on a refusal. The program's length.
 pub(crate) fn finish_program(w: Writer, out: &mut [u8]) -> Result<usize, Refusal>
     ensures { (masked : Bool) (ss : List Stem) → Ends (length out.old) (resumed_all masked ss w out.old []) result out.new }
 {
     let f = flush(w, out);
     let end = put_byte(T2_ENDCHAR, f, out).next;
-    if let Ok(len) = end {
-        stores::zero_from(out, stores::kept_bytes(0, len));
-    }
+    let kept = stores::kept_bytes(number_of(end), end.unwrap_or(0));
+    stores::zero_from(out, kept);
     end
 }

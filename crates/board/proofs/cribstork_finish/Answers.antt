@@ -1,5 +1,5 @@
 use Prim.Native.Nat.{ℕ}
-use mathlib.Core.List.{List}
+use mathlib.Core.List.{List, [], ◌∷◌}
 use lib.ListN.{length, take, get_or}
 use Rattle.type2.specs.declared.Widths.{Widths}
 use Rattle.type1_to_type2.specs.Finish.{finish}
@@ -19,6 +19,6 @@ returns c =
     let answer = c.charstring-f.ensures.value ∙ ap finished_answer same in
     record {
       value = ap (λ (l : List ℕ). get_or l 0 0) c.finished_words-words.ensures ∙ ap (λ (y : Finished). y.number) answer;
-      answer_after = c.finished_words-words.ensures ∙ ap finished_words answer;
+      answer_after = ap (λ (l : List ℕ). get_or l 0 0 ∷ get_or l 1 0 ∷ []) c.finished_words-words.ensures ∙ ap finished_words answer;
       out_after = c.charstring-f.ensures.out_after ∙ ap (finished_output room) same;
     }

@@ -1,12 +1,7 @@
-use Rattle.type1_to_type2.specs.Streaming.{resumed_all, Ends}
-use Rattle.type1_to_type2.specs.Convert.{glyph_of}
-use Rattle.type1_to_type2.proofs.CheckingLaws.{ended_first, first_refusal, ended-written}
-use Rattle.std.specs.Prelude.{Result}
-use Rattle.refusal.specs.declared.Refusal.{Refusal}
-use Prim.Native.Nat.{ℕ}
+use Rattle.type1_to_type2.proofs.CheckingLaws.{ended_first, first_refusal}
 use mathlib.Core.Bool.{Bool, false}
 use mathlib.Core.List.{[]}
-use mathlib.Core.Path.{sym, ap, ◌∙◌, subst}
+use mathlib.Core.Path.{ap, ◌∙◌}
 use Rattle.folding.specs.Folding as Folding
 use Rattle.type1_to_type2.proofs.entry.end_program.Goals as goal
 
