@@ -2,7 +2,7 @@
 use crate::bytes::Span;
 use crate::entries::{Charstrings, Step, Subroutines, take_steps};
 use crate::file::Private;
-use crate::names::{KeyedHash, Name};
+use crate::names::KeyedHash;
 use crate::tokens::{Kind, Token};
 use crate::trouble::{Place, Trouble, What};
 use crate::{SUBROUTINES, checks, entries, file, tokens};
@@ -70,11 +70,6 @@ impl Font<'_> {
     // lenIV as a charstring's reading takes it: the largest number where nothing is encrypted.
     pub(crate) fn len_iv(&self) -> usize {
         self.head.len_iv.unwrap_or(usize::MAX)
-    }
-
-    // No glyph has a name.
-    pub(crate) fn lacks(&self, name: &[u8]) -> bool {
-        !self.charstrings.glyphs.contains_key(&Name { bytes: name })
     }
 
     // Where its subroutines stand, those that are defined.

@@ -144,7 +144,7 @@ fn do_tables(task: Task, page: &mut Page) -> Result<(), AllocError> {
         say_fault(task.rt, Fault::LongNames);
         return Ok(());
     }
-    let names = Names::of_text(task.rt.alloc(), &task.options.names)?;
+    let names = Names::of_text(task.rt.alloc(), task.hash, &task.options.names)?;
     do_fonts(
         Task {
             names: &names,
@@ -158,7 +158,7 @@ fn do_tables(task: Task, page: &mut Page) -> Result<(), AllocError> {
 fn do_example(task: Task, page: &mut Page) -> Result<(), AllocError> {
     let asked = task.options.names.as_slice();
     let names = if asked.len() <= LIST_BYTES {
-        Names::of_text(task.rt.alloc(), asked)?
+        Names::of_text(task.rt.alloc(), task.hash, asked)?
     } else {
         Names::all()
     };
@@ -213,7 +213,7 @@ fn do_need(task: Task, page: &mut Page) -> Result<(), AllocError> {
     let Some(list) = load_list(task.rt, path) else {
         return Ok(());
     };
-    let names = Names::of_text(task.rt.alloc(), &list)?;
+    let names = Names::of_text(task.rt.alloc(), task.hash, &list)?;
     if names.listed().is_empty() {
         say_no_names(task.rt, path);
         return Ok(());

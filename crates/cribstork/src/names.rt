@@ -56,10 +56,17 @@ impl BuildHasher for KeyedHash {
 // The glyphs of a font in the order of their names in it, and where the charstring of each stands.
 pub(crate) type Glyphs<'a> = IndexMap<Name<'a>, Span, KeyedHash>;
 
+// What a text asks for of a font: which of its glyphs, in their order, and the names that no glyph has.
+#[derive(Drop)]
+pub(crate) struct Asked<'a> {
+    pub glyphs: Vec<bool>,
+    pub missing: Vec<Name<'a>>,
+}
+
 // The names that a text asks for, each once, in its order; every name where the text is empty.
 #[derive(Drop)]
 pub(crate) struct Names<'a> {
-    listed: Option<IndexSet<&'a [u8]>>,
+    listed: Option<IndexSet<Name<'a>, KeyedHash>>,
 }
 
 impl<'a> Names<'a> {
@@ -69,14 +76,18 @@ impl<'a> Names<'a> {
     }
 
     // Names with white space between them.
-    pub(crate) fn of_text(alloc: Global, text: &'a [u8]) -> Result<Names<'a>, AllocError> {
+    pub(crate) fn of_text(
+        alloc: Global,
+        hash: KeyedHash,
+        text: &'a [u8],
+    ) -> Result<Names<'a>, AllocError> {
         if text.is_empty() {
             return Ok(Names::all());
         }
-        let mut listed = IndexSet::new(alloc);
-        for name in text.split(|&b| is_space(b)) {
-            if !name.is_empty() {
-                listed.insert(name)?;
+        let mut listed = IndexSet::with_hasher(alloc, hash);
+        for bytes in text.split(|&b| is_space(b)) {
+            if !bytes.is_empty() {
+                listed.insert(Name { bytes })?;
             }
         }
         Ok(Names {
@@ -85,17 +96,33 @@ impl<'a> Names<'a> {
     }
 
     // The names, where not every name is asked for.
-    pub(crate) fn listed(&self) -> &[&'a [u8]] {
+    pub(crate) fn listed(&self) -> &[Name<'a>] {
         match &self.listed {
             Some(listed) => listed.as_slice(),
             None => &[],
         }
     }
 
-    // A name is asked for.
-    pub(crate) fn has(&self, name: &[u8]) -> bool {
-        self.listed
-            .as_ref()
-            .is_none_or(|listed| listed.contains(name))
+    // What is asked for of a font's glyphs: each name is looked up once.
+    pub(crate) fn of_glyphs(
+        &self,
+        alloc: Global,
+        glyphs: &Glyphs,
+    ) -> Result<Asked<'a>, AllocError> {
+        let mut asked = Asked {
+            glyphs: vec![in alloc; self.listed.is_none(); glyphs.len()]?,
+            missing: Vec::new(alloc),
+        };
+        for name in self.listed() {
+            match glyphs.get_index_of(name) {
+                Some(i) => {
+                    if let Some(glyph) = asked.glyphs.get_mut(i) {
+                        *glyph = true;
+                    }
+                }
+                None => asked.missing.push(*name)?,
+            }
+        }
+        Ok(asked)
     }
 }

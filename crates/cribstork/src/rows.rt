@@ -2,7 +2,7 @@
 use crate::banks::Bank;
 use crate::converting::{Conversion, Setup, Sizes, Stores};
 use crate::doubles::Double;
-use crate::names::Names;
+use crate::names::{Asked, Name, Names};
 use crate::page::Page;
 use crate::source::{Code, Source};
 use crate::table::Notes;
@@ -124,25 +124,19 @@ impl Items {
 }
 
 // The cell of the needed glyphs that fail or that the font lacks.
-fn print_which(page: &mut Page, source: Source, sums: &Sums, need: &Names) {
+fn print_which(page: &mut Page, sums: &Sums, missing: &[Name]) {
     let mut items = Items::new();
     for failing in sums.failing.iter() {
         items.next(page);
         page.name(failing.name);
         write!(page, " {}", failing.why);
     }
-    print_missing(page, source, need, &mut items);
-    items.end(page);
-}
-
-fn print_missing(page: &mut Page, source: Source, need: &Names, items: &mut Items) {
-    for name in need.listed() {
-        if source.font.lacks(*name) {
-            items.next(page);
-            page.name(*name);
-            write!(page, " missing");
-        }
+    for name in missing {
+        items.next(page);
+        page.name(name.bytes);
+        write!(page, " missing");
     }
+    items.end(page);
 }
 
 // The cell of the stores that a bank is short of.
@@ -202,6 +196,7 @@ impl Rows<'_> {
         alloc: Global,
         page: &mut Page,
         source: Source,
+        needed: &Asked,
         bank: &Bank,
         stores: &mut Stores,
     ) -> Result<bool, AllocError> {
@@ -209,24 +204,14 @@ impl Rows<'_> {
         let setup = self.setup(bank, source.font.len_iv());
         let conversion = Conversion::new(alloc, source, setup, stores)?;
         let mut sums = Sums::new(alloc);
-        for (name, charstring) in source.font.charstrings.glyphs.iter() {
+        let glyphs = source.font.charstrings.glyphs.iter();
+        for ((name, charstring), wanted) in glyphs.zip(needed.glyphs.iter()) {
             let code = source.code(*charstring);
-            sums.add(
-                &conversion,
-                name.bytes,
-                code,
-                self.need.has(name.bytes),
-                stores,
-            )?;
+            sums.add(&conversion, name.bytes, code, *wanted, stores)?;
         }
-        let listed = self.need.listed();
-        let missing = listed
-            .iter()
-            .filter(|name| source.font.lacks(**name))
-            .count();
-        let fails = sums.failing.len().saturating_add(missing);
+        let fails = sums.failing.len().saturating_add(needed.missing.len());
         write!(page, "{}\t{fails}\t", if fails == 0 { "yes" } else { "no" });
-        print_which(page, source, &sums, self.need);
+        print_which(page, &sums, &needed.missing);
         print_short(page, setup.sizes, sums.needs);
         write!(
             page,
@@ -247,10 +232,11 @@ impl Rows<'_> {
         page: &mut Page,
         source: Source,
     ) -> Result<usize, AllocError> {
+        let needed = self.need.of_glyphs(alloc, &source.font.charstrings.glyphs)?;
         let mut stores = Stores::new();
         let mut yes: usize = 0;
         for bank in self.banks {
-            if self.print_row(alloc, page, source, bank, &mut stores)? {
+            if self.print_row(alloc, page, source, &needed, bank, &mut stores)? {
                 yes = yes.saturating_add(1);
             }
         }

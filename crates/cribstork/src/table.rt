@@ -2,7 +2,7 @@
 use crate::converting::{Conversion, Measured, Setup, Sizes, Stores};
 use crate::doubles::Double;
 use crate::font::Font;
-use crate::names::Names;
+use crate::names::{Name, Names};
 use crate::options::Options;
 use crate::page::Page;
 use crate::source::{Code, Source};
@@ -319,13 +319,11 @@ fn print_glyph(page: &mut Page, name: &[u8], m: Measured, windowed: bool, boxed:
 }
 
 // The names that were asked and no glyph has.
-fn print_missing(page: &mut Page, source: Source, asked: &Names) {
-    for name in asked.listed() {
-        if source.font.lacks(*name) {
-            write!(page, "no glyph named ");
-            page.name(*name);
-            write!(page, "\n");
-        }
+fn print_missing(page: &mut Page, missing: &[Name]) {
+    for name in missing {
+        write!(page, "no glyph named ");
+        page.name(name.bytes);
+        write!(page, "\n");
     }
 }
 
@@ -374,7 +372,7 @@ pub(crate) fn print(
     source: Source,
     setup: Setup,
     o: &Options,
-    asked: &Names,
+    names: &Names,
 ) -> Result<bool, AllocError> {
     let mut stores = Stores::new();
     let table = Table {
@@ -386,18 +384,13 @@ pub(crate) fn print(
         print_font(page, source, setup.window.is_some());
     }
     let mut totals = Totals::new(alloc);
-    for (name, charstring) in source.font.charstrings.glyphs.iter() {
+    let glyphs = &source.font.charstrings.glyphs;
+    let asked = names.of_glyphs(alloc, glyphs)?;
+    for ((name, charstring), shown) in glyphs.iter().zip(asked.glyphs.iter()) {
         let code = source.code(*charstring);
-        table.do_glyph(
-            page,
-            name.bytes,
-            code,
-            asked.has(name.bytes),
-            &mut stores,
-            &mut totals,
-        )?;
+        table.do_glyph(page, name.bytes, code, *shown, &mut stores, &mut totals)?;
     }
-    print_missing(page, source, asked);
+    print_missing(page, &asked.missing);
     let widths = table.conversion.widths;
     if o.table {
         totals.print(page, widths);
