@@ -48,14 +48,14 @@
  * input (bench/stack.sh has both).
  *
  *   function                    measured   bound
- *   cribstork_convert             23,336  23,336
+ *   cribstork_convert             23,368  23,368
  *   cribstork_finish                 152     152
- *   cribstork_convert_finished    23,416  23,416
+ *   cribstork_convert_finished    23,448  23,448
  *   cribstork_box                    360     360
  *   cribstork_choose_widths        2,424   2,464
  *   cribstork_decrypt                 72      72
  *
- * Reserve 24 KiB for a call, which is 1,160 bytes over the largest. What interrupts take comes on top, and a handler on
+ * Reserve 24 KiB for a call, which is 1,128 bytes over the largest. What interrupts take comes on top, and a handler on
  * the same stack leaves the 128 bytes below the stack pointer as they are (the red zone; 120 of them are used). No
  * function tests how much stack is left: that it returns is proved of a machine that has enough.
  *
